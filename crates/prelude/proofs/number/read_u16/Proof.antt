@@ -1,0 +1,42 @@
+use Rattle.prelude.specs.BigEndianLaws.{two-bytes}
+use native.Mathlib.Omega.{arith}
+use borrow.Author.Needs.{needs}
+use Rattle.prelude.proofs.number.read_u16.Statement.{statement}
+use Rattle.prelude.proofs.number.read_u16.Tie as tie
+
+byte-at-requires : tie.Need-byte-at-requires
+byte-at-requires c κs = search needs
+
+cast-high : tie.Need-cast-high
+cast-high c = search needs
+
+add-byte-at : tie.Need-add-byte-at
+add-byte-at c = search needs
+
+byte-at-requires-2 : tie.Need-byte-at-requires-2
+byte-at-requires-2 c κs = search needs
+
+cast-low : tie.Need-cast-low
+cast-low c = search needs
+
+mul-result : tie.Need-mul-result
+mul-result c = search needs
+
+add-result : tie.Need-add-result
+add-result c = search needs
+
+returns : tie.Need-returns
+returns c = omega (arith, two-bytes (c .before .before .before .args .at) (c .before .before .before .args .s .now))
+
+pub read-u16-spec : {M : Type 1} → statement M
+read-u16-spec =
+    tie.close
+    (tie.spec
+    byte-at-requires
+    cast-high
+    add-byte-at
+    byte-at-requires-2
+    cast-low
+    mul-result
+    add-result
+    returns)

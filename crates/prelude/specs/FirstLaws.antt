@@ -1,0 +1,103 @@
+-- Laws of the first case that holds, for every list of cases.
+use mathlib.Core.Path.{_≡_, refl, sym, _∙_}
+use mathlib.Core.Bool.{true, false}
+use mathlib.Core.Logic.{_⊎_, inl, inr, ⊎-elim, _↔_}
+use mathlib.Core.List.{List, [], _∷_, _++_}
+use Prim.Native.Nat.{ℕ, _≤_, _<_}
+use native.Mathlib.Omega.{arith}
+use Rattle.prelude.specs.SaysLaws.{says-split, says-test}
+use Rattle.prelude.specs.First.{Case, firstOf, NoneHolds, FirstHolds, Among, NonZero, Rising}
+
+-- ---- one case, for a function that tests one after the other
+
+pub first-none : firstOf [] ≡ 0
+unfolding firstOf
+first-none = refl
+
+pub first-hit : (c : Case) (cs : List Case) → c .holds ≡ true → firstOf (c ∷ cs) ≡ c .number
+unfolding firstOf
+first-hit c cs e = rw e
+
+pub first-miss : (c : Case) (cs : List Case) → c .holds ≡ false → firstOf (c ∷ cs) ≡ firstOf cs
+unfolding firstOf
+first-miss c cs e = rw e
+
+-- a case that holds or not, with its value
+holds-or-not : (c : Case) → (c .holds ≡ true) ⊎ (c .holds ≡ false)
+holds-or-not c = ⊎-elim (λ q. inl (q .0)) (λ q. inr (q .0)) (says-split (says-test (c .holds)))
+
+-- two lists that begin alike: the rest is compared only where the first condition does not hold
+pub first-rest : (c : Case) (cs ds : List Case) → (c .holds ≡ false → firstOf cs ≡ firstOf ds) → firstOf (c ∷ cs) ≡ firstOf (c ∷ ds)
+first-rest c cs ds h = ⊎-elim (λ e. first-hit c cs e ∙ sym (first-hit c ds e)) (λ e. first-miss c cs e ∙ h e ∙ sym (first-miss c ds e)) (holds-or-not c)
+
+-- ---- what the answer is
+
+-- the first that holds is the answer
+pub first-is : {n : ℕ} {cs : List Case} → FirstHolds n cs → firstOf cs ≡ n
+first-is (FirstHolds.here {c} {cs} e q) = first-hit c cs e ∙ q
+first-is (FirstHolds.there {c} {cs} e h) = first-miss c cs e ∙ first-is h
+
+pub none-zero : (cs : List Case) → NoneHolds cs → firstOf cs ≡ 0
+none-zero [] h = first-none
+none-zero (c ∷ cs) h = first-miss c cs (h .0) ∙ none-zero cs (h .1)
+
+-- some condition holds first, or none does
+pub first-or-none : (cs : List Case) → FirstHolds (firstOf cs) cs ⊎ NoneHolds cs
+first-or-none [] = inr tt
+first-or-none (c ∷ cs) = go (first-or-none cs) (holds-or-not c)
+  where
+    go : FirstHolds (firstOf cs) cs ⊎ NoneHolds cs → (c .holds ≡ true) ⊎ (c .holds ≡ false) → FirstHolds (firstOf (c ∷ cs)) (c ∷ cs) ⊎ NoneHolds (c ∷ cs)
+    go d (inl e) = inl (FirstHolds.here e (sym (first-hit c cs e)))
+    go (inl h) (inr e) = inl (rw (first-miss c cs e) (FirstHolds.there e h))
+    go (inr h) (inr e) = inr (e, h)
+
+first-above : {n : ℕ} (cs : List Case) → NonZero cs → FirstHolds n cs → 0 < n
+first-above (c ∷ cs) z (FirstHolds.here e q) = omega (arith, z .0)
+first-above (c ∷ cs) z (FirstHolds.there e h) = first-above cs (z .1) h
+
+-- 0 is the answer exactly where no condition holds
+pub zero-iff-none : (cs : List Case) → NonZero cs → (firstOf cs ≡ 0) ↔ NoneHolds cs
+zero-iff-none cs z = (λ e. ⊎-elim (λ h. absurd (omega (arith, first-above cs z h))) (λ h. h) (first-or-none cs), none-zero cs)
+
+-- any other answer is of the first condition that holds
+pub other-first : (cs : List Case) → ¬ (firstOf cs ≡ 0) → FirstHolds (firstOf cs) cs
+other-first cs d = ⊎-elim (λ h. h) (λ h. absurd (d (none-zero cs h))) (first-or-none cs)
+
+pub first-among : {n : ℕ} {cs : List Case} → FirstHolds n cs → Among n cs
+first-among (FirstHolds.here e q) = Among.here e q
+first-among (FirstHolds.there e h) = Among.there (first-among h)
+
+-- ---- where the numbers rise, the first is the smallest
+
+among-above : {n : ℕ} (m : ℕ) (cs : List Case) → Rising m cs → Among n cs → m < n
+among-above m (c ∷ cs) r (Among.here e q) = omega (arith, r .0)
+among-above m (c ∷ cs) r (Among.there a) = omega (arith, r .0, among-above (c .number) cs (r .1) a)
+
+pub rising-nonzero : (m : ℕ) (cs : List Case) → Rising m cs → NonZero cs
+rising-nonzero m [] r = tt
+rising-nonzero m (c ∷ cs) r = (omega (arith, r .0), rising-nonzero (c .number) cs (r .1))
+
+pub first-least : (m n : ℕ) (cs : List Case) → Rising m cs → Among n cs → firstOf cs ≤ n
+first-least m n (c ∷ cs) r (Among.here e q) = omega (arith, first-hit c cs e)
+first-least m n (c ∷ cs) r (Among.there a) = go (first-least (c .number) n cs (r .1) a) (holds-or-not c)
+  where
+    go : firstOf cs ≤ n → (c .holds ≡ true) ⊎ (c .holds ≡ false) → firstOf (c ∷ cs) ≤ n
+    go ih (inl e) = omega (arith, first-hit c cs e, among-above (c .number) cs (r .1) a)
+    go ih (inr e) = omega (arith, first-miss c cs e)
+
+-- ---- two lists one after the other: a group of cases that a function of its own judges
+
+pub append-miss : (p q : List Case) → NoneHolds p → firstOf (p ++ q) ≡ firstOf q
+append-miss [] q h = refl
+append-miss (c ∷ p) q h = first-miss c (p ++ q) (h .0) ∙ append-miss p q (h .1)
+
+append-hit : {n : ℕ} (p q : List Case) → FirstHolds n p → FirstHolds n (p ++ q)
+append-hit (c ∷ p) q (FirstHolds.here e r) = FirstHolds.here e r
+append-hit (c ∷ p) q (FirstHolds.there e h) = FirstHolds.there e (append-hit p q h)
+
+-- the first group gives a number: that is the answer. It gives 0: the second group's is
+pub append-first : (p q : List Case) → ¬ (firstOf p ≡ 0) → firstOf (p ++ q) ≡ firstOf p
+append-first p q d = first-is (append-hit p q (other-first p d))
+
+pub append-second : (p q : List Case) → NonZero p → firstOf p ≡ 0 → firstOf (p ++ q) ≡ firstOf q
+append-second p q z e = append-miss p q (zero-iff-none p z .0 e)

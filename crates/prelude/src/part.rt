@@ -1,0 +1,35 @@
+// Parts of a byte string: a row of a store, a copy with zero padding, a part filled with zeros.
+ghost use mathlib.Core.Path.{_≡_};
+ghost use Prim.Native.Nat.{_+_, _*_, _≤_};
+ghost use lib.ListN.{length};
+ghost use Rattle.prelude.specs.Part.{rowAt, zeros, padded};
+
+// Row k of a table whose rows are width bytes wide, the first at base: a part of the store, no copy.
+pub fn row_of(s: &[u8], base: usize, width: usize, k: usize) -> &[u8]
+    requires { ⌜ base + width * k + width ≤ length (now s) ⌝ }
+    ensures { λ r. ⌜ now r ≡ rowAt base width (now (s .entry)) k ⌝ }
+{
+    let a = base + width * k;
+    let e = a + width;
+    &s[a..e]
+}
+
+// d becomes s, zero padded to its own length.
+pub fn copy_padded(d: &mut [u8], s: &[u8])
+    requires { ⌜ length (now s) ≤ length (now d) ⌝ }
+    ensures { λ _. ⌜ now (d .exit) ≡ padded (length (now (d .entry))) (now (s .entry)) ⌝ }
+{
+    let n = bytes::copy(s, d);
+    clear(&mut d[n..]);
+}
+
+// Every byte of d becomes zero.
+pub fn clear(d: &mut [u8])
+    ensures { λ _. ⌜ now (d .exit) ≡ zeros (length (now (d .entry))) ⌝ }
+{
+    let mut i = 0;
+    while i < d.len() {
+        d[i] = 0;
+        i += 1;
+    }
+}
