@@ -1,7 +1,10 @@
--- A part of a byte string, a row of a table, a part replaced, zeros and zero padding.
+-- A part of a byte string, a row of a table, a part replaced, zeros and zero padding, and the test of two byte strings.
+use mathlib.Core.Bool.{Bool, _&&_}
 use mathlib.Core.List.{List, _++_}
 use Prim.Native.Nat.{ℕ, _+_, _-_, _*_}
-use lib.ListN.{length, take, drop, replicate}
+use lib.Dec.{eqb}
+use lib.ListN.{length, getD, take, drop, replicate}
+use Rattle.prelude.specs.Below.{allBelow}
 
 -- the n bytes from at
 unfoldable pub part : ℕ → ℕ → List ℕ → List ℕ
@@ -22,3 +25,7 @@ zeros n = replicate n 0
 -- s, zero padded to n bytes
 unfoldable pub padded : ℕ → List ℕ → List ℕ
 padded n s = s ++ zeros (n - length s)
+
+-- a and b are the same bytes
+unfoldable pub sameBytes : List ℕ → List ℕ → Bool
+sameBytes a b = eqb (length a) (length b) && allBelow (length a) (λ i. eqb (getD a i 0) (getD b i 0))

@@ -7,8 +7,11 @@ use native.Mathlib.Numerals.{add-one}
 use native.Mathlib.Nat.{mul-le-mul-left}
 use native.Mathlib.Decide.{decLt}
 use lib.ListN.{length, take, drop, getD, length-append, length-take, length-drop, length-replicate, List·getD-eq-default, List·getD-append}
-use lib.Seq.{drop-at, drop-drop, take-take, take-append-seam, take-add, take-all, getD-take, getD-drop, drop-cons, take-suc, getD-append-add}
-use Rattle.prelude.specs.Part.{part, zeros, padded}
+use lib.Seq.{drop-at, drop-drop, take-take, take-append-seam, take-add, take-all, getD-take, getD-drop, drop-cons, take-suc, getD-append-add, ext-getD}
+use Rattle.prelude.specs.Says.{Says}
+use Rattle.prelude.specs.SaysLaws.{says-iff, says-and, says-eq}
+use Rattle.prelude.specs.BelowLaws.{says-all}
+use Rattle.prelude.specs.Part.{part, zeros, padded, sameBytes}
 
 -- ---- a part
 
@@ -130,3 +133,12 @@ padded-full n s e = let z : n - length s ≡ 0 = omega arith in rw (z, append-ni
 pub padded-nil : (n : ℕ) → padded n [] ≡ zeros n
 unfolding padded
 padded-nil n = let z : n - 0 ≡ n = omega arith in rw z
+
+-- ---- two byte strings
+
+-- the test says that they are equal
+pub says-same-bytes : (a b : List ℕ) → Says (sameBytes a b) (a ≡ b)
+unfolding sameBytes
+says-same-bytes a b =
+    says-iff (says-and (says-eq (length a) (length b)) (says-all (length a) (λ i l. says-eq (getD a i 0) (getD b i 0))))
+    (λ h. ext-getD 0 a b (h .0) (h .1), λ e. (ap length e, λ i l. ap (λ (x : List ℕ). getD x i 0) e))

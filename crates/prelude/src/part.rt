@@ -1,8 +1,8 @@
-// Parts of a byte string: a row of a store, a copy with zero padding, a part filled with zeros.
+// Parts of a byte string: a row of a store, a copy with zero padding, a part filled with zeros, a comparison.
 ghost use mathlib.Core.Path.{_≡_};
 ghost use Prim.Native.Nat.{_+_, _*_, _≤_};
 ghost use lib.ListN.{length};
-ghost use Rattle.prelude.specs.Part.{rowAt, zeros, padded};
+ghost use Rattle.prelude.specs.Part.{rowAt, zeros, padded, sameBytes};
 
 // Row k of a table whose rows are width bytes wide, the first at base: a part of the store, no copy.
 pub fn row_of(s: &[u8], base: usize, width: usize, k: usize) -> &[u8]
@@ -32,4 +32,21 @@ pub fn clear(d: &mut [u8])
         d[i] = 0;
         i += 1;
     }
+}
+
+// Whether a and b are the same bytes.
+pub fn same(a: &[u8], b: &[u8]) -> bool
+    ensures { λ r. ⌜ r ≡ sameBytes (now (a .entry)) (now (b .entry)) ⌝ }
+{
+    if a.len() != b.len() {
+        return false;
+    }
+    let mut i = 0;
+    while i < a.len() {
+        if a[i] != b[i] {
+            return false;
+        }
+        i += 1;
+    }
+    true
 }

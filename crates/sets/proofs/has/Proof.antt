@@ -1,0 +1,28 @@
+use mathlib.Core.Path.{sym, ap}
+use Prim.Native.Nat.{ℕ}
+use lib.Dec.{eqb}
+use Rattle.sets.specs.Sets.{digit, bit, member}
+use Rattle.sets.specs.SetsLaws.{bit-past}
+use borrow.Author.Needs.{needs}
+use Rattle.sets.proofs.has.Statement.{statement}
+use Rattle.sets.proofs.has.Tie as tie
+
+shared-slice-read-result : tie.Need-shared-slice-read-result
+shared-slice-read-result c = search needs
+
+cast-result : tie.Need-cast-result
+cast-result c = search needs
+
+shr-result : tie.Need-shr-result
+shr-result c = search needs
+
+returns : tie.Need-returns
+unfolding member bit digit
+returns c = search needs
+
+returns-2 : tie.Need-returns-2
+unfolding member
+returns-2 c = sym (ap (λ (x : ℕ). eqb x 1) (bit-past (c .before .args .s .now) (c .before .args .n) (c .if1 .left)))
+
+pub has-spec : {M : Type 1} → statement M
+has-spec = tie.close (tie.spec shared-slice-read-result cast-result shr-result returns returns-2)

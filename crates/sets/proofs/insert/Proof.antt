@@ -1,0 +1,25 @@
+use Rattle.sets.proofs.Bytes.{inserted}
+use borrow.Author.Needs.{needs}
+use Rattle.sets.proofs.insert.Statement.{statement}
+use Rattle.sets.proofs.insert.Tie as tie
+
+slice-read-s : tie.Need-slice-read-s
+slice-read-s c = search needs
+
+cast-s : tie.Need-cast-s
+cast-s c = search needs
+
+shl-s : tie.Need-shl-s
+shl-s c = search needs
+
+slice-write-s : tie.Need-slice-write-s
+slice-write-s c = search needs
+
+same-length : tie.Need-same-length
+same-length c = search needs
+
+returns : tie.Need-returns
+returns c = inserted (c .before .args .s .now) (c .before .args .n) (λ j. c .slice-known .given j .fits) ((c .before) .pre)
+
+pub insert-spec : {M : Type 1} → statement M
+insert-spec = tie.close (tie.spec slice-read-s cast-s shl-s slice-write-s same-length returns)

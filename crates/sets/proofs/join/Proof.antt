@@ -1,0 +1,69 @@
+use mathlib.Core.Path.{_≡_, ap, _∙_}
+use Prim.Native.Nat.{ℕ, _<_, _-_}
+use lib.Bits.{bitOr}
+use lib.ListN.{length, getD}
+use Rattle.prelude.proofs.Fill.{Filled, fill-none, fill-more, fill-later, fill-all}
+use Rattle.sets.specs.Sets.{union}
+use Rattle.sets.specs.SetsLaws.{union-length}
+use Rattle.sets.proofs.Bytes.{union-byte}
+use native.Mathlib.Omega.{arith}
+use borrow.Author.Needs.{needs}
+use Rattle.sets.proofs.join.Statement.{statement}
+use Rattle.sets.proofs.join.Tie as tie
+
+abbrev Inv-loop : tie.InvT-loop
+Inv-loop a₀ b i₀ a i = Filled (union a₀ b) a₀ i a
+
+abbrev μ-loop : tie.MeasureT-loop
+μ-loop a₀ b i₀ a i = length b - i
+
+loop-holds : tie.Need-loop-holds Inv-loop μ-loop
+loop-holds c = fill-none _ _
+
+slice-read-a : tie.Need-slice-read-a Inv-loop μ-loop
+slice-read-a c = search needs
+
+shared-slice-read-a : tie.Need-shared-slice-read-a Inv-loop μ-loop
+shared-slice-read-a c = search needs
+
+slice-write-a : tie.Need-slice-write-a Inv-loop μ-loop
+slice-write-a c = search needs
+
+add-i : tie.Need-add-i Inv-loop μ-loop
+add-i c = search needs
+
+loop-less : tie.Need-loop-less Inv-loop μ-loop
+loop-less c = search needs
+
+loop-again : tie.Need-loop-again Inv-loop μ-loop
+loop-again c =
+    let l = c .before .before .before .loop in
+    let a = c .before .before .before .before .args .a .now in
+    let b = c .before .before .before .before .args .b .now in
+    let n : length (union a b) ≡ length a = union-length a b in
+    let h : l .i < length a = omega arith in
+    let later : getD (l .a) (l .i) 0 ≡ getD a (l .i) 0 = fill-later (union a b) a (l .i) (l .i) (l .a) n (omega arith) (l .inv) in
+    let small : getD a (l .i) 0 < 256 = rw later at (c .before .slice-known .given (l .i) .fits) in
+    fill-more _ _ (l .i) _ _ n h (ap (λ (x : ℕ). bitOr x (getD b (l .i) 0)) later ∙ union-byte a b (l .i) h small (c .shared-slice-known .given (l .i) .fits)) (l .inv)
+
+same-length : tie.Need-same-length Inv-loop μ-loop
+same-length c = search needs
+
+returns : tie.Need-returns Inv-loop μ-loop
+returns c = fill-all _ _ _ _ (union-length (c .before .before .args .a .now) (c .before .before .args .b .now)) (search needs) (c .before .loop .inv)
+
+pub join-spec : {M : Type 1} → statement M
+join-spec =
+    tie.close
+    (tie.spec
+    Inv-loop
+    μ-loop
+    loop-holds
+    slice-read-a
+    shared-slice-read-a
+    slice-write-a
+    add-i
+    loop-less
+    loop-again
+    same-length
+    returns)

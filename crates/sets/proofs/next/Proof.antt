@@ -1,0 +1,56 @@
+use mathlib.Core.Path.{_≡_, sym, _∙_}
+use mathlib.Core.Bool.{false}
+use Prim.Native.Nat.{ℕ, _≤_, _<_, _-_}
+use borrow.Author.Count.{below-more}
+use Rattle.prelude.specs.BelowLaws.{any-false, first-found, first-absent}
+use Rattle.sets.specs.Sets.{member, from}
+use Rattle.sets.specs.ListLaws.{from-before, from-past}
+use native.Mathlib.Omega.{arith}
+use borrow.Author.Needs.{needs}
+use Rattle.sets.proofs.next.Statement.{statement}
+use Rattle.sets.proofs.next.Tie as tie
+
+abbrev Inv-loop : tie.InvT-loop
+Inv-loop s start end n₀ n = (start ≤ n) × ((k : ℕ) → k < n → from start (member s) k ≡ false)
+
+abbrev μ-loop : tie.MeasureT-loop
+μ-loop s start end n₀ n = end - n
+
+mul-end : tie.Need-mul-end Inv-loop μ-loop
+mul-end c = search needs
+
+loop-holds : tie.Need-loop-holds Inv-loop μ-loop
+loop-holds c = (search needs, from-before _ _)
+
+has-requires : tie.Need-has-requires Inv-loop μ-loop
+has-requires c κs = search needs
+
+returns : tie.Need-returns Inv-loop μ-loop
+returns c = let p = member (c .before .before .before .before .before .args .s .now) in sym (first-found (from _ p) _ _ (search needs) (any-false (from _ p) _ (c .before .before .before .loop .inv .1)) (from-past _ p _ (c .before .before .before .loop .inv .0) ∙ sym (c .before .has .ensures) ∙ c .if1 .taken))
+
+add-n : tie.Need-add-n Inv-loop μ-loop
+add-n c = search needs
+
+loop-less : tie.Need-loop-less Inv-loop μ-loop
+loop-less c = search needs
+
+loop-again : tie.Need-loop-again Inv-loop μ-loop
+loop-again c = (search needs, below-more _ _ (c .before .before .before .loop .inv .1) (from-past _ (member (c .before .before .before .before .before .args .s .now)) _ (c .before .before .before .loop .inv .0) ∙ sym (c .before .has .ensures) ∙ c .if1 .left))
+
+returns-2 : tie.Need-returns-2 Inv-loop μ-loop
+returns-2 c = sym (first-absent _ _ (any-false _ _ (λ k l. c .before .loop .inv .1 k (omega arith))))
+
+pub next-spec : {M : Type 1} → statement M
+next-spec =
+    tie.close
+    (tie.spec
+    Inv-loop
+    μ-loop
+    mul-end
+    loop-holds
+    has-requires
+    returns
+    add-n
+    loop-less
+    loop-again
+    returns-2)

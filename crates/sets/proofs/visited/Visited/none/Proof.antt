@@ -1,0 +1,11 @@
+use mathlib.Core.Path.{refl}
+use Rattle.prelude.specs.Part.{zeros}
+use Rattle.sets.proofs.visited.Visited.none.Statement.{statement}
+use Rattle.sets.proofs.visited.Visited.none.Tie as tie
+
+returns : tie.Need-returns
+unfolding zeros
+returns c = refl
+
+pub none-spec : {M : Type 1} → statement M
+none-spec = tie.close (tie.spec returns)

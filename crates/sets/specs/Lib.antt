@@ -1,0 +1,5 @@
+-- Sets of small numbers as bit strings: the definitions, and their laws, each for any size.
+pub mod Sets
+pub mod SetsLaws
+pub mod CountLaws
+pub mod ListLaws
