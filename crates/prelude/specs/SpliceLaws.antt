@@ -153,8 +153,11 @@ pub set-splice : (at v : ℕ) (s : List ℕ) → at < length s → set s at v �
 unfolding splice
 set-splice at v s h = rw (set-split s at v h, add-one at)
 
--- so are two bytes stored one after the other
+-- a byte stored, and then bytes after it
+pub set-then-splice : (at v : ℕ) (new s : List ℕ) → at + 1 + length new ≤ length s → splice (at + 1) new (set s at v) ≡ splice at (v ∷ new) s
+set-then-splice at v new s h =
+    ap (splice (at + 1) new) (set-splice at v s (omega arith)) ∙ splice-append at (v ∷ []) s (omega arith) new
+
+-- two bytes stored one after the other
 pub set-splice-two : (at v w : ℕ) (s : List ℕ) → at + 2 ≤ length s → set (set s at v) (at + 1) w ≡ splice at (v ∷ w ∷ []) s
-set-splice-two at v w s h =
-    set-splice (at + 1) w (set s at v) (simp length-set (omega arith)) ∙ ap (splice (at + 1) (w ∷ [])) (set-splice at v s (omega arith))
-    ∙ splice-append at (v ∷ []) s (omega arith) (w ∷ [])
+set-splice-two at v w s h = set-splice (at + 1) w (set s at v) (simp length-set (omega arith)) ∙ set-then-splice at v (w ∷ []) s (omega arith)

@@ -1,0 +1,26 @@
+use mathlib.Core.Path.{_∙_}
+use lib.ListN.{length-set}
+use Rattle.wire.specs.WireLaws.{header-written}
+use native.Mathlib.Omega.{arith}
+use borrow.Author.Needs.{needs}
+use Rattle.wire.proofs.write_header.Statement.{statement}
+use Rattle.wire.proofs.write_header.Tie as tie
+
+slice-write-d : tie.Need-slice-write-d
+slice-write-d c = search needs
+
+add-write-u16 : tie.Need-add-write-u16
+add-write-u16 c = search needs
+
+write-u16-requires : tie.Need-write-u16-requires
+write-u16-requires c κs = simp length-set (omega arith)
+
+same-length : tie.Need-same-length
+same-length c = c .before .before .write-u16 .kept .0 ∙ length-set (c .before .before .before .before .before .args .d .now) _ _
+
+returns : tie.Need-returns
+returns c = header-written _ _ _ _ _ ((c .before .before .before .before .before) .pre) (c .before .before .write-u16 .ensures)
+
+pub write-header-spec : {M : Type 1} → statement M
+write-header-spec =
+    tie.close (tie.spec slice-write-d add-write-u16 write-u16-requires same-length returns)
