@@ -1,17 +1,24 @@
-// Parts of a byte string: a row of a store, a copy with zero padding, a part filled with zeros, a comparison.
+// Parts of a byte string: a part, a row of a store, a copy with zero padding, a part filled with zeros, a comparison.
 ghost use mathlib.Core.Path.{_≡_};
 ghost use Prim.Native.Nat.{_+_, _*_, _≤_};
 ghost use lib.ListN.{length};
-ghost use Rattle.prelude.specs.Part.{rowAt, zeros, padded, sameBytes};
+ghost use Rattle.prelude.specs.Part.{part, rowAt, zeros, padded, sameBytes};
 
-// Row k of a table whose rows are width bytes wide, the first at base: a part of the store, no copy.
+// The n bytes of s from at: a part of it, no copy.
+pub fn part_of(s: &[u8], at: usize, n: usize) -> &[u8]
+    requires { ⌜ at + n ≤ length (now s) ⌝ }
+    ensures { λ r. ⌜ now r ≡ part at n (now (s .entry)) ⌝ }
+{
+    let e = at + n;
+    &s[at..e]
+}
+
+// Row k of a table whose rows are width bytes wide, the first at base.
 pub fn row_of(s: &[u8], base: usize, width: usize, k: usize) -> &[u8]
     requires { ⌜ base + width * k + width ≤ length (now s) ⌝ }
     ensures { λ r. ⌜ now r ≡ rowAt base width (now (s .entry)) k ⌝ }
 {
-    let a = base + width * k;
-    let e = a + width;
-    &s[a..e]
+    part_of(s, base + width * k, width)
 }
 
 // d becomes s, zero padded to its own length.

@@ -10,8 +10,6 @@ use native.Mathlib.Omega.{arith}
 use borrow.Author.Needs.{needs}
 use Rattle.prelude.proofs.part.same.Statement.{statement}
 use Rattle.prelude.proofs.part.same.Tie as tie
-use Rattle.prelude.proofs.part.same.Reads as reads
-use Rattle.prelude.proofs.part.same.Lts as lts
 
 abbrev Inv-loop : tie.InvT-loop
 Inv-loop a b i₀ i = (i ≤ length a) × ((k : ℕ) → k < i → getD a k 0 ≡ getD b k 0)

@@ -1,14 +1,8 @@
 use mathlib.Core.Path.{refl}
 use Rattle.prelude.specs.PartLaws.{part-cut}
 use borrow.Author.Needs.{needs}
-use Rattle.prelude.proofs.part.row_of.Statement.{statement}
-use Rattle.prelude.proofs.part.row_of.Tie as tie
-
-mul-a : tie.Need-mul-a
-mul-a c = search needs
-
-add-a : tie.Need-add-a
-add-a c = search needs
+use Rattle.prelude.proofs.part.part_of.Statement.{statement}
+use Rattle.prelude.proofs.part.part_of.Tie as tie
 
 add-e : tie.Need-add-e
 add-e c = search needs
@@ -25,6 +19,5 @@ part-result-end c = search needs
 returns : tie.Need-returns
 returns c = part-cut _ _ _ _ refl
 
-pub row-of-spec : {M : Type 1} → statement M
-row-of-spec =
-    tie.close (tie.spec mul-a add-a add-e sub-result part-result-start part-result-end returns)
+pub part-of-spec : {M : Type 1} → statement M
+part-of-spec = tie.close (tie.spec add-e sub-result part-result-start part-result-end returns)

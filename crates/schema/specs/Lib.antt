@@ -1,0 +1,9 @@
+-- What the keeper holds: numbers, answers, the layout of the stores, rows and tables.
+pub mod Numbers
+pub mod Answers
+pub mod Layout
+pub mod Row
+pub mod AttributeRow
+pub mod ClassRow
+pub mod Store
+pub mod StoreLaws

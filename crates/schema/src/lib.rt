@@ -1,0 +1,9 @@
+// What the keeper holds: the numbers of classes and attributes, the stores and their rows byte by byte, and the answer of a call.
+// docs/LAYOUT.md shows the layout as a table.
+pub mod answer;
+pub mod attribute;
+pub mod class;
+pub mod layout;
+pub mod number;
+pub mod row;
+pub mod store;
