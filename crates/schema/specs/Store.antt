@@ -1,8 +1,8 @@
 -- The stores, the tables that they hold, and what a call comes to.
-use mathlib.Core.Bool.{Bool, _||_}
+use mathlib.Core.Bool.{Bool, cond, _||_}
 use mathlib.Core.List.{List}
-use Prim.Native.Nat.{ℕ, _≤_}
-use lib.Dec.{ltb}
+use Prim.Native.Nat.{ℕ, suc, _≤_}
+use lib.Dec.{eqb, ltb}
 use lib.ListN.{length, getD}
 use Rattle.prelude.specs.Part.{rowAt}
 use Rattle.prelude.specs.BigEndian.{bigEndian}
@@ -13,6 +13,13 @@ use Rattle.schema.specs.declared.answer.Answer.{Answer}
 pub record Table : Type 0 where
   pub count : ℕ
   pub row : ℕ → List ℕ
+
+-- t with row k replaced, and with a row added last
+unfoldable pub withRow : Table → ℕ → List ℕ → Table
+withRow t k new = record { count = t .count; row = λ j. cond (eqb j k) new (t .row j) }
+
+unfoldable pub plusRow : Table → List ℕ → Table
+plusRow t new = record { count = suc (t .count); row = λ j. cond (eqb j (t .count)) new (t .row j) }
 
 abbrev pub attributeTable : List ℕ → Table
 attributeTable s = record { count = bigEndian 2 0 s; row = rowAt rowsAt attributeWidth s }

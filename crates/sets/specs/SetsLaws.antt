@@ -14,9 +14,9 @@ use lib.Dec.{eqb}
 use Rattle.prelude.specs.Says.{Says}
 use Rattle.prelude.specs.Below.{Some}
 use Rattle.prelude.specs.BelowLaws.{says-any, says-all}
-use Rattle.prelude.specs.SaysLaws.{says-iff, says-or, says-not, says-eq, says-true, says-false}
-use Rattle.prelude.specs.Part.{zeros, part}
-use Rattle.prelude.specs.PartLaws.{zeros-at, part-at}
+use Rattle.prelude.specs.SaysLaws.{says-iff, says-or, says-not, says-eq, says-true, says-false, says-same, says-test, says-split}
+use Rattle.prelude.specs.Part.{zeros, part, sameBytes}
+use Rattle.prelude.specs.PartLaws.{zeros-at, part-at, says-same-bytes}
 use Rattle.sets.specs.Sets.{flag, digit, bit, member, digitsOf, setOf, withMember, withoutMember, union, subset, isEmpty}
 
 -- ---- digits
@@ -295,3 +295,38 @@ says-empty s = says-iff (says-not (says-any (length s * 8) {P = λ k. bit s k �
     none n k d (inl z) = z
     none n k (yes l) (inr o) = absurd (n (record { at = k; below = l; is = o }))
     none n k (no g) (inr o) = bit-past s k (omega arith)
+
+-- ---- sets where tests hold, compared
+
+flag-true : (b : Bool) → flag b ≡ 1 → b ≡ true
+flag-true true e = refl
+flag-true false e = absurd (omega arith)
+
+member-of-set : (n : ℕ) (f : ℕ → Bool) (k : ℕ) → k < n * 8 → member (setOf n f) k ≡ f k
+member-of-set n f k l = says-same (says-member (setOf n f) k) (says-iff (says-test (f k)) (λ e. bit-set n f k l ∙ ap flag e, λ e. flag-true (f k) (sym (bit-set n f k l) ∙ e)))
+
+-- the test's own value at a member; past the bytes there is none
+pub member-set : (n : ℕ) (f : ℕ → Bool) (k : ℕ) → (n * 8 ≤ k → f k ≡ false) → member (setOf n f) k ≡ f k
+member-set n f k h = go (decLt k (n * 8))
+  where
+    go : Dec (k < n * 8) → member (setOf n f) k ≡ f k
+    go (yes l) = member-of-set n f k l
+    go (no g) = says-false (says-member (setOf n f) k) (λ o. omega (arith, bit-set-past n f k (omega arith))) ∙ sym (h (omega arith))
+
+-- the same bytes: the tests agree
+pub says-same-sets : (n : ℕ) (f g : ℕ → Bool) → Says (sameBytes (setOf n f) (setOf n g)) ((k : ℕ) → k < n * 8 → f k ≡ g k)
+says-same-sets n f g =
+    says-iff (says-same-bytes (setOf n f) (setOf n g))
+    (λ e k l. sym (member-of-set n f k l) ∙ ap (λ (s : List ℕ). member s k) e ∙ member-of-set n g k l, set-cong n f g)
+
+-- inclusion: one test implies the other
+pub says-subset-sets : (n : ℕ) (f g : ℕ → Bool) → Says (subset (setOf n f) (setOf n g)) ((k : ℕ) → k < n * 8 → f k ≡ true → g k ≡ true)
+says-subset-sets n f g = says-iff (says-subset (setOf n f) (setOf n g)) (λ h k l e. to k l e (h k), λ h k. from k (h k) (decLt k (n * 8)) (says-split (says-test (f k))))
+  where
+    to : (k : ℕ) → k < n * 8 → f k ≡ true → bit (setOf n f) k ≤ bit (setOf n g) k → g k ≡ true
+    to k l e b = flag-true (g k) (omega (arith, b, bit-set n f k l ∙ ap flag e, bit-set n g k l, flag-lt (g k)))
+
+    from : (k : ℕ) → (k < n * 8 → f k ≡ true → g k ≡ true) → Dec (k < n * 8) → ((f k ≡ true) × (f k ≡ true)) ⊎ ((f k ≡ false) × ¬ (f k ≡ true)) → bit (setOf n f) k ≤ bit (setOf n g) k
+    from k h (yes l) (inl q) = omega (arith, bit-set n g k l ∙ ap flag (h l (q .0)), bit-lt (setOf n f) k)
+    from k h (yes l) (inr q) = omega (arith, bit-set n f k l ∙ ap flag (q .0))
+    from k h (no b) d = omega (arith, bit-set-past n f k (omega arith))
