@@ -1,18 +1,17 @@
 -- How the tests of the class graph change with one change: what a quick change works out from the sets before it equals what is worked out afresh.
 -- Here e and f are the tests of naming, and o and p of the own lists, before and after.
-use mathlib.Core.Path.{_≡_, refl, sym, ap, _∙_}
-use mathlib.Core.Logic.{_⊎_, inl, inr, ⊎-elim, ⊎-map, _↔_, Iff·symm}
+use mathlib.Core.Path.{_≡_, sym, _∙_}
+use mathlib.Core.Logic.{_⊎_, inl, inr, ⊎-map, _↔_}
 use mathlib.Core.Bool.{Bool, true, false, not, _&&_, _||_}
 use Prim.Native.Nat.{ℕ, suc, _<_}
 use native.Mathlib.Omega.{arith}
 use lib.Dec.{eqb}
-use Rattle.prelude.specs.Says.{Says}
-use Rattle.prelude.specs.SaysLaws.{says, says-and, says-or, says-not, says-eq, says-iff, says-same, says-test, says-split, says-fails, says-true}
+use Rattle.prelude.specs.SaysLaws.{says-and, says-or, says-eq, says-iff, says-same, says-test, says-fails}
 use Rattle.prelude.specs.Below.{anyBelow, Some}
 use Rattle.prelude.specs.BelowLaws.{says-any, last-or-less}
-use Rattle.graph.specs.Walk.{Rel, Reach, here, step, Brings, Grown, Extended}
-use Rattle.graph.specs.WalkLaws.{widen, join, reach-grown, reach-apart, reach-target, grown-keep, reach-old, reach-new, old-below}
-use Rattle.graph.specs.BringsLaws.{brings-grown, brings-apart, brings-keep, brings-old, brings-new, brings-listed, brings-join}
+use Rattle.graph.specs.Walk.{Reach, step, Grown, Extended}
+use Rattle.graph.specs.WalkLaws.{widen, reach-grown, reach-apart, reach-target, grown-keep, reach-old, reach-new}
+use Rattle.graph.specs.BringsLaws.{brings-grown, brings-apart, brings-keep, brings-old, brings-new, brings-listed}
 use Rattle.graph.specs.Graph.{Edge, Reaches, Collects, reachesBy, collectsBy}
 use Rattle.graph.specs.GraphLaws.{reach-below, says-reaches, says-collects}
 
@@ -31,9 +30,10 @@ module _ (n : ℕ) (e f : Test) (h : (x y : ℕ) → x < n → y < n → e x y �
   pub reach-unchanged : (c x : ℕ) → reachesBy n f c x ≡ reachesBy n e c x
   reach-unchanged c x =
       says-same (says-reaches n f c x)
-      (says-iff (says-reaches n e c x)
-      (λ r. record { present = r .present; walk = widen (λ x y. same-edge x y .0) (r .walk) },
-      λ r. record { present = r .present; walk = widen (λ x y. same-edge x y .1) (r .walk) }))
+      (says-iff (says-reaches n e c x) (
+        λ r. record { present = r .present; walk = widen (λ x y. same-edge x y .0) (r .walk) },
+        λ r. record { present = r .present; walk = widen (λ x y. same-edge x y .1) (r .walk) },
+      ))
 
   pub collect-unchanged : (o p : Test) → ((x b : ℕ) → x < n → o x b ≡ p x b) → (c b : ℕ) → collectsBy n f p c b ≡ collectsBy n e o c b
   collect-unchanged o p k c b = says-same (says-collects n f p c b) (says-iff (says-collects n e o c b) (to, from))
@@ -98,16 +98,18 @@ module _ (n : ℕ) (e f : Test) (t a : ℕ) (g : Grown (Edge n f) (Edge n e) t a
   pub reach-kept : (c x : ℕ) → reachesBy n e c t ≡ false → reachesBy n f c x ≡ reachesBy n e c x
   reach-kept c x z =
       says-same (says-reaches n f c x)
-      (says-iff (says-reaches n e c x)
-      (λ r. record { present = r .present; walk = reach-apart g c (apart c z (r .present)) x .0 (r .walk) },
-      λ r. record { present = r .present; walk = reach-apart g c (apart c z (r .present)) x .1 (r .walk) }))
+      (says-iff (says-reaches n e c x) (
+        λ r. record { present = r .present; walk = reach-apart g c (apart c z (r .present)) x .0 (r .walk) },
+        λ r. record { present = r .present; walk = reach-apart g c (apart c z (r .present)) x .1 (r .walk) },
+      ))
 
   pub collect-kept : (o : Test) (c b : ℕ) → reachesBy n e c t ≡ false → collectsBy n f o c b ≡ collectsBy n e o c b
   collect-kept o c b z =
       says-same (says-collects n f o c b)
-      (says-iff (says-collects n e o c b)
-      (λ d. record { present = d .present; brought = brings-apart g (λ x a. o x a ≡ true) c b (apart c z (d .present)) .0 (d .brought) },
-      λ d. record { present = d .present; brought = brings-apart g (λ x a. o x a ≡ true) c b (apart c z (d .present)) .1 (d .brought) }))
+      (says-iff (says-collects n e o c b) (
+        λ d. record { present = d .present; brought = brings-apart g (λ x a. o x a ≡ true) c b (apart c z (d .present)) .0 (d .brought) },
+        λ d. record { present = d .present; brought = brings-apart g (λ x a. o x a ≡ true) c b (apart c z (d .present)) .1 (d .brought) },
+      ))
 
 -- ---- an own entry more: p is o with k listed by t
 
@@ -160,9 +162,10 @@ module _ (n : ℕ) (e f o p : Test) (d : OneMore e f n) (same : (x b : ℕ) → 
   pub collect-before : (c b : ℕ) → c < n → collectsBy (suc n) f p c b ≡ collectsBy n e o c b
   collect-before c b h =
       says-same (says-collects (suc n) f p c b)
-      (says-iff (says-collects n e o c b)
-      (λ r. record { present = omega arith; brought = brings-old extended same-own c b h .1 (r .brought) },
-      λ r. record { present = h; brought = brings-old extended same-own c b h .0 (r .brought) }))
+      (says-iff (says-collects n e o c b) (
+        λ r. record { present = omega arith; brought = brings-old extended same-own c b h .1 (r .brought) },
+        λ r. record { present = h; brought = brings-old extended same-own c b h .0 (r .brought) },
+      ))
 
   -- the new class: itself and its own list, and the union over the classes that it names
   pub reach-of-new : (x : ℕ) → reachesBy (suc n) f n x ≡ eqb x n || anyBelow n (λ y. f n y && reachesBy n e y x)

@@ -4,15 +4,16 @@
 use mathlib.Core.Path.{_≡_}
 use mathlib.Core.Bool.{Bool, true, not, _&&_, _||_}
 use mathlib.Core.List.{List, [], _++_}
-use Prim.Native.Nat.{ℕ, zero, suc, _<_}
+use Prim.Native.Nat.{ℕ, zero, suc, _≤_, _<_}
 use lib.Dec.{eqb, ltb}
+use lib.ListN.{length}
 use Rattle.prelude.specs.Below.{anyBelow, allBelow}
 use Rattle.prelude.specs.Part.{sameBytes}
 use Rattle.sets.specs.Sets.{member, setOf}
 use Rattle.schema.specs.Numbers.{classLimit}
-use Rattle.schema.specs.Layout.{classSet, attributeSet}
+use Rattle.schema.specs.Layout.{classSet, attributeSet, classesLength}
 use Rattle.schema.specs.ClassRow.{superclassOf, mandatoryOf, fixedOptionalOf, openOptionalOf, fixedAuxiliaryOf, openAuxiliaryOf}
-use Rattle.schema.specs.Store.{Table, closureAt}
+use Rattle.schema.specs.Store.{Table, classTable, closureAt}
 use Rattle.graph.specs.Walk.{Reach, Brings, via}
 
 -- ---- n classes, of which each names others by the test e
@@ -41,6 +42,11 @@ unfoldable pub collectsBy : ℕ → (ℕ → ℕ → Bool) → (ℕ → ℕ → 
 collectsBy n e o c b = anyBelow n (λ x. reachesBy n e c x && o x b)
 
 -- ---- the class table
+
+-- a class store that can be read: it has its length, and no more rows than there are numbers
+pub record Readable (classes : List ℕ) : Type 0 where
+  pub long : classesLength ≤ length classes
+  pub few : classTable classes .count ≤ classLimit
 
 -- c has d for an auxiliary, fixed or open
 unfoldable pub auxiliary : Table → ℕ → ℕ → Bool

@@ -1,16 +1,13 @@
 -- What the tests of the class graph say.
-use mathlib.Core.Path.{_≡_, refl, sym, ap, ap₂, _∙_}
-use mathlib.Core.Bool.{Bool, true, false, _&&_, _||_}
-use mathlib.Core.Logic.{_⊎_, inl, inr, ⊎-elim, _↔_}
-use mathlib.Core.List.{List}
-use Prim.Native.Nat.{ℕ, _≤_, _<_}
-use native.Mathlib.Omega.{arith}
-use lib.Dec.{eqb, ltb}
+use mathlib.Core.Path.{_≡_}
+use mathlib.Core.Bool.{Bool, true, _&&_}
+use Prim.Native.Nat.{ℕ, _<_}
+use lib.Dec.{ltb}
 use Rattle.prelude.specs.Says.{Says}
-use Rattle.prelude.specs.SaysLaws.{says, says-iff, says-and, says-lt, says-test, says-false, says-same}
-use Rattle.prelude.specs.Below.{anyBelow, Some}
-use Rattle.prelude.specs.BelowLaws.{says-any, says-all}
-use Rattle.graph.specs.Walk.{Rel, Reach, here, step, Brings, via}
+use Rattle.prelude.specs.SaysLaws.{says, says-iff, says-and, says-lt, says-test}
+use Rattle.prelude.specs.Below.{Some}
+use Rattle.prelude.specs.BelowLaws.{says-any}
+use Rattle.graph.specs.Walk.{Reach, here, step}
 use Rattle.graph.specs.WarshallLaws.{says-via}
 use Rattle.graph.specs.Graph.{Edge, Reaches, Collects, reachesBy, collectsBy}
 

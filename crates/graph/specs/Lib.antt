@@ -6,3 +6,4 @@ pub mod WarshallLaws
 pub mod Graph
 pub mod GraphLaws
 pub mod ChangeLaws
+pub mod Visit

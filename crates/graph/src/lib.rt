@@ -1,0 +1,2 @@
+// The class graph: what a class reaches, how deep it stands, and its closure (document 01: kept sets).
+pub mod reach;

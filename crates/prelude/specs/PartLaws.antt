@@ -11,7 +11,7 @@ use lib.Seq.{drop-at, drop-drop, take-take, take-append-seam, take-add, take-all
 use Rattle.prelude.specs.Says.{Says}
 use Rattle.prelude.specs.SaysLaws.{says-iff, says-and, says-eq}
 use Rattle.prelude.specs.BelowLaws.{says-all}
-use Rattle.prelude.specs.Part.{part, zeros, padded, sameBytes}
+use Rattle.prelude.specs.Part.{part, rowAt, zeros, padded, sameBytes}
 
 -- ---- a part
 
@@ -91,6 +91,12 @@ part-between p v q at n e d = rw (drop-at p (v ++ q) at e, ← d, take-append-se
 -- a row below n lies within a store that holds n rows
 pub row-fits : (base width n k room : ℕ) → base + width * n ≤ room → k < n → base + width * k + width ≤ room
 row-fits base width n k room h l = let p : width * (k + 1) ≤ width * n = mul-le-mul-left width (omega arith) in omega arith
+
+-- and is as wide as its rows are
+pub row-wide : (base width n k : ℕ) (s r : List ℕ) → base + width * n ≤ length s → k < n → r ≡ rowAt base width s k → width ≤ length r
+row-wide base width n k s r h l e =
+    let w : length r ≡ width = ap length e ∙ part-length (base + width * k) width s (row-fits base width n k (length s) h l) in
+    omega arith
 
 -- ---- zeros
 

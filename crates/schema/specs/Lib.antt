@@ -7,3 +7,4 @@ pub mod AttributeRow
 pub mod ClassRow
 pub mod Store
 pub mod StoreLaws
+pub mod NumbersLaws

@@ -5,11 +5,13 @@ use mathlib.Core.Bool.{false}
 use mathlib.Core.List.{List}
 use native.Mathlib.Omega.{arith}
 use lib.ListN.{length}
-use Prim.Native.Nat.{ℕ, suc, _<_}
+use Prim.Native.Nat.{ℕ, suc, _≤_, _<_}
 use Rattle.prelude.specs.Says.{Says}
 use Rattle.prelude.specs.SaysLaws.{says, says-fails, says-true, says-false, says-eq}
-use Rattle.schema.specs.Layout.{attributesLength, classesLength, closureLength}
-use Rattle.schema.specs.Store.{Table, withRow, plusRow, Stores, anyShort, LongEnough}
+use Rattle.prelude.specs.PartLaws.{row-wide}
+use Rattle.schema.specs.Numbers.{attributeLimit, classLimit}
+use Rattle.schema.specs.Layout.{rowsAt, attributeWidth, classWidth, closureWidth, attributesLength, classesLength, closureLength}
+use Rattle.schema.specs.Store.{Table, attributeTable, classTable, closureAt, withRow, plusRow, Stores, anyShort, LongEnough}
 
 -- some store is shorter than its length
 pub says-short : (s : Stores)
@@ -53,3 +55,14 @@ module _ (t : Table) (new : List ℕ) where
   pub plus-other : (j : ℕ) → j < t .count → plusRow t new .row j ≡ t .row j
   unfolding plusRow
   plus-other j l = rw (says-false (says-eq j (t .count)) (λ e. omega arith))
+
+-- ---- a row that was looked up is a whole row
+
+pub attribute-wide : (s r : List ℕ) (k : ℕ) → attributesLength ≤ length s → k < attributeLimit → r ≡ attributeTable s .row k → attributeWidth ≤ length r
+attribute-wide s r k = row-wide rowsAt attributeWidth attributeLimit k s r
+
+pub class-wide : (s r : List ℕ) (k : ℕ) → classesLength ≤ length s → k < classLimit → r ≡ classTable s .row k → classWidth ≤ length r
+class-wide s r k = row-wide rowsAt classWidth classLimit k s r
+
+pub closure-wide : (s r : List ℕ) (k : ℕ) → closureLength ≤ length s → k < classLimit → r ≡ closureAt s k → closureWidth ≤ length r
+closure-wide s r k = row-wide 0 closureWidth classLimit k s r

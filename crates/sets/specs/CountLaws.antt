@@ -1,6 +1,7 @@
 -- Laws of the count of members. The language's count of ones, summed over the bytes, is the number of members of the set.
 use mathlib.Core.Path.{_≡_, refl, sym, ap, ap₂, _∙_}
-use mathlib.Core.Bool.{Bool}
+use mathlib.Core.Bool.{Bool, true, false}
+use mathlib.Core.Logic.{⊎-elim}
 use mathlib.Core.List.{List}
 use Prim.Native.Nat.{ℕ, zero, suc, _+_, _*_, _/_, _^_, _≤_, _<_}
 use native.Mathlib.Nat.{add-zero, add-suc, add-assoc}
@@ -9,6 +10,7 @@ use lib.Arith.{lt-one}
 use lib.Count.{ones, ones-step}
 use lib.Dec.{eqb}
 use lib.ListN.{getD}
+use Rattle.prelude.specs.BelowLaws.{last-or-less}
 use Rattle.sets.specs.Sets.{flag, digit, member, countBelow}
 use Rattle.sets.specs.SetsLaws.{flag-lt, flag-one, digit-zero, digit-suc, digit-bit, digit-lt, half-lt}
 
@@ -50,3 +52,23 @@ count-byte s i h =
     ap (λ (n : ℕ). countBelow n (member s)) e ∙ count-add (i * 8) 8 (member s)
     ∙ ap (λ (n : ℕ). countBelow (i * 8) (member s) + n)
     (count-cong 8 (λ k. member s (i * 8 + k)) (λ k. eqb (digit (getD s i 0) k) 1) (λ k l. ap (λ (y : ℕ). eqb y 1) (sym (digit-bit s i k l))) ∙ sym (one-digits 8 (getD s i 0) h))
+
+-- ---- fewer pass
+
+flag-mono : (a b : Bool) → (a ≡ true → b ≡ true) → flag a ≤ flag b
+flag-mono true b f = let e : flag b ≡ 1 = ap flag (f refl) in omega arith
+flag-mono false b f = omega arith
+
+pub count-mono : (n : ℕ) (p q : ℕ → Bool) → ((k : ℕ) → p k ≡ true → q k ≡ true) → countBelow n p ≤ countBelow n q
+unfolding countBelow
+count-mono zero p q h = omega arith
+count-mono (suc n) p q h = omega (arith, count-mono n p q h, flag-mono (p n) (q n) (h n))
+
+-- and one that passed no longer does
+pub count-less : (n j : ℕ) (p q : ℕ → Bool) → j < n → ((k : ℕ) → p k ≡ true → q k ≡ true) → p j ≡ false → q j ≡ true → countBelow n p < countBelow n q
+unfolding countBelow
+count-less zero j p q l h a b = absurd (omega arith)
+count-less (suc n) j p q l h a b = ⊎-elim
+    (λ m. omega (arith, count-less n j p q m h a b, flag-mono (p n) (q n) (h n)))
+    (λ e. omega (arith, count-mono n p q h, ap flag (ap p (sym e) ∙ a), ap flag (ap q (sym e) ∙ b)))
+    (last-or-less l)

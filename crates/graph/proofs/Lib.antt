@@ -1,0 +1,4 @@
+-- Laws that belong to no one function.
+pub mod Past
+pub mod Next
+pub mod Visit

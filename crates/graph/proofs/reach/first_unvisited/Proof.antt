@@ -1,0 +1,53 @@
+use mathlib.Core.Path.{_≡_, sym, _∙_}
+use mathlib.Core.Bool.{false}
+use Prim.Native.Nat.{ℕ, _≤_, _<_, _-_}
+use borrow.Author.Count.{below-more}
+use Rattle.sets.specs.Sets.{from}
+use Rattle.sets.specs.ListLaws.{from-before, from-past}
+use Rattle.graph.specs.Visit.{unvisitedIn}
+use Rattle.graph.proofs.Next.{class-found, class-none}
+use native.Mathlib.Omega.{arith}
+use borrow.Author.Needs.{needs}
+use Rattle.graph.proofs.reach.first_unvisited.Statement.{statement}
+use Rattle.graph.proofs.reach.first_unvisited.Tie as tie
+
+abbrev Inv-loop : tie.InvT-loop
+Inv-loop fixed other seen start n d₀ d = (start ≤ d) × ((k : ℕ) → k < d → from start (unvisitedIn fixed other (seen .bits)) k ≡ false)
+
+abbrev μ-loop : tie.MeasureT-loop
+μ-loop fixed other seen start n d₀ d = n - d
+
+loop-holds : tie.Need-loop-holds Inv-loop μ-loop
+loop-holds c = (search needs, from-before _ _)
+
+is-unvisited-requires : tie.Need-is-unvisited-requires Inv-loop μ-loop
+is-unvisited-requires c κs = search needs
+
+returns : tie.Need-returns Inv-loop μ-loop
+returns c = class-found _ _ _ (search needs) (c .before .before .before .loop .inv .1) (from-past _ (unvisitedIn (c .before .before .before .before .before .before .args .fixed .now) (c .before .before .before .before .before .before .args .other .now) (c .before .before .before .before .before .before .args .seen .bits)) _ (c .before .before .before .loop .inv .0) ∙ sym (c .before .is-unvisited .ensures) ∙ c .if1 .taken)
+
+add-d : tie.Need-add-d Inv-loop μ-loop
+add-d c = search needs
+
+loop-less : tie.Need-loop-less Inv-loop μ-loop
+loop-less c = search needs
+
+loop-again : tie.Need-loop-again Inv-loop μ-loop
+loop-again c = (search needs, below-more _ _ (c .before .before .before .loop .inv .1) (from-past _ (unvisitedIn (c .before .before .before .before .before .before .args .fixed .now) (c .before .before .before .before .before .before .args .other .now) (c .before .before .before .before .before .before .args .seen .bits)) _ (c .before .before .before .loop .inv .0) ∙ sym (c .before .is-unvisited .ensures) ∙ c .if1 .left))
+
+returns-2 : tie.Need-returns-2 Inv-loop μ-loop
+returns-2 c = class-none _ _ (λ k l. c .before .loop .inv .1 k (omega arith))
+
+pub first-unvisited-spec : {M : Type 1} → statement M
+first-unvisited-spec =
+    tie.close
+    (tie.spec
+    Inv-loop
+    μ-loop
+    loop-holds
+    is-unvisited-requires
+    returns
+    add-d
+    loop-less
+    loop-again
+    returns-2)

@@ -1,0 +1,50 @@
+use mathlib.Core.Path.{_≡_, refl, sym, _∙_}
+use mathlib.Core.Bool.{Bool, true, false, not, _&&_, _||_, true≢false, false≢true}
+use Rattle.sets.specs.Sets.{member}
+use Rattle.graph.specs.Visit.{unvisitedIn}
+use borrow.Author.Needs.{needs}
+use Rattle.graph.proofs.reach.is_unvisited.Statement.{statement}
+use Rattle.graph.proofs.reach.is_unvisited.Tie as tie
+
+-- the test by its parts: in one of two sets, and not visited
+unseen-false : (a b v : Bool) → v ≡ true → false ≡ (a || b) && not v
+unseen-false true b true e = refl
+unseen-false false true true e = refl
+unseen-false false false true e = refl
+unseen-false a b false e = absurd (false≢true e)
+
+listed-first : (a b v : Bool) → a ≡ true → v ≡ false → true ≡ (a || b) && not v
+listed-first true b false e f = refl
+listed-first true b true e f = absurd (true≢false f)
+listed-first false b v e f = absurd (false≢true e)
+
+listed-second : (a b v : Bool) → a ≡ false → v ≡ false → b ≡ (a || b) && not v
+listed-second false true false e f = refl
+listed-second false false false e f = refl
+listed-second false b true e f = absurd (true≢false f)
+listed-second true b v e f = absurd (true≢false e)
+
+has-requires : tie.Need-has-requires
+has-requires c κs = search needs
+
+returns : tie.Need-returns
+unfolding unvisitedIn
+returns c = unseen-false (member (c .before .before .before .before .args .fixed .now) (c .before .before .before .before .args .d)) (member (c .before .before .before .before .args .other .now) (c .before .before .before .before .args .d)) _ (sym (c .before .has .ensures) ∙ c .if1 .taken)
+
+has-requires-2 : tie.Need-has-requires-2
+has-requires-2 c κs = search needs
+
+returns-2 : tie.Need-returns-2
+unfolding unvisitedIn
+returns-2 c = listed-first _ _ _ (sym (c .before .has2 .ensures) ∙ c .if2 .taken) (sym (c .before .before .before .has .ensures) ∙ c .before .before .if1 .left)
+
+has-requires-3 : tie.Need-has-requires-3
+has-requires-3 c κs = search needs
+
+returns-3 : tie.Need-returns-3
+unfolding unvisitedIn
+returns-3 c = c .has3 .ensures ∙ listed-second _ _ _ (sym (c .before .before .has2 .ensures) ∙ c .before .if2 .left) (sym (c .before .before .before .before .has .ensures) ∙ c .before .before .before .if1 .left)
+
+pub is-unvisited-spec : {M : Type 1} → statement M
+is-unvisited-spec =
+    tie.close (tie.spec has-requires returns has-requires-2 returns-2 has-requires-3 returns-3)

@@ -1,0 +1,104 @@
+// The classes that a class reaches. Document 01: "A class *reaches* itself, its superclass, all its auxiliaries, and what these reach".
+use schema::class::fixed_auxiliary;
+use schema::class::open_auxiliary;
+use schema::class::superclass;
+use schema::number::ClassNumber;
+use schema::number::ClassRead;
+use schema::store::class_count;
+use schema::store::class_row;
+use sets::visited::Visited;
+ghost use mathlib.Core.Path.{_≡_};
+ghost use Prim.Native.Nat.{_<_};
+ghost use Rattle.sets.specs.Sets.{member, setOf, from};
+ghost use Rattle.schema.specs.Layout.{classSet};
+ghost use Rattle.schema.specs.Store.{classTable};
+ghost use Rattle.graph.specs.Graph.{Readable, reaches};
+ghost use Rattle.graph.specs.Visit.{afterVisit, afterWalk, unvisitedIn, firstClass, nextUnvisited};
+
+// The next class that a walk visits.
+pub enum NextClass {
+    Class(ClassNumber),
+    Nothing,
+}
+
+// Whether d is in one of two sets and not visited.
+fn is_unvisited(fixed: &[u8], other: &[u8], seen: Visited, d: usize) -> bool
+    ensures { λ r. ⌜ r ≡ unvisitedIn (now (fixed .entry)) (now (other .entry)) (seen .bits) d ⌝ }
+{
+    if seen.has(d) {
+        return false;
+    }
+    if sets::has(fixed, d) {
+        return true;
+    }
+    sets::has(other, d)
+}
+
+// The first number from start on, below n, that is in one of two sets and not visited.
+fn first_unvisited(fixed: &[u8], other: &[u8], seen: Visited, start: usize, n: usize) -> NextClass
+    ensures { λ r. ⌜ r ≡ firstClass n (from start (unvisitedIn (now (fixed .entry)) (now (other .entry)) (seen .bits))) ⌝ }
+{
+    let mut d = start;
+    while d < n {
+        if is_unvisited(fixed, other, seen, d) {
+            return NextClass::Class(ClassNumber(d));
+        }
+        d += 1;
+    }
+    NextClass::Nothing
+}
+
+// The first auxiliary of c from number start on that has a row and is not visited.
+fn next_unvisited(classes: &[u8], c: ClassNumber, start: usize, seen: Visited) -> NextClass
+    requires { ⌜ Readable (now classes) ⌝ }
+    requires { ⌜ c .0 < classTable (now classes) .count ⌝ }
+    ensures { λ r. ⌜ r ≡ nextUnvisited (classTable (now (classes .entry))) (member (seen .bits)) (c .0) start ⌝ }
+{
+    let row = class_row(classes, c);
+    let n = class_count(classes);
+    first_unvisited(fixed_auxiliary(row), open_auxiliary(row), seen, start, n)
+}
+
+// Adds to seen what c reaches over classes that are not visited.
+fn visit(classes: &[u8], c: ClassNumber, seen: Visited) -> Visited
+    requires { ⌜ Readable (now classes) ⌝ }
+    ensures { λ r. ⌜ r .bits ≡ setOf classSet (afterVisit (classTable (now (classes .entry))) (member (seen .bits)) (c .0)) ⌝ }
+{
+    let n = c.0;
+    if class_count(classes) <= n {
+        return seen;
+    }
+    if seen.has(n) {
+        return seen;
+    }
+    let marked = seen.with(n);
+    let above = superclass(class_row(classes, c));
+    let ClassRead::Class(up) = above else {
+        return walk(classes, c, 0, marked);
+    };
+    let more = visit(classes, up, marked);
+    walk(classes, c, 0, more)
+}
+
+// Visits the auxiliaries of c from number start on. Only classes not yet visited are taken up, so that a walk never goes deeper than there are
+// classes.
+fn walk(classes: &[u8], c: ClassNumber, start: usize, seen: Visited) -> Visited
+    requires { ⌜ Readable (now classes) ⌝ }
+    requires { ⌜ c .0 < classTable (now classes) .count ⌝ }
+    ensures { λ r. ⌜ r .bits ≡ setOf classSet (afterWalk (classTable (now (classes .entry))) (member (seen .bits)) (c .0) start) ⌝ }
+{
+    let next = next_unvisited(classes, c, start, seen);
+    let NextClass::Class(d) = next else {
+        return seen;
+    };
+    let more = visit(classes, d, seen);
+    walk(classes, c, d.0 + 1, more)
+}
+
+// The classes that c reaches.
+pub fn reached(classes: &[u8], c: ClassNumber) -> Visited
+    requires { ⌜ Readable (now classes) ⌝ }
+    ensures { λ r. ⌜ r .bits ≡ setOf classSet (reaches (classTable (now (classes .entry))) (c .0)) ⌝ }
+{
+    visit(classes, c, Visited::none())
+}
