@@ -2,3 +2,6 @@
 pub mod Past
 pub mod Next
 pub mod Visit
+pub mod Gather
+pub mod Rows
+pub mod Chain

@@ -7,3 +7,6 @@ pub mod Graph
 pub mod GraphLaws
 pub mod ChangeLaws
 pub mod Visit
+pub mod Collect
+pub mod Depth
+pub mod DepthLaws

@@ -302,22 +302,23 @@ flag-true : (b : Bool) → flag b ≡ 1 → b ≡ true
 flag-true true e = refl
 flag-true false e = absurd (omega arith)
 
-member-of-set : (n : ℕ) (f : ℕ → Bool) (k : ℕ) → k < n * 8 → member (setOf n f) k ≡ f k
-member-of-set n f k l = says-same (says-member (setOf n f) k) (says-iff (says-test (f k)) (λ e. bit-set n f k l ∙ ap flag e, λ e. flag-true (f k) (sym (bit-set n f k l) ∙ e)))
+-- within the bytes the test's own value is the member
+pub member-within : (n : ℕ) (f : ℕ → Bool) (k : ℕ) → k < n * 8 → member (setOf n f) k ≡ f k
+member-within n f k l = says-same (says-member (setOf n f) k) (says-iff (says-test (f k)) (λ e. bit-set n f k l ∙ ap flag e, λ e. flag-true (f k) (sym (bit-set n f k l) ∙ e)))
 
 -- the test's own value at a member; past the bytes there is none
 pub member-set : (n : ℕ) (f : ℕ → Bool) (k : ℕ) → (n * 8 ≤ k → f k ≡ false) → member (setOf n f) k ≡ f k
 member-set n f k h = go (decLt k (n * 8))
   where
     go : Dec (k < n * 8) → member (setOf n f) k ≡ f k
-    go (yes l) = member-of-set n f k l
+    go (yes l) = member-within n f k l
     go (no g) = says-false (says-member (setOf n f) k) (λ o. omega (arith, bit-set-past n f k (omega arith))) ∙ sym (h (omega arith))
 
 -- the same bytes: the tests agree
 pub says-same-sets : (n : ℕ) (f g : ℕ → Bool) → Says (sameBytes (setOf n f) (setOf n g)) ((k : ℕ) → k < n * 8 → f k ≡ g k)
 says-same-sets n f g =
     says-iff (says-same-bytes (setOf n f) (setOf n g))
-    (λ e k l. sym (member-of-set n f k l) ∙ ap (λ (s : List ℕ). member s k) e ∙ member-of-set n g k l, set-cong n f g)
+    (λ e k l. sym (member-within n f k l) ∙ ap (λ (s : List ℕ). member s k) e ∙ member-within n g k l, set-cong n f g)
 
 -- inclusion: one test implies the other
 pub says-subset-sets : (n : ℕ) (f g : ℕ → Bool) → Says (subset (setOf n f) (setOf n g)) ((k : ℕ) → k < n * 8 → f k ≡ true → g k ≡ true)

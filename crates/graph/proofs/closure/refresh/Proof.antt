@@ -1,0 +1,43 @@
+use mathlib.Core.Path.{refl}
+use Rattle.schema.specs.Store.{classTable}
+use Rattle.graph.proofs.Rows.{refreshed}
+use borrow.Author.Needs.{needs}
+use Rattle.graph.proofs.closure.refresh.Statement.{statement}
+use Rattle.graph.proofs.closure.refresh.Tie as tie
+
+mul-at : tie.Need-mul-at
+mul-at c = search needs
+
+add-end : tie.Need-add-end
+add-end c = search needs
+
+sub-write-row : tie.Need-sub-write-row
+sub-write-row c = search needs
+
+part-write-row-start : tie.Need-part-write-row-start
+part-write-row-start c = search needs
+
+part-write-row-end : tie.Need-part-write-row-end
+part-write-row-end c = search needs
+
+write-row-requires : tie.Need-write-row-requires
+write-row-requires c κs = search needs
+
+same-length : tie.Need-same-length
+same-length c = search needs
+
+returns : tie.Need-returns
+returns c = refreshed (classTable (c .before .before .before .before .before .before .before .args .classes .now)) (c .before .before .before .before .before .before .before .args .c .0) _ _ (c .before .before .before .before .before .before .before .args .closure .now) _ refl refl (c .before .before .write-row .ensures)
+
+pub refresh-spec : {M : Type 1} → statement M
+refresh-spec =
+    tie.close
+    (tie.spec
+    mul-at
+    add-end
+    sub-write-row
+    part-write-row-start
+    part-write-row-end
+    write-row-requires
+    same-length
+    returns)

@@ -1,0 +1,27 @@
+use mathlib.Core.Path.{ap, _∙_}
+use Rattle.prelude.specs.Part.{zeros}
+use Rattle.sets.specs.Sets.{member}
+use Rattle.schema.specs.Store.{classTable}
+use Rattle.graph.proofs.Gather.{both-lists}
+use borrow.Author.Needs.{needs}
+use Rattle.graph.proofs.collect.write_optional.Statement.{statement}
+use Rattle.graph.proofs.collect.write_optional.Tie as tie
+
+clear-requires : tie.Need-clear-requires
+clear-requires c κs = search needs
+
+add-all-requires : tie.Need-add-all-requires
+add-all-requires c κs = search needs
+
+add-all-requires-2 : tie.Need-add-all-requires-2
+add-all-requires-2 c κs = search needs
+
+same-length : tie.Need-same-length
+same-length c = search needs
+
+returns : tie.Need-returns
+returns c = both-lists (classTable (c .before .before .before .before .before .before .before .before .before .before .before .before .before .before .args .classes .now)) (member (c .before .before .before .before .before .before .before .before .before .before .before .before .before .before .args .chosen .bits)) _ _ _ (c .before .before .before .before .before .before .before .before .before .before .clear .ensures ∙ ap zeros ((c .before .before .before .before .before .before .before .before .before .before .before .before .before .before) .pre .1)) (c .before .before .before .before .before .before .add-all .ensures) (c .before .before .add-all2 .ensures)
+
+pub write-optional-spec : {M : Type 1} → statement M
+write-optional-spec =
+    tie.close (tie.spec clear-requires add-all-requires add-all-requires-2 same-length returns)

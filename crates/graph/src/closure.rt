@@ -1,0 +1,95 @@
+// The closure store: the three kept sets of every class, worked out afresh and compared.
+use crate::collect::write_mandatory;
+use crate::collect::write_optional;
+use crate::reach::reached;
+use prelude::part::copy_padded;
+use prelude::part::same;
+use schema::layout::ALLOWED;
+use schema::layout::CLOSURE_WIDTH;
+use schema::layout::DEMANDED;
+use schema::number::ClassNumber;
+use schema::store::closure_row;
+ghost use mathlib.Core.Path.{_≡_};
+ghost use Prim.Native.Nat.{_*_, _≤_, _<_};
+ghost use lib.ListN.{length};
+ghost use Rattle.prelude.specs.Part.{splice, sameBytes};
+ghost use Rattle.schema.specs.Numbers.{classLimit};
+ghost use Rattle.schema.specs.Layout.{attributeSet, closureWidth, closureLength};
+ghost use Rattle.schema.specs.Store.{classTable, closureAt};
+ghost use Rattle.graph.specs.Graph.{Readable, demandedSet, closureRow, closureRows, isFresh};
+
+// out becomes the set of attributes that c demands.
+pub fn write_demanded(classes: &[u8], c: ClassNumber, out: &mut [u8])
+    requires { ⌜ Readable (now classes) ⌝ }
+    requires { ⌜ length (now out) ≡ attributeSet ⌝ }
+    ensures { λ _. ⌜ now (out .exit) ≡ demandedSet (classTable (now (classes .entry))) (c .0) ⌝ }
+{
+    write_mandatory(classes, reached(classes, c), out);
+}
+
+// row becomes the three kept sets of c.
+pub fn write_row(classes: &[u8], c: ClassNumber, row: &mut [u8])
+    requires { ⌜ Readable (now classes) ⌝ }
+    requires { ⌜ length (now row) ≡ closureWidth ⌝ }
+    ensures { λ _. ⌜ now (row .exit) ≡ closureRow (classTable (now (classes .entry))) (c .0) ⌝ }
+{
+    let seen = reached(classes, c);
+    let bits = seen.bits;
+    copy_padded(&mut row[0..DEMANDED], &bits);
+    write_mandatory(classes, seen, &mut row[DEMANDED..ALLOWED]);
+    write_optional(classes, seen, &mut row[ALLOWED..CLOSURE_WIDTH]);
+}
+
+// The part of the closure store at c is worked out afresh.
+pub fn refresh(classes: &[u8], c: ClassNumber, closure: &mut [u8])
+    requires { ⌜ Readable (now classes) ⌝ }
+    requires { ⌜ (c .0 < classLimit) × (closureLength ≤ length (now closure)) ⌝ }
+    ensures { λ _. ⌜ now (closure .exit) ≡ splice (closureWidth * c .0) (closureRow (classTable (now (classes .entry))) (c .0)) (now (closure .entry)) ⌝ }
+{
+    let at = CLOSURE_WIDTH * c.0;
+    let end = at + CLOSURE_WIDTH;
+    write_row(classes, c, &mut closure[at..end]);
+}
+
+// The whole closure store is worked out afresh; what stands behind it is not touched.
+pub fn refresh_all(classes: &[u8], closure: &mut [u8])
+    requires { ⌜ Readable (now classes) ⌝ }
+    requires { ⌜ closureLength ≤ length (now closure) ⌝ }
+    ensures { λ _. ⌜ now (closure .exit) ≡ splice 0 (closureRows (classTable (now (classes .entry)))) (now (closure .entry)) ⌝ }
+{
+    let mut c = 0;
+    while c < ClassNumber::LIMIT {
+        refresh(classes, ClassNumber(c), closure);
+        c += 1;
+    }
+}
+
+// Whether a row is the three kept sets of c.
+fn row_is_fresh(classes: &[u8], c: ClassNumber, row: &[u8]) -> bool
+    requires { ⌜ Readable (now classes) ⌝ }
+    ensures { λ r. ⌜ r ≡ sameBytes (now (row .entry)) (closureRow (classTable (now (classes .entry))) (c .0)) ⌝ }
+{
+    let mut fresh = [0u8; CLOSURE_WIDTH];
+    write_row(classes, c, &mut fresh);
+    same(row, &fresh)
+}
+
+// Whether the closure store is that worked out afresh.
+pub fn is_fresh(classes: &[u8], closure: &[u8]) -> bool
+    requires { ⌜ Readable (now classes) ⌝ }
+    requires { ⌜ closureLength ≤ length (now closure) ⌝ }
+    ensures { λ r. ⌜ r ≡ isFresh (classTable (now (classes .entry))) (now (closure .entry)) ⌝ }
+{
+    let mut c = 0;
+    while c < ClassNumber::LIMIT {
+        if !row_is_fresh(
+            classes,
+            ClassNumber(c),
+            closure_row(closure, ClassNumber(c)),
+        ) {
+            return false;
+        }
+        c += 1;
+    }
+    true
+}
