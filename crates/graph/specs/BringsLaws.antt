@@ -1,16 +1,12 @@
 -- What is brought along walks: the union of the own sets of the classes reached, and how it changes with one step, one class or one own
 -- entry more. `M x b` says that class x lists attribute b itself; it stands for the mandatory as for the optional sets.
 use mathlib.Core.Path.{_≡_}
-use mathlib.Core.Logic.{_⊎_, inr, ⊎-elim, ⊎-map, _↔_}
+use mathlib.Core.Logic.{_⊎_, inl, inr, ⊎-elim, ⊎-map, _↔_}
 use Prim.Native.Nat.{ℕ, _<_}
+use native.Mathlib.Decide.{ℕ-discrete}
 use Rattle.prelude.specs.SaysLaws.{says}
-use Rattle.prelude.specs.Below.{Some}
 use Rattle.graph.specs.Walk.{Rel, Reach, here, step, Brings, Grown, Extended}
-use Rattle.graph.specs.WalkLaws.{join, widen, grown-keep, reach-grown, old-below, reach-old, reach-new}
-
--- to some class below n, b is brought along S and not along R
-abbrev pub More : ℕ → Rel → Rel → Rel → ℕ → Type 0
-More n R S M b = Some n (λ c. Brings S M c b × ¬ Brings R M c b)
+use Rattle.graph.specs.WalkLaws.{join, widen, grown-keep, reach-grown, old-below, reach-old, reach-new, Off, off-walk, walk-split}
 
 -- the same walk's end, reached from elsewhere or along another relation
 pub brings-at : {R S M : Rel} {c e b : ℕ} (d : Brings R M c b) → Reach S e (d .class) → Brings S M e b
@@ -32,28 +28,6 @@ module _ {R S : Rel} {t a : ℕ} (g : Grown R S t a) (M : Rel) where
   -- a's set is joined in for exactly the classes that reach t.
   pub brings-grown : (c b : ℕ) → Brings S M c b ↔ (Brings R M c b ⊎ (Reach R c t × Brings R M a b))
   brings-grown c b = (grown-to, ⊎-elim brings-keep (λ q. grown-from (q .0) (q .1)))
-
-  -- A class that does not reach t keeps what is brought to it (read also with S before and R after the removal).
-  pub brings-apart : (c b : ℕ) → ¬ Reach R c t → Brings S M c b ↔ Brings R M c b
-  brings-apart c b no-t = (λ d. ⊎-elim (λ q. q) (λ q. absurd (no-t (q .0))) (grown-to d), brings-keep)
-
-  -- a class to which more is brought along S reaches t, and what is more comes from a
-  more-from : {n b : ℕ} (m : More n R S M b) → Reach R (m .at) t × Brings R M a b
-  more-from m = ⊎-elim (λ d. absurd (m .is .1 d)) (λ q. q) (grown-to (m .is .0))
-
-  more-lacked : {n b : ℕ} → More n R S M b → ¬ Brings R M t b
-  more-lacked m d = m .is .1 (brings-join (more-from m .0) d)
-
-  at-target : {n b : ℕ} → t < n → Brings S M t b → ¬ Brings R M t b → More n R S M b
-  at-target h d no-d = record { at = t; below = h; is = (d, no-d) }
-
-  -- By an added step t → a some class gains b exactly when b is brought to a and not to t.
-  pub rule30-added : (n : ℕ) → t < n → (b : ℕ) → More n R S M b ↔ (Brings R M a b × ¬ Brings R M t b)
-  rule30-added n h b = (λ m. (more-from m .1, more-lacked m), λ q. at-target h (grown-from here (q .0)) (q .1))
-
-  -- By a removed step (S before, R after) some class loses b exactly when t does.
-  pub rule30-removed : (n : ℕ) → t < n → (b : ℕ) → More n R S M b ↔ (Brings S M t b × ¬ Brings R M t b)
-  rule30-removed n h b = (λ m. (grown-from here (more-from m .1), more-lacked m), λ q. at-target h (q .0) (q .1))
 
 -- One class more, with the own sets K in place of M: they agree on the classes that were there.
 module _ {R S : Rel} {n : ℕ} {N : ℕ → Type 0} (e : Extended R S n N) {M K : Rel} (same : (x b : ℕ) → x < n → M x b ↔ K x b) where
@@ -103,3 +77,20 @@ module _ (R : Rel) {M K : Rel} {t k : ℕ} (g : Grown M K t k) where
 
       new : Reach R c t × (b ≡ k) → Brings R K c b
       new q = record { class = t; walk = q .0; lists = rw (q .1) (g .new) }
+
+-- The steps and the own entries of one class k aside: R and M before, S and K after. What is brought to c is brought without k, or k is reached and it
+-- is brought to k.
+module _ {R S M K : Rel} {k : ℕ} (steps : (x y : ℕ) → ¬ (x ≡ k) → R x y → S x y) (entries : (x b : ℕ) → ¬ (x ≡ k) → M x b → K x b) where
+  pub off-same : {c x : ℕ} → Reach (Off R k) c x → Reach (Off S k) c x
+  off-same p = widen (λ x y r. record { named = steps x y (r .apart) (r .named); apart = r .apart }) p
+
+  pub brings-apart : {c b : ℕ} → (Reach (Off R k) c k → Brings R M k b → Brings S K k b) → Brings R M c b → Brings S K c b
+  brings-apart {c} {b} at-k d = go (ℕ-discrete (d .class) k) (walk-split R k (d .walk))
+    where
+      by-k : Reach (Off R k) c k → Brings R M k b → Brings S K c b
+      by-k q e = brings-join (off-walk S k (off-same q)) (at-k q e)
+
+      go : Dec (d .class ≡ k) → Reach (Off R k) c (d .class) ⊎ (Reach (Off R k) c k × Reach R k (d .class)) → Brings S K c b
+      go (yes e) (inl q) = by-k (rw e at q) (record { class = k; walk = here; lists = rw e at (d .lists) })
+      go (no n) (inl q) = record { class = d .class; walk = off-walk S k (off-same q); lists = entries (d .class) b n (d .lists) }
+      go e (inr q) = by-k (q .0) (record { class = d .class; walk = q .1; lists = d .lists })

@@ -1,7 +1,7 @@
 -- How the tests of the class graph change with one change: what a quick change works out from the sets before it equals what is worked out afresh.
 -- Here e and f are the tests of naming, and o and p of the own lists, before and after.
 use mathlib.Core.Path.{_≡_, sym, _∙_}
-use mathlib.Core.Logic.{_⊎_, inl, inr, ⊎-map, _↔_}
+use mathlib.Core.Logic.{_⊎_, inl, inr, ⊎-elim, ⊎-map, _↔_}
 use mathlib.Core.Bool.{Bool, true, false, not, _&&_, _||_}
 use Prim.Native.Nat.{ℕ, suc, _<_}
 use native.Mathlib.Omega.{arith}
@@ -10,8 +10,8 @@ use Rattle.prelude.specs.SaysLaws.{says-and, says-or, says-eq, says-iff, says-s
 use Rattle.prelude.specs.Below.{anyBelow, Some}
 use Rattle.prelude.specs.BelowLaws.{says-any, last-or-less}
 use Rattle.graph.specs.Walk.{Reach, step, Grown, Extended}
-use Rattle.graph.specs.WalkLaws.{widen, reach-grown, reach-apart, reach-target, grown-keep, reach-old, reach-new}
-use Rattle.graph.specs.BringsLaws.{brings-grown, brings-apart, brings-keep, brings-old, brings-new, brings-listed}
+use Rattle.graph.specs.WalkLaws.{off-walk, walk-split, walk-to, widen, reach-grown, grown-keep, reach-old, reach-new}
+use Rattle.graph.specs.BringsLaws.{off-same, brings-apart, brings-grown, brings-keep, brings-old, brings-new, brings-listed}
 use Rattle.graph.specs.Graph.{Edge, Reaches, Collects, reachesBy, collectsBy}
 use Rattle.graph.specs.GraphLaws.{reach-below, says-reaches, says-collects}
 
@@ -88,27 +88,61 @@ module _ (n : ℕ) (e f : Test) (t a : ℕ) (g : Grown (Edge n e) (Edge n f) t a
           (λ q. (record { present = d .present; walk = q .0 }, record { present = g .new .target; brought = q .1 }))
           (brings-grown g (λ x a. o x a ≡ true) c b .0 (d .brought))
 
--- ---- the step t → a less: e is f with it
+-- ---- any change of one class: f and p are e and o but for what k names and lists
 
-module _ (n : ℕ) (e f : Test) (t a : ℕ) (g : Grown (Edge n f) (Edge n e) t a) where
-  -- a class that did not reach t keeps its sets
-  apart : (c : ℕ) → reachesBy n e c t ≡ false → c < n → ¬ Reach (Edge n f) c t
-  apart c z h p = says-fails (says-reaches n e c t) z (record { present = h; walk = reach-target g c .1 p })
+module _ (n : ℕ) (e f o p : Test) (k : ℕ) (steps : (x y : ℕ) → ¬ (x ≡ k) → e x y ≡ f x y) (entries : (x b : ℕ) → ¬ (x ≡ k) → o x b ≡ p x b) where
+  to-f : (x y : ℕ) → ¬ (x ≡ k) → Edge n e x y → Edge n f x y
+  to-f x y d r = record { source = r .source; target = r .target; named = sym (steps x y d) ∙ r .named }
 
-  pub reach-kept : (c x : ℕ) → reachesBy n e c t ≡ false → reachesBy n f c x ≡ reachesBy n e c x
-  reach-kept c x z =
-      says-same (says-reaches n f c x)
-      (says-iff (says-reaches n e c x) (
-        λ r. record { present = r .present; walk = reach-apart g c (apart c z (r .present)) x .0 (r .walk) },
-        λ r. record { present = r .present; walk = reach-apart g c (apart c z (r .present)) x .1 (r .walk) },
+  to-e : (x y : ℕ) → ¬ (x ≡ k) → Edge n f x y → Edge n e x y
+  to-e x y d r = record { source = r .source; target = r .target; named = steps x y d ∙ r .named }
+
+  to-p : (x b : ℕ) → ¬ (x ≡ k) → o x b ≡ true → p x b ≡ true
+  to-p x b d q = sym (entries x b d) ∙ q
+
+  to-o : (x b : ℕ) → ¬ (x ≡ k) → p x b ≡ true → o x b ≡ true
+  to-o x b d q = entries x b d ∙ q
+
+  -- who reaches k does not change
+  pub reach-changed : (c : ℕ) → reachesBy n f c k ≡ reachesBy n e c k
+  reach-changed c =
+      says-same (says-reaches n f c k)
+      (says-iff (says-reaches n e c k) (
+        λ r. record { present = r .present; walk = off-walk (Edge n f) k (off-same to-f to-p (walk-to (Edge n e) k (r .walk))) },
+        λ r. record { present = r .present; walk = off-walk (Edge n e) k (off-same to-e to-o (walk-to (Edge n f) k (r .walk))) },
       ))
 
-  pub collect-kept : (o : Test) (c b : ℕ) → reachesBy n e c t ≡ false → collectsBy n f o c b ≡ collectsBy n e o c b
-  collect-kept o c b z =
-      says-same (says-collects n f o c b)
+  -- a class that does not reach k keeps its sets
+  module _ (c : ℕ) (z : reachesBy n e c k ≡ false) where
+    not-e : c < n → ¬ Reach (Edge n e) c k
+    not-e h q = says-fails (says-reaches n e c k) z (record { present = h; walk = q })
+
+    not-f : c < n → ¬ Reach (Edge n f) c k
+    not-f h q = says-fails (says-reaches n f c k) (reach-changed c ∙ z) (record { present = h; walk = q })
+
+    pub reach-kept : (x : ℕ) → reachesBy n f c x ≡ reachesBy n e c x
+    reach-kept x =
+        says-same (says-reaches n f c x)
+        (says-iff (says-reaches n e c x) (
+          λ r. record { present = r .present; walk = ⊎-elim (λ q. off-walk (Edge n f) k (off-same to-f to-p q)) (λ q. absurd (not-e (r .present) (off-walk (Edge n e) k (q .0)))) (walk-split (Edge n e) k (r .walk)) },
+          λ r. record { present = r .present; walk = ⊎-elim (λ q. off-walk (Edge n e) k (off-same to-e to-o q)) (λ q. absurd (not-f (r .present) (off-walk (Edge n f) k (q .0)))) (walk-split (Edge n f) k (r .walk)) },
+        ))
+
+    pub collect-kept : (b : ℕ) → collectsBy n f p c b ≡ collectsBy n e o c b
+    collect-kept b =
+        says-same (says-collects n f p c b)
+        (says-iff (says-collects n e o c b) (
+          λ d. record { present = d .present; brought = brings-apart to-f to-p (λ q. absurd (not-e (d .present) (off-walk (Edge n e) k q))) (d .brought) },
+          λ d. record { present = d .present; brought = brings-apart to-e to-o (λ q. absurd (not-f (d .present) (off-walk (Edge n f) k q))) (d .brought) },
+        ))
+
+  -- where k collects the same b as before, so does every class
+  pub collect-same : (b : ℕ) → collectsBy n f p k b ≡ collectsBy n e o k b → (c : ℕ) → collectsBy n f p c b ≡ collectsBy n e o c b
+  collect-same b h c =
+      says-same (says-collects n f p c b)
       (says-iff (says-collects n e o c b) (
-        λ d. record { present = d .present; brought = brings-apart g (λ x a. o x a ≡ true) c b (apart c z (d .present)) .0 (d .brought) },
-        λ d. record { present = d .present; brought = brings-apart g (λ x a. o x a ≡ true) c b (apart c z (d .present)) .1 (d .brought) },
+        λ d. record { present = d .present; brought = brings-apart to-f to-p (λ q m. says-collects n f p k b .holds (h ∙ says-collects n e o k b .passes (record { present = reach-below (d .present) (off-walk (Edge n e) k q); brought = m })) .brought) (d .brought) },
+        λ d. record { present = d .present; brought = brings-apart to-e to-o (λ q m. says-collects n e o k b .holds (sym h ∙ says-collects n f p k b .passes (record { present = reach-below (d .present) (off-walk (Edge n f) k q); brought = m })) .brought) (d .brought) },
       ))
 
 -- ---- an own entry more: p is o with k listed by t

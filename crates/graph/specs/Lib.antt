@@ -10,3 +10,6 @@ pub mod Visit
 pub mod Collect
 pub mod Depth
 pub mod DepthLaws
+pub mod Changes
+pub mod ClosureLaws
+pub mod Pieces

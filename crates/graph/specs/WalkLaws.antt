@@ -3,6 +3,7 @@ use mathlib.Core.Path.{_≡_, refl}
 use mathlib.Core.Logic.{_⊎_, inl, inr, ⊎-elim, _↔_}
 use Prim.Native.Nat.{ℕ, _<_}
 use native.Mathlib.Omega.{arith}
+use native.Mathlib.Decide.{ℕ-discrete}
 use Rattle.graph.specs.Walk.{Rel, Reach, here, step, Grown, Extended}
 
 pub one : {R : Rel} {c x : ℕ} → R c x → Reach R c x
@@ -40,14 +41,6 @@ module _ {R S : Rel} {t a : ℕ} (g : Grown R S t a) where
   pub reach-grown : (c x : ℕ) → Reach S c x ↔ (Reach R c x ⊎ (Reach R c t × Reach R a x))
   reach-grown c x = (grown-to, grown-from)
 
-  -- Who reaches t does not change (read also with S before and R after the step is taken away).
-  pub reach-target : (c : ℕ) → Reach S c t ↔ Reach R c t
-  reach-target c = (λ p. ⊎-elim (λ q. q) (λ q. q .0) (grown-to p), grown-keep)
-
-  -- A number that does not reach t keeps what it reaches.
-  pub reach-apart : (c : ℕ) → ¬ Reach R c t → (x : ℕ) → Reach S c x ↔ Reach R c x
-  reach-apart c no-t x = (λ p. ⊎-elim (λ q. q) (λ q. absurd (no-t (q .0))) (grown-to p), grown-keep)
-
 -- ---- one number more
 
 module _ {R S : Rel} {n : ℕ} {N : ℕ → Type 0} (e : Extended R S n N) where
@@ -74,3 +67,28 @@ module _ {R S : Rel} {n : ℕ} {N : ℕ → Type 0} (e : Extended R S n N) where
   -- The new number reaches itself and what those that it leads to reached.
   pub reach-new : (x : ℕ) → Reach S n x ↔ ((x ≡ n) ⊎ ((y : ℕ) × N y × Reach R y x))
   reach-new x = (new-to refl, ⊎-elim (λ q. rw q here) (λ q. step (e .new (q .0) (q .1)) (widen (e .keep) (q .2))))
+
+-- ---- the steps of one number aside
+
+-- a step of R from a number other than k
+pub record Off (R : Rel) (k x y : ℕ) : Type 0 where
+  pub named : R x y
+  pub apart : ¬ (x ≡ k)
+
+module _ (R : Rel) (k : ℕ) where
+  pub off-walk : {c x : ℕ} → Reach (Off R k) c x → Reach R c x
+  off-walk p = widen (λ x y r. r .named) p
+
+  -- a walk comes to k first, or never takes a step from it
+  pub walk-split : {c x : ℕ} → Reach R c x → Reach (Off R k) c x ⊎ (Reach (Off R k) c k × Reach R k x)
+  walk-split here = inl here
+  walk-split {c} {x} (step {y = y} r p) = go (ℕ-discrete c k) (walk-split p)
+    where
+      go : Dec (c ≡ k) → Reach (Off R k) y x ⊎ (Reach (Off R k) y k × Reach R k x) → Reach (Off R k) c x ⊎ (Reach (Off R k) c k × Reach R k x)
+      go (yes e) q = inr (rw e here, rw e at (step r p))
+      go (no d) (inl q) = inl (step (record { named = r; apart = d }) q)
+      go (no d) (inr q) = inr (step (record { named = r; apart = d }) (q .0), q .1)
+
+  -- so whether k is reached does not depend on its own steps
+  pub walk-to : {c : ℕ} → Reach R c k → Reach (Off R k) c k
+  walk-to p = ⊎-elim (λ q. q) (λ q. q .0) (walk-split p)

@@ -1,15 +1,15 @@
 -- Laws of sets as byte strings, each for any size. The callers' laws are those on `bit`; those on `digit` are what they rest on.
 use mathlib.Core.Path.{_≡_, refl, sym, ap, ap₂, _∙_}
 use mathlib.Core.Logic.{_⊎_, inl, inr, ⊎-elim}
-use mathlib.Core.List.{List, _∷_}
+use mathlib.Core.List.{List, _∷_, _++_}
 use mathlib.Core.Bool.{Bool, true, false, not, _&&_, _||_}
 use Prim.Native.Nat.{ℕ, zero, suc, _+_, _-_, _*_, _/_, _%_, _^_, _≤_, _<_, min, max}
 use native.Mathlib.Nat.{pow-suc, mul-comm, div-div-eq-div-mul, div-one, zero-div, zero-lt-suc, mod-lt, div-lt-iff-lt-mul}
 use native.Mathlib.Omega.{arith}
 use native.Mathlib.Decide.{decLt}
 use lib.Arith.{lt-one}
-use lib.ListN.{length, getD, List·getD-eq-default}
-use lib.Seq.{ext-getD}
+use lib.ListN.{length, getD, length-append, List·getD-eq-default, List·getD-append}
+use lib.Seq.{ext-getD, getD-append-add}
 use lib.Dec.{eqb}
 use Rattle.prelude.specs.Says.{Says}
 use Rattle.prelude.specs.Below.{Some}
@@ -331,3 +331,62 @@ says-subset-sets n f g = says-iff (says-subset (setOf n f) (setOf n g)) (λ h k 
     from k h (yes l) (inl q) = omega (arith, bit-set n g k l ∙ ap flag (h l (q .0)), bit-lt (setOf n f) k)
     from k h (yes l) (inr q) = omega (arith, bit-set n f k l ∙ ap flag (q .0))
     from k h (no b) d = omega (arith, bit-set-past n f k (omega arith))
+
+-- ---- operations on sets where tests hold
+
+pub union-set : (n : ℕ) (f g : ℕ → Bool) → union (setOf n f) (setOf n g) ≡ setOf n (λ k. f k || g k)
+unfolding union
+union-set n f g =
+    ap (λ (m : ℕ). setOf m (λ k. member (setOf n f) k || member (setOf n g) k)) (set-length n f)
+    ∙ set-cong n (λ k. member (setOf n f) k || member (setOf n g) k) (λ k. f k || g k) (λ k l. ap₂ _||_ (member-within n f k l) (member-within n g k l))
+
+pub with-set : (n m : ℕ) (f : ℕ → Bool) → withMember m (setOf n f) ≡ setOf n (λ k. f k || eqb k m)
+unfolding withMember
+with-set n m f =
+    ap (λ (j : ℕ). setOf j (λ k. member (setOf n f) k || eqb k m)) (set-length n f)
+    ∙ set-cong n (λ k. member (setOf n f) k || eqb k m) (λ k. f k || eqb k m) (λ k l. ap (λ (x : Bool). x || eqb k m) (member-within n f k l))
+
+-- two sets side by side are joined side by side
+bit-left : (a b : List ℕ) (k : ℕ) → k < length a * 8 → bit (a ++ b) k ≡ bit a k
+unfolding bit
+bit-left a b k l = ap (λ (x : ℕ). digit x (k % 8)) (List·getD-append a b 0 (k / 8) (omega arith))
+
+bit-right : (a b : List ℕ) (k : ℕ) → length a * 8 ≤ k → bit (a ++ b) k ≡ bit b (k - length a * 8)
+unfolding bit
+bit-right a b k h =
+    let e : k / 8 ≡ length a + (k - length a * 8) / 8 = omega arith in
+    let r : k % 8 ≡ (k - length a * 8) % 8 = omega arith in
+    ap₂ (λ (i j : ℕ). digit (getD (a ++ b) i 0) j) e r ∙ ap (λ (x : ℕ). digit x ((k - length a * 8) % 8)) (getD-append-add a b ((k - length a * 8) / 8) 0)
+
+append-bytes : (a b : List ℕ) → ((i : ℕ) → getD a i 0 < 256) → ((i : ℕ) → getD b i 0 < 256) → (i : ℕ) → getD (a ++ b) i 0 < 256
+append-bytes a b p q i = go (decLt i (length a))
+  where
+    go : Dec (i < length a) → getD (a ++ b) i 0 < 256
+    go (yes l) = rw (List·getD-append a b 0 i l) (p i)
+    go (no g) = let e : i ≡ length a + (i - length a) = omega arith in rw (e, getD-append-add a b (i - length a) 0) (q (i - length a))
+
+pub union-bytes : (a b : List ℕ) (i : ℕ) → getD (union a b) i 0 < 256
+unfolding union
+union-bytes a b i = set-bytes (length a) (λ k. member a k || member b k) i
+
+pub union-append : (a b c d : List ℕ) → length c ≡ length a → length d ≡ length b → union (a ++ b) (c ++ d) ≡ union a c ++ union b d
+union-append a b c d p q =
+    bit-ext (union (a ++ b) (c ++ d)) (union a c ++ union b d) long (union-bytes (a ++ b) (c ++ d))
+    (append-bytes (union a c) (union b d) (union-bytes a c) (union-bytes b d)) (λ k. each k (decLt k (length a * 8)))
+  where
+    long : length (union (a ++ b) (c ++ d)) ≡ length (union a c ++ union b d)
+    long = union-length (a ++ b) (c ++ d) ∙ length-append a b ∙ sym (length-append (union a c) (union b d) ∙ ap₂ (λ (x y : ℕ). x + y) (union-length a c) (union-length b d))
+
+    whole : (k : ℕ) → bit (union (a ++ b) (c ++ d)) k ≡ max (bit (a ++ b) k) (bit (c ++ d) k)
+    whole k = bit-union (a ++ b) (c ++ d) k (simp length-append (omega arith))
+
+    each : (k : ℕ) → Dec (k < length a * 8) → bit (union (a ++ b) (c ++ d)) k ≡ bit (union a c ++ union b d) k
+    each k (yes l) =
+        whole k ∙ ap₂ max (bit-left a b k l) (bit-left c d k (omega arith)) ∙ sym (bit-union a c k (omega arith))
+        ∙ sym (bit-left (union a c) (union b d) k (omega (arith, union-length a c)))
+    each k (no g) =
+        let e : length c * 8 ≡ length a * 8 = omega arith in
+        let u : length (union a c) * 8 ≡ length a * 8 = omega (arith, union-length a c) in
+        whole k ∙ ap₂ max (bit-right a b k (omega arith)) (bit-right c d k (omega arith) ∙ ap (λ (n : ℕ). bit d (k - n)) e)
+        ∙ sym (bit-union b d (k - length a * 8) (omega arith))
+        ∙ sym (bit-right (union a c) (union b d) k (omega arith) ∙ ap (λ (n : ℕ). bit (union b d) (k - n)) u)
