@@ -1,0 +1,10 @@
+//! The schema keeper of document 01, written from its papers alone, to compare
+//! other keepers with. The stores are decoded into ordinary values, judged by
+//! code that reads like the paper, and encoded back.
+
+mod big_endian;
+pub mod closure;
+pub mod layout;
+pub mod schema;
+pub mod syntax;
+
