@@ -3,8 +3,11 @@
 //! code that reads like the paper, and encoded back.
 
 mod big_endian;
+pub mod changes;
 pub mod closure;
 pub mod layout;
+pub mod reading;
 pub mod schema;
 pub mod syntax;
+pub mod writing;
 
