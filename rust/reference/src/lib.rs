@@ -2,12 +2,16 @@
 //! other keepers with. The stores are decoded into ordinary values, judged by
 //! code that reads like the paper, and encoded back.
 
+mod answer;
 mod big_endian;
 pub mod changes;
 pub mod closure;
 pub mod layout;
+mod order;
 pub mod reading;
+pub mod rules;
 pub mod schema;
 pub mod syntax;
 pub mod writing;
 
+pub use answer::Answer;
