@@ -4,10 +4,14 @@
 
 mod answer;
 mod big_endian;
+mod calls;
 pub mod changes;
 pub mod closure;
 pub mod layout;
+mod listing;
 mod order;
+mod plain;
+mod quick;
 pub mod reading;
 pub mod rules;
 pub mod schema;
@@ -15,3 +19,5 @@ pub mod syntax;
 pub mod writing;
 
 pub use answer::Answer;
+pub use calls::{audit, depth, load, plain_change, quick_change, write};
+pub use listing::{LONGEST_SHEET, listing};
