@@ -72,14 +72,21 @@ impl<'a> Cells<'a> {
         }
     }
 
-    /// "n is a member when bit n % 8 (least significant first) of byte n / 8
-    /// is set"
+    /// "A set is a bit string".
     pub fn set(&mut self, width: usize) -> Numbers {
-        let cell = self.take(width);
-        let all = 0..(width * 8) as u16;
-        all.filter(|n| cell[usize::from(n / 8)] >> (n % 8) & 1 == 1)
+        let bytes = (0..).zip(self.take(width)).filter(|(_, byte)| **byte != 0);
+        bytes
+            .flat_map(|(place, byte)| members(place, *byte))
             .collect()
     }
+}
+
+/// "n is a member when bit n % 8 (least significant first) of byte n / 8 is
+/// set"
+fn members(place: u16, byte: u8) -> impl Iterator<Item = u16> {
+    (0..8)
+        .filter(move |bit| byte >> bit & 1 == 1)
+        .map(move |bit| place * 8 + bit)
 }
 
 /// The cell of a count and its entries.
