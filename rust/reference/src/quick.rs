@@ -66,22 +66,21 @@ fn demands_more(before: &Tables, auxiliary: u16, target: u16) -> bool {
 fn kept_after(before: &Tables, change: &Change, after: &Schema) -> Vec<Kept> {
     let mut kept = before.kept.clone();
     match change {
-        Change::AddAttribute(_) => {}
         Change::AddClass(class) => {
             let number = before.schema.next_class();
             kept[usize::from(number)] = kept_of_added(&before.kept, number, class);
         }
-        Change::Alter { target, alteration } => {
-            for class in holding(before, target.number()) {
-                renew(
-                    &mut kept[usize::from(class)],
-                    before,
-                    alteration,
-                    after,
-                    class,
-                );
+        Change::Alter {
+            target: Row::Class(target),
+            alteration,
+        } => {
+            for class in holding(before, *target) {
+                let own = &mut kept[usize::from(class)];
+                renew(own, before, alteration, after, class);
             }
         }
+        // Kept sets are of classes: an attribute's change leaves them alone.
+        Change::AddAttribute(_) | Change::Alter { .. } => {}
     }
     kept
 }
