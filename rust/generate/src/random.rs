@@ -14,6 +14,14 @@ impl Random {
         Random { state: seed }
     }
 
+    /// The source for a test: its own seed, and another one for each value of
+    /// the environment's SEED.
+    pub fn for_test(seed: u64) -> Random {
+        let given = std::env::var("SEED").ok();
+        let shift: u64 = given.and_then(|text| text.parse().ok()).unwrap_or(0);
+        Random::new(seed.wrapping_add(shift.wrapping_mul(1000)))
+    }
+
     /// Any number.
     pub fn number(&mut self) -> u64 {
         self.state = self.state.wrapping_add(0x9E37_79B9_7F4A_7C15);

@@ -28,7 +28,7 @@ fn is_short(stores: &Stores) -> bool {
 
 #[test]
 fn refused_changes_alter_nothing() {
-    let mut random = Random::new(8);
+    let mut random = Random::for_test(8);
     for _ in 0..400 {
         let before = stores::any(&mut random);
         for _ in 0..4 {
@@ -53,7 +53,7 @@ fn refused_changes_alter_nothing() {
 
 #[test]
 fn a_refused_load_leaves_every_store_byte_zero() {
-    let mut random = Random::new(9);
+    let mut random = Random::for_test(9);
     for _ in 0..600 {
         let before = stores::any(&mut random);
         let mut stores = before.clone();
@@ -74,7 +74,7 @@ fn a_refused_load_leaves_every_store_byte_zero() {
 
 #[test]
 fn a_load_never_looks_at_what_stood_in_the_stores() {
-    let mut random = Random::new(10);
+    let mut random = Random::for_test(10);
     for _ in 0..300 {
         let sheet = sheets::any(&mut random);
         let mut one = stores::in_order(&mut random);
@@ -86,7 +86,7 @@ fn a_load_never_looks_at_what_stood_in_the_stores() {
 
 #[test]
 fn a_write_keeps_what_it_does_not_need() {
-    let mut random = Random::new(11);
+    let mut random = Random::for_test(11);
     for _ in 0..400 {
         let stores = stores::any(&mut random);
         let mut out = vec![PAST; random.below(20_000)];
@@ -104,7 +104,7 @@ fn a_write_keeps_what_it_does_not_need() {
 
 #[test]
 fn the_listing_says_what_the_load_says() {
-    let mut random = Random::new(12);
+    let mut random = Random::for_test(12);
     let mut stores = Stores::default();
     for _ in 0..400 {
         let sheet = sheets::any(&mut random);

@@ -82,12 +82,12 @@ fn play(random: &mut Random, mut stores: Stores, length: usize) -> usize {
 
 #[test]
 fn quick_is_plain_in_answers_and_bytes_over_lists_of_changes() {
-    let mut random = Random::new(5);
+    let mut random = Random::for_test(5);
     let (mut accepted, mut all) = (0, 0);
     for _ in 0..300 {
         let stores = stores::in_order(&mut random);
-        accepted += play(&mut random, stores, 30);
-        all += 30;
+        accepted += play(&mut random, stores, 20);
+        all += 20;
     }
     println!("{accepted} of {all} changes accepted");
     assert!(accepted * 5 > all);
@@ -95,13 +95,13 @@ fn quick_is_plain_in_answers_and_bytes_over_lists_of_changes() {
 
 #[test]
 fn quick_is_plain_at_the_limits_of_the_tables() {
-    let mut random = Random::new(6);
-    for _ in 0..12 {
+    let mut random = Random::for_test(6);
+    for _ in 0..8 {
         let size = schemas::Size::full(&mut random);
         let schema = schemas::schema(&mut random, size);
         let mut stores = Stores::default();
         stores.load(&writing::sheet(&schema));
-        play(&mut random, stores, 20);
+        play(&mut random, stores, 15);
     }
 }
 
@@ -124,7 +124,7 @@ fn matter(change: &Change) -> Vec<u16> {
 /// answers to the same change are equal."
 #[test]
 fn quick_answers_depend_on_no_other_kept_sets() {
-    let mut random = Random::new(7);
+    let mut random = Random::for_test(7);
     let mut accepted = 0;
     for _ in 0..1500 {
         let mut stores = match random.once_in(3) {

@@ -14,7 +14,7 @@ fn written(stores: &Stores) -> Vec<u8> {
 
 #[test]
 fn tables_sheet_tables() {
-    let mut random = Random::new(1);
+    let mut random = Random::for_test(1);
     for _ in 0..400 {
         let stores = stores::in_order(&mut random);
         assert_eq!(stores.audit().number, 0);
@@ -33,7 +33,7 @@ fn tables_sheet_tables() {
 
 #[test]
 fn sheet_tables_sheet() {
-    let mut random = Random::new(2);
+    let mut random = Random::for_test(2);
     for _ in 0..400 {
         let schema = schemas::any(&mut random);
         let sheet = writing::sheet(&schema);
@@ -46,7 +46,7 @@ fn sheet_tables_sheet() {
 
 #[test]
 fn a_sheet_with_08_elsewhere_is_another_one_the_second_time_only() {
-    let mut random = Random::new(3);
+    let mut random = Random::for_test(3);
     let mut otherwise = 0;
     for _ in 0..200 {
         let sheet = sheets::other_object_classes(&mut random);
@@ -64,7 +64,7 @@ fn a_sheet_with_08_elsewhere_is_another_one_the_second_time_only() {
 
 #[test]
 fn an_accepted_sheet_is_what_was_written_or_loads_as_the_same_tables() {
-    let mut random = Random::new(4);
+    let mut random = Random::for_test(4);
     let mut accepted = 0;
     for _ in 0..600 {
         let sheet = sheets::any(&mut random);
