@@ -62,19 +62,43 @@ fn a_sheet_with_08_elsewhere_is_another_one_the_second_time_only() {
     assert!(otherwise > 50);
 }
 
+/// The fields side by side in a sound value: tags and values.
+fn fields(mut bytes: &[u8]) -> Vec<(u8, &[u8])> {
+    let mut fields = Vec::new();
+    while let [tag, high, low, rest @ ..] = bytes {
+        let length = usize::from(u16::from_be_bytes([*high, *low]));
+        fields.push((*tag, &rest[..length]));
+        bytes = &rest[length..];
+    }
+    fields
+}
+
+/// "08 stands exactly where oMSyntax is 127"
+fn stands_exactly(sheet: &[u8]) -> bool {
+    let attributes = fields(sheet).into_iter().filter(|(tag, _)| *tag == 0x20);
+    attributes.map(|(_, value)| fields(value)).all(|row| {
+        let object = row.contains(&(0x07, &[127]));
+        let given = row.iter().any(|(tag, _)| *tag == 0x08);
+        object == given
+    })
+}
+
 #[test]
-fn an_accepted_sheet_is_what_was_written_or_loads_as_the_same_tables() {
+fn an_accepted_sheet_comes_back_exactly_if_08_stands_exactly_there() {
     let mut random = Random::for_test(4);
-    let mut accepted = 0;
-    for _ in 0..600 {
+    let (mut back, mut otherwise) = (0, 0);
+    for _ in 0..900 {
         let sheet = sheets::any(&mut random);
         let mut stores = Stores::default();
         if stores.load(&sheet).number == 0 {
+            let second = written(&stores);
+            assert_eq!(second == sheet, stands_exactly(&sheet));
             let mut again = Stores::default();
-            assert_eq!(again.load(&written(&stores)).number, 0);
+            assert_eq!(again.load(&second).number, 0);
             assert!(again == stores);
-            accepted += 1;
+            back += usize::from(second == sheet);
+            otherwise += usize::from(second != sheet);
         }
     }
-    assert!(accepted > 100);
+    assert!(back > 100 && otherwise > 20);
 }

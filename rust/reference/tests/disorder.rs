@@ -48,12 +48,12 @@ fn the_kept_sets_to_begin_with() {
 fn an_added_optional_attribute_is_joined_where_the_kept_reach_holds_the_target() {
     let mut lent = stores();
     poke(&mut lent, 4, [0b10011, 0, 0]);
-    poke(&mut lent, 2, [0b1101, 0b100, 0]);
+    poke(&mut lent, 2, [0b1001, 0b100, 0]);
     poke(&mut lent, 7, [0b1000, 0, 0]);
     assert_eq!(lent.quick(&entry(0x49, 3, 0x15, 1)), (0, 2, 3));
     assert_eq!(kept(&lent, 3), [0b1011, 0, 0b11]);
     assert_eq!(kept(&lent, 4), [0b10011, 0, 0]);
-    assert_eq!(kept(&lent, 2), [0b1101, 0b100, 0b10]);
+    assert_eq!(kept(&lent, 2), [0b1001, 0b100, 0b10]);
     assert_eq!(kept(&lent, 7), [0b1000, 0, 0]);
 }
 

@@ -190,3 +190,36 @@ fn depth_counts_steps_and_refuses_a_superclass_not_earlier() {
     lent.classes[in_class(1, 152)] = 100;
     assert_eq!(lent.depth(1), (18, 0, 0));
 }
+
+/// Stores in shape, though not in order, with every row and all of it used.
+fn fullest() -> Lent {
+    let mut lent = Lent::filled(0);
+    let common = [&[64][..], &[b'a'; 64], &[16], &[1; 64], &[1; 20], &[1]].concat();
+    let object = [&[1, 127, 16][..], &[1; 16]].concat();
+    let attribute = [
+        &common[..],
+        &object,
+        &[1, 1, 1, 1, 1, 1, 1, 1, 1, 1, 1],
+        &[1; 8],
+    ]
+    .concat();
+    let class = [&common[..], &[3, 127, 1, 255], &[0xFF; 160]].concat();
+    assert_eq!((attribute.len(), class.len()), (189, 315));
+    lent.attrs[..2].copy_from_slice(&[1, 0]);
+    lent.attrs[2..LENGTHS[0]].copy_from_slice(&attribute.repeat(256));
+    lent.classes[..2].copy_from_slice(&[128, 0]);
+    lent.classes[2..LENGTHS[1]].copy_from_slice(&class.repeat(128));
+    lent
+}
+
+#[test]
+fn the_longest_sheet_has_410756_bytes() {
+    let lent = fullest();
+    let mut out = vec![0xA5; 410_760];
+    assert_eq!(lent.write(&mut out[..410_755]), (31, 0, 410_756));
+    assert!(out.iter().all(|byte| *byte == 0xA5));
+    assert_eq!(lent.write(&mut out), (0, 0, 410_756));
+    assert_eq!(out[410_756..], [0xA5; 4]);
+    assert_eq!(Lent::filled(0).load(&out[..410_756]), (13, 1, 0));
+    assert_eq!(Lent::filled(0).load(&out), (4, 0, 410_756));
+}
