@@ -99,18 +99,18 @@ fn by_fields(random: &mut Random, bytes: &[u8]) -> Vec<u8> {
     let Some(mut fields) = parse(bytes, true) else {
         return by_bytes(random, bytes.to_vec());
     };
-    let mut containers: Vec<&mut Vec<Field>> = Vec::new();
-    let outermost = random.once_in(6);
-    if outermost {
+    if random.once_in(6) {
         damage_fields(random, &mut fields);
     } else {
-        for field in &mut fields {
-            if let Value::Fields(inner) = &mut field.value {
-                containers.push(inner);
-            }
-        }
-        let place = random.below(containers.len());
-        if let Some(inner) = containers.get_mut(place) {
+        let inside = fields
+            .iter_mut()
+            .filter_map(|field| match &mut field.value {
+                Value::Fields(inner) => Some(inner),
+                Value::Bytes(_) => None,
+            });
+        let mut inside: Vec<&mut Vec<Field>> = inside.collect();
+        let place = random.below(inside.len());
+        if let Some(inner) = inside.get_mut(place) {
             damage_fields(random, inner);
         }
     }
