@@ -1,0 +1,23 @@
+//! The schema keeper of document 01, written from its papers alone, to compare
+//! other keepers with. The stores are decoded into ordinary values, judged by
+//! code that reads like the paper, and encoded back.
+
+mod answer;
+mod big_endian;
+mod calls;
+pub mod changes;
+pub mod closure;
+pub mod layout;
+mod listing;
+mod order;
+mod plain;
+mod quick;
+pub mod reading;
+pub mod rules;
+pub mod schema;
+pub mod syntax;
+pub mod writing;
+
+pub use answer::Answer;
+pub use calls::{audit, depth, load, plain_change, quick_change, write};
+pub use listing::{LONGEST_SHEET, listing};

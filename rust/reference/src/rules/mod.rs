@@ -1,0 +1,97 @@
+//! "Schema rules (000, X.660, RFC 4512)": rules 12 to 29. "All rules bind
+//! defunct rows too."
+
+mod hierarchy;
+mod identity;
+mod naming;
+mod values;
+
+pub use naming::is_live;
+
+use crate::schema::{Attribute, Class, Row, Schema};
+use std::ops::RangeInclusive;
+
+/// "12 to 29: schema rules below"
+pub const RULES: RangeInclusive<u64> = 12..=29;
+
+/// The rows to be judged, and which of them was just added, if one was.
+#[derive(Clone, Copy)]
+pub struct Judged<'a> {
+    /// All rows, as they are after the change.
+    pub schema: &'a Schema,
+    /// The row just added.
+    pub added: Option<Row>,
+}
+
+impl<'a> Judged<'a> {
+    /// Rows none of which was just added.
+    pub fn standing(schema: &'a Schema) -> Self {
+        Judged {
+            schema,
+            added: None,
+        }
+    }
+
+    /// The smallest rule broken by any row, and the first row that breaks it:
+    /// "the table and lowest row that break the rule found, attributes first".
+    pub fn first_broken(&self) -> Option<(u64, Row)> {
+        let breaker = |rule| self.schema.rows().find(|row| self.breaks(rule, *row));
+        RULES
+            .into_iter()
+            .find_map(|rule| Some((rule, breaker(rule)?)))
+    }
+
+    /// The smallest rule broken by one row, "for the changed row alone,
+    /// against all rows".
+    pub fn first_broken_by(&self, row: Row) -> Option<u64> {
+        RULES.into_iter().find(|rule| self.breaks(*rule, row))
+    }
+
+    /// Whether a row breaks a rule.
+    pub fn breaks(&self, rule: u64, row: Row) -> bool {
+        if rule <= 16 {
+            return identity::breaks(self.schema, rule, row);
+        }
+        match row {
+            Row::Attribute(number) => self
+                .schema
+                .attribute(number)
+                .is_some_and(|attribute| self.attribute_breaks(rule, number, attribute)),
+            Row::Class(number) => self
+                .schema
+                .class(number)
+                .is_some_and(|class| self.class_breaks(rule, number, class)),
+        }
+    }
+
+    fn class_breaks(&self, rule: u64, number: u16, class: &Class) -> bool {
+        let schema = self.schema;
+        match rule {
+            17 => naming::attribute_not_live(schema, class),
+            18 => {
+                naming::class_not_live(schema, class)
+                    || naming::superclass_not_earlier(number, class)
+                    || self.added == Some(Row::Class(number)) && naming::lists(class, number)
+            }
+            19 => hierarchy::wrong_auxiliary(schema, class),
+            20 => hierarchy::wrong_possible_superior(schema, class),
+            21 => hierarchy::wrong_category(schema, number, class),
+            22 => hierarchy::chain_astray(schema, number),
+            23 => hierarchy::wrong_naming_attribute(schema, class),
+            _ => false,
+        }
+    }
+
+    fn attribute_breaks(&self, rule: u64, number: u16, attribute: &Attribute) -> bool {
+        let schema = self.schema;
+        match rule {
+            24 => values::mapi_id_taken(schema, number, attribute),
+            25 => values::range_not_rising(attribute),
+            26 => values::syntaxes_do_not_match(attribute),
+            27 => values::wrong_object_class(attribute),
+            28 => values::link_id_taken(schema, number, attribute),
+            29 => values::forward_link_missing(schema, attribute),
+            _ => false,
+        }
+    }
+}

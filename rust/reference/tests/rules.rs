@@ -1,0 +1,315 @@
+//! Rules 12 to 29 at load, rule by rule.
+
+mod common;
+
+use common::{Lent, Row, Triple, sheet, top};
+
+fn load(rows: &[Row]) -> Triple {
+    Lent::filled(0).load(&sheet(rows))
+}
+
+const PASS: Triple = (0, 0, 0);
+
+fn arcs(row: Row, arcs: &[u32]) -> Row {
+    let bytes: Vec<u8> = arcs.iter().flat_map(|arc| arc.to_be_bytes()).collect();
+    row.with(0x02, &bytes)
+}
+
+fn link(row: Row, link: u32) -> Row {
+    row.with(0x0C, &link.to_be_bytes())
+}
+
+fn defunct(row: Row) -> Row {
+    row.with(0x05, &[])
+}
+
+#[test]
+fn rule_12() {
+    let named = |name: &[u8]| load(&[Row::attribute(0).with(0x01, name)]).0;
+    for name in [&b"a"[..], b"Z", b"a-", b"z9--9Z", &[b'q'; 64]] {
+        assert_eq!(named(name), 0);
+    }
+    for name in [
+        &b""[..],
+        b"-a",
+        b"9",
+        b"a_",
+        b"a ",
+        b"a\x00",
+        b"\xC4",
+        b"a\xE4",
+        b"@",
+        b"[",
+    ] {
+        assert_eq!(named(name), 12);
+    }
+}
+
+#[test]
+fn rule_13() {
+    let rows = [
+        Row::attribute(0),
+        Row::attribute(1).with(0x01, b"Same-9z"),
+        top(),
+        defunct(Row::class(1, 1, 0)).with(0x01, b"sAME-9Z"),
+    ];
+    assert_eq!(load(&rows), (13, 1, 1));
+    let rows = [
+        top(),
+        Row::class(1, 1, 0),
+        Row::class(2, 1, 0).with(0x01, b"C001"),
+    ];
+    assert_eq!(load(&rows), (13, 2, 1));
+}
+
+#[test]
+fn rule_14() {
+    let identified = |list: &[u32]| load(&[arcs(Row::attribute(0), list)]).0;
+    for list in [
+        &[0, 0][..],
+        &[0, 39],
+        &[1, 39, 0],
+        &[2, 0],
+        &[2, u32::MAX],
+        &[2; 16],
+    ] {
+        assert_eq!(identified(list), 0);
+    }
+    for list in [
+        &[][..],
+        &[0],
+        &[2],
+        &[0, 40],
+        &[1, 40],
+        &[3, 0],
+        &[u32::MAX, 0],
+    ] {
+        assert_eq!(identified(list), 14);
+    }
+}
+
+#[test]
+fn rules_15_and_16() {
+    let same = |row: Row| arcs(row, &[2, 5, 6, 0]);
+    assert_eq!(load(&[same(Row::attribute(0)), same(top())]), (15, 1, 0));
+    let longer = arcs(top(), &[2, 5, 6, 0, 0]);
+    assert_eq!(load(&[same(Row::attribute(0)), longer]), PASS);
+    let zero = |row: Row| row.with(0x03, &[0; 16]);
+    assert_eq!(load(&[zero(Row::attribute(0))]), PASS);
+    let rows = [Row::attribute(0), zero(Row::attribute(1)), zero(top())];
+    assert_eq!(load(&rows), (16, 1, 1));
+}
+
+/// The class after an active attribute 0, a defunct attribute 1 and row 0.
+fn beside_attributes(class: Row) -> Triple {
+    let naming = |number: u32| Row::attribute(number).with(0x09, &[]);
+    load(&[naming(0), defunct(naming(1)), top(), class])
+}
+
+#[test]
+fn rule_17() {
+    for tag in 0x13..=0x15 {
+        let class = |entry: u16| Row::class(1, 1, 0).with_set(tag, &[entry]);
+        assert_eq!(beside_attributes(class(0)), PASS);
+        assert_eq!(beside_attributes(class(1)), (17, 2, 1));
+        assert_eq!(beside_attributes(class(2)), (17, 2, 1));
+        assert_eq!(beside_attributes(defunct(class(1))), PASS);
+        assert_eq!(beside_attributes(defunct(class(2))), (17, 2, 1));
+    }
+    let class = |entry: u8| Row::class(1, 1, 0).with(0x12, &[0, entry]);
+    assert_eq!(beside_attributes(class(0)), PASS);
+    assert_eq!(beside_attributes(class(1)), (17, 2, 1));
+    assert_eq!(beside_attributes(class(2)), (17, 2, 1));
+    assert_eq!(beside_attributes(defunct(class(1))), PASS);
+}
+
+#[test]
+fn rule_18() {
+    for tag in 0x16..=0x19 {
+        let rows = |class: Row| load(&[top(), class, defunct(Row::class(2, 0, 0))]);
+        let class = |entry: u16| Row::class(1, 0, 0).with_set(tag, &[entry]);
+        assert_eq!(rows(class(1)), PASS);
+        assert_eq!(rows(class(2)), (18, 2, 1));
+        assert_eq!(rows(class(3)), (18, 2, 1));
+        assert_eq!(rows(defunct(class(2))), PASS);
+        assert_eq!(rows(defunct(class(3))), (18, 2, 1));
+    }
+    assert_eq!(
+        load(&[Row::class(0, 2, 1), Row::class(1, 1, 0)]),
+        (18, 2, 0)
+    );
+    assert_eq!(load(&[top(), Row::class(1, 1, 1)]), (18, 2, 1));
+    assert_eq!(
+        load(&[top(), Row::class(1, 1, 2), Row::class(2, 1, 0)]),
+        (18, 2, 1)
+    );
+    assert_eq!(load(&[defunct(top()), Row::class(1, 1, 0)]), (18, 2, 1));
+    assert_eq!(load(&[defunct(top()), defunct(Row::class(1, 1, 0))]), PASS);
+    assert_eq!(load(&[defunct(top())]), PASS);
+}
+
+#[test]
+fn rules_19_and_20() {
+    for category in 0..=3 {
+        for tag in 0x16..=0x19 {
+            let named = Row::class(1, category, 0);
+            let naming = Row::class(2, 1, 0).with_set(tag, &[1]);
+            let expected = match (tag, category) {
+                (0x16 | 0x17, 0 | 3) | (0x18 | 0x19, 0 | 1) => PASS,
+                (0x16 | 0x17, _) => (19, 2, 2),
+                _ => (20, 2, 2),
+            };
+            assert_eq!(load(&[top(), named, naming]), expected);
+        }
+    }
+}
+
+#[test]
+fn rule_21() {
+    for category in [0, 1, 3] {
+        assert_eq!(load(&[Row::class(0, category, 0)]), (21, 2, 0));
+    }
+    // Rows: the superclass's category; columns: 88, structural, abstract,
+    // auxiliary under it.
+    let legal = [
+        [true, true, false, true],
+        [true, true, false, false],
+        [true, true, true, true],
+        [true, false, false, true],
+    ];
+    for (above, row) in (0..).zip(legal) {
+        for (category, legal) in (0..).zip(row) {
+            let rows = [top(), Row::class(1, above, 0), Row::class(2, category, 1)];
+            let expected = if legal { PASS } else { (21, 2, 2) };
+            assert_eq!(load(&rows), expected, "{category} under {above}");
+        }
+    }
+}
+
+#[test]
+fn rule_23() {
+    let naming = |syntax: u8, om_syntax: u8, single: bool| {
+        let attribute = Row::attribute(0)
+            .with(0x06, &[syntax])
+            .with(0x07, &[om_syntax]);
+        let attribute = if single {
+            attribute.with(0x09, &[])
+        } else {
+            attribute
+        };
+        load(&[attribute, top().with(0x12, &[0, 0])])
+    };
+    assert_eq!(naming(12, 64, true), PASS);
+    assert_eq!(naming(12, 64, false), (23, 2, 0));
+    assert_eq!(naming(4, 20, true), (23, 2, 0));
+}
+
+#[test]
+fn rules_24_and_28() {
+    let mapi = |number: u32, mapi: u32| Row::attribute(number).with(0x0D, &mapi.to_be_bytes());
+    assert_eq!(
+        load(&[mapi(0, 7), mapi(1, 8), Row::attribute(2), Row::attribute(3)]),
+        PASS
+    );
+    assert_eq!(
+        load(&[mapi(0, 7), mapi(1, 8), defunct(mapi(2, 8))]),
+        (24, 1, 1)
+    );
+    let link = |number: u32, to: u32| link(Row::attribute(number), to);
+    assert_eq!(
+        load(&[link(0, 2), link(1, 8), defunct(link(2, 8))]),
+        (28, 1, 1)
+    );
+    assert_eq!(load(&[link(0, 2), link(1, 3), link(2, 3)]), (28, 1, 1));
+}
+
+/// The paper's sentence.
+const MATCHES: &str = "1:127, 2:6, 3:27, 4:20, 5:19 or 22, 6:18, 7:127, 8:1, 9:2 or 10, 10:4, \
+                       11:23 or 24, 12:64, 13:127, 14:127, 15:66, 16:65, 17:4";
+
+fn paper_matches(syntax: u8, om_syntax: u8) -> bool {
+    let mut pairs = MATCHES.split(", ").filter_map(|pair| pair.split_once(':'));
+    pairs.any(|(number, om_syntaxes)| {
+        number == syntax.to_string()
+            && om_syntaxes
+                .split(" or ")
+                .any(|one| one == om_syntax.to_string())
+    })
+}
+
+#[test]
+fn rule_26() {
+    let mut accepted = 0;
+    for syntax in 0..=19 {
+        for om_syntax in 0..=255 {
+            let row = Row::attribute(0)
+                .with(0x06, &[syntax])
+                .with(0x07, &[om_syntax]);
+            let expected = match paper_matches(syntax, om_syntax) {
+                true => PASS,
+                false => (26, 1, 0),
+            };
+            assert_eq!(load(&[row]), expected, "{syntax} with {om_syntax}");
+            accepted += u32::from(expected == PASS);
+        }
+    }
+    assert_eq!(accepted, 20);
+}
+
+fn hex(text: &str) -> Vec<u8> {
+    let digits = |place: usize| u8::from_str_radix(&text[place..place + 2], 16);
+    (0..text.len())
+        .step_by(2)
+        .filter_map(|place| digits(place).ok())
+        .collect()
+}
+
+#[test]
+fn rule_27() {
+    let right = [
+        (1, "2B0C0287731C00854A"),
+        (7, "56060102050B1D"),
+        (7, "2A864886F7140101010B"),
+        (13, "2B0C0287731C00855C"),
+        (14, "2B0C0287731C00853E"),
+        (14, "2A864886F7140101010C"),
+    ];
+    for syntax in [1, 7, 13, 14] {
+        let row = Row::attribute(0).with(0x06, &[syntax]).with(0x07, &[127]);
+        for (_, object_class) in right {
+            let fits = right.contains(&(syntax, object_class));
+            let expected = if fits { PASS } else { (27, 1, 0) };
+            let given = hex(object_class);
+            assert_eq!(load(&[row.clone().with(0x08, &given)]), expected);
+            let cut = &given[..given.len() - 1];
+            assert_eq!(load(&[row.clone().with(0x08, cut)]), (27, 1, 0));
+        }
+        let first = right.iter().find(|(number, _)| *number == syntax);
+        let first = first.map_or(Vec::new(), |(_, object_class)| hex(object_class));
+        let written = Lent::loaded(&sheet(std::slice::from_ref(&row))).sheet();
+        assert_eq!(written, sheet(&[row.with(0x08, &first)]));
+    }
+}
+
+#[test]
+fn rule_29() {
+    let link = |number: u32, to: u32| link(Row::attribute(number), to);
+    assert_eq!(load(&[link(0, 5), link(1, 6)]), (29, 1, 0));
+    assert_eq!(load(&[link(0, 5), link(1, 4)]), PASS);
+    assert_eq!(load(&[defunct(link(0, 4)), link(1, 5)]), (29, 1, 1));
+    assert_eq!(load(&[defunct(link(0, 4)), defunct(link(1, 5))]), PASS);
+    assert_eq!(load(&[defunct(link(0, 5))]), (29, 1, 0));
+    assert_eq!(load(&[defunct(link(0, 1)), Row::attribute(1)]), (29, 1, 0));
+    assert_eq!(load(&[link(0, u32::MAX), link(1, u32::MAX - 1)]), PASS);
+}
+
+#[test]
+fn the_number_is_chosen_before_the_row() {
+    let rows = [
+        Row::attribute(0).with(0x07, &[65]),
+        top(),
+        Row::class(1, 1, 0).with_set(0x13, &[9]),
+        Row::class(2, 2, 1),
+    ];
+    assert_eq!(load(&rows), (17, 2, 1));
+}

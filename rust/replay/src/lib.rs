@@ -1,0 +1,12 @@
+//! Replay scripts, "for comparing implementations in every answer and byte":
+//! their steps, the reference playing them, and scripts made at random.
+
+mod hash;
+mod player;
+mod script;
+mod step;
+
+pub use hash::fnv1a;
+pub use player::Player;
+pub use script::Script;
+pub use step::{LONGEST, Step, Unplayable, steps};

@@ -1,0 +1,186 @@
+//! Scripts made at random: a mix of all steps, most of them worth playing on
+//! the stores that the steps before have left.
+
+use crate::player::Player;
+use crate::step::{LONGEST, Step};
+use generate::stores::{disorder_kept, disorder_rows, likely_place};
+use generate::{Random, Stores, changes, sheets};
+use reference::layout::{ATTRIBUTE_STORE, CLASS_STORE, CLOSURE_STORE, Tables};
+use std::collections::VecDeque;
+
+/// The lengths of the three stores.
+const LENGTHS: [usize; 3] = [ATTRIBUTE_STORE, CLASS_STORE, CLOSURE_STORE];
+
+/// At most so many pokes bring stores out of order at a time.
+const MOST_POKES: usize = 60;
+
+/// An endless script.
+#[derive(Clone, Debug)]
+pub struct Script {
+    random: Random,
+    player: Player,
+    planned: VecDeque<Step>,
+}
+
+impl Script {
+    /// The script that this seed begins.
+    pub fn new(seed: u64) -> Script {
+        Script {
+            random: Random::new(seed),
+            player: Player::default(),
+            planned: VecDeque::new(),
+        }
+    }
+
+    fn plan(&mut self) {
+        let empty = self.player.stores().schema().is_empty();
+        match self.random.below(100) {
+            _ if empty && self.random.once_in(2) => self.plan_sound_load(),
+            0..=4 => self.plan_load(),
+            5..=6 => self.plan_sound_load(),
+            7..=29 => self.plan_change(Step::Plain),
+            30..=72 => self.plan_change(Step::Quick),
+            73..=79 => self.planned.push_back(Step::Audit),
+            80..=84 => self.plan_write(),
+            85..=89 => self.plan_depth(),
+            90..=92 => self.plan_poke(),
+            93..=97 => self.plan_disorder(),
+            _ => self.plan_resize(),
+        }
+    }
+
+    fn plan_load(&mut self) {
+        let sheet = sheets::any(&mut self.random);
+        self.planned.push_back(Step::Load(sheet));
+    }
+
+    fn plan_sound_load(&mut self) {
+        let sheet = sheets::sound(&mut self.random);
+        self.planned.push_back(Step::Load(sheet));
+    }
+
+    fn plan_change(&mut self, step: fn(Vec<u8>) -> Step) {
+        let schema = self.player.stores().schema();
+        let change = changes::any(&mut self.random, &schema);
+        self.planned.push_back(step(change));
+    }
+
+    fn plan_write(&mut self) {
+        let length = match self.random.below(6) {
+            0 => LONGEST,
+            1 => self.random.below(200) as u32,
+            _ => self.random.below(60_000) as u32,
+        };
+        self.planned.push_back(Step::Write(length));
+    }
+
+    fn plan_depth(&mut self) {
+        let count = self.player.stores().schema().classes.len();
+        let class = match self.random.once_in(10) {
+            true => self.random.number() as u16,
+            false => self.random.below(count + 1) as u16,
+        };
+        self.planned.push_back(Step::Depth(class));
+    }
+
+    fn plan_poke(&mut self) {
+        let store = self.random.below(3);
+        let lengths = lengths(self.player.stores());
+        if lengths[store] > 0 {
+            let offset = likely_place(&mut self.random, lengths[store]);
+            self.planned.push_back(Step::Poke {
+                store: store as u8,
+                offset: offset as u32,
+                byte: self.random.byte(),
+            });
+        }
+    }
+
+    /// Pokes that keep shape and break order.
+    fn plan_disorder(&mut self) {
+        let Some(tables) = self.player.stores().tables() else {
+            return self.plan_sound_load();
+        };
+        let disordered = self.disordered(tables);
+        let pokes = pokes(self.player.stores(), &disordered);
+        if pokes.len() <= MOST_POKES {
+            self.planned.extend(pokes);
+        }
+    }
+
+    fn disordered(&mut self, mut tables: Tables) -> Stores {
+        match self.random.once_in(2) {
+            true => disorder_rows(&mut self.random, &mut tables.schema),
+            false => disorder_kept(&mut self.random, &mut tables.kept[..8]),
+        }
+        Stores::holding(&tables)
+    }
+
+    /// A store too short for a while, and another length afterwards.
+    fn plan_resize(&mut self) {
+        let store = self.random.below(3);
+        let exact = LENGTHS[store];
+        let short = match self.random.below(3) {
+            0 => self.random.below(exact),
+            _ => exact - 1,
+        };
+        let long = exact + self.random.below(40);
+        let resize = |length: usize| Step::Resize {
+            store: store as u8,
+            length: length as u32,
+        };
+        self.planned.push_back(resize(short));
+        match self.random.below(4) {
+            0 => self.plan_load(),
+            1 => self.plan_change(Step::Plain),
+            2 => self.plan_change(Step::Quick),
+            _ => self
+                .planned
+                .extend([Step::Audit, Step::Depth(0), Step::Write(100)]),
+        }
+        self.planned.push_back(resize(long));
+        if !self.random.once_in(4) {
+            self.plan_sound_load();
+        }
+    }
+}
+
+impl Iterator for Script {
+    type Item = Step;
+
+    fn next(&mut self) -> Option<Step> {
+        while self.planned.is_empty() {
+            self.plan();
+        }
+        let step = self.planned.pop_front()?;
+        self.player.advance(&step);
+        Some(step)
+    }
+}
+
+fn parts(stores: &Stores) -> [&Vec<u8>; 3] {
+    [&stores.attrs, &stores.classes, &stores.closure]
+}
+
+fn lengths(stores: &Stores) -> [usize; 3] {
+    parts(stores).map(Vec::len)
+}
+
+/// The pokes that make one lot of stores, as far as their lengths go, another.
+fn pokes(from: &Stores, to: &Stores) -> Vec<Step> {
+    let mut pokes = Vec::new();
+    for (store, length) in (0..).zip(LENGTHS) {
+        let (old, new) = (
+            parts(from)[usize::from(store)],
+            parts(to)[usize::from(store)],
+        );
+        let pairs = (0..).zip(old.iter().zip(new)).take(length);
+        let changed = pairs.filter(|(_, (old, new))| old != new);
+        pokes.extend(changed.map(|(offset, (_, byte))| Step::Poke {
+            store,
+            offset,
+            byte: *byte,
+        }));
+    }
+    pokes
+}
