@@ -1,0 +1,65 @@
+use native.Mathlib.Omega.{arith}
+use borrow.Author.Needs.{needs}
+use Rattle.rows.proofs.value.passes.Statement.{statement}
+use Rattle.rows.proofs.value.passes.Tie as tie
+use Rattle.rows.proofs.value.passes.Reads as reads
+use Rattle.rows.proofs.value.passes.Lts as lts
+use Rattle.prelude.proofs.part.is_zero.Reads as is-zero-reads
+use Rattle.rows.proofs.value.first_byte.Reads as first-byte-reads
+
+enum-told : tie.Need-enum-told
+enum-told c = search needs
+
+enum-known-test : tie.Need-enum-known-test
+enum-known-test c = search needs
+
+first-byte-requires : tie.Need-first-byte-requires
+first-byte-requires c κs = search needs
+
+cast-result : tie.Need-cast-result
+cast-result c = search needs
+
+enum-told-2 : tie.Need-enum-told-2
+enum-told-2 c = search needs
+
+is-zero-requires : tie.Need-is-zero-requires
+is-zero-requires c κs = search needs
+
+enum-told-3 : tie.Need-enum-told-3
+enum-told-3 c = search needs
+
+first-byte-requires-2 : tie.Need-first-byte-requires-2
+first-byte-requires-2 c κs = search needs
+
+returns : tie.Need-returns
+returns c = ?
+
+returns-2 : tie.Need-returns-2
+returns-2 c = ?
+
+returns-3 : tie.Need-returns-3
+returns-3 c = ?
+
+returns-4 : tie.Need-returns-4
+returns-4 c = ?
+
+returns-5 : tie.Need-returns-5
+returns-5 c = ?
+
+pub passes-spec : {M : Type 1} → statement M
+passes-spec =
+    tie.close
+    (tie.spec
+    enum-told
+    enum-known-test
+    first-byte-requires
+    cast-result
+    enum-told-2
+    is-zero-requires
+    enum-told-3
+    first-byte-requires-2
+    returns
+    returns-2
+    returns-3
+    returns-4
+    returns-5)
