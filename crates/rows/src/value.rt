@@ -7,9 +7,10 @@ use prelude::number::read_u16;
 use prelude::part::copy_padded;
 use prelude::part::is_zero;
 ghost use mathlib.Core.Path.{_≡_};
-ghost use mathlib.Core.Bool.{true};
+ghost use mathlib.Core.Bool.{true, _||_};
 ghost use mathlib.Core.List.{_∷_};
 ghost use Prim.Native.Nat.{_+_, _-_, _≤_};
+ghost use lib.Dec.{eqb};
 ghost use lib.ListN.{length, getD};
 ghost use Rattle.prelude.specs.Part.{padded};
 ghost use Rattle.formats.specs.Shapes.{passes, accepts, image, room};
@@ -22,6 +23,19 @@ pub fn first_byte(v: &[u8]) -> u8
     if 0 < v.len() { v[0] } else { 0 }
 }
 
+// Whether a byte is the tag of an open list.
+fn is_open_list(b: u8) -> bool
+    ensures { λ r. ⌜ r ≡ (eqb b 21 || (eqb b 23 || eqb b 25)) ⌝ }
+{
+    if b == 0x15 {
+        return true;
+    }
+    if b == 0x17 {
+        return true;
+    }
+    b == 0x19
+}
+
 // Whether bytes pass what is asked of them.
 pub fn passes(test: Test, v: &[u8]) -> bool
     ensures { λ r. ⌜ r ≡ passes test (now (v .entry)) ⌝ }
@@ -30,10 +44,7 @@ pub fn passes(test: Test, v: &[u8]) -> bool
         Test::Any => true,
         Test::Below { limit } => (first_byte(v) as usize) < limit,
         Test::NotZero => !is_zero(v),
-        Test::OpenList => {
-            let b = first_byte(v);
-            b == 0x15 || b == 0x17 || b == 0x19
-        }
+        Test::OpenList => is_open_list(first_byte(v)),
     }
 }
 

@@ -1,3 +1,5 @@
+use Rattle.rows.proofs.Storing.{cell-cleared}
+use Rattle.formats.specs.RulesLaws.{width-small}
 use native.Mathlib.Omega.{arith}
 use borrow.Author.Needs.{needs}
 use Rattle.rows.proofs.field.clear_cell.Statement.{statement}
@@ -8,7 +10,7 @@ use Rattle.formats.proofs.shape.width_of.Reads as width-of-reads
 use Rattle.prelude.proofs.part.clear.Reads as clear-reads
 
 width-of-requires : tie.Need-width-of-requires
-width-of-requires c κs = ?
+width-of-requires c κs = width-small _ (c .before .pre .sound)
 
 add-stop : tie.Need-add-stop
 add-stop c = search needs
@@ -29,7 +31,7 @@ same-length : tie.Need-same-length
 same-length c = search needs
 
 returns : tie.Need-returns
-returns c = ?
+returns c = cell-cleared _ _ _ _ _ (c .before .before .before .before .width-of .ensures) (c .before .before .before .before .before .before .pre .within) (c .before .before .clear .ensures)
 
 pub clear-cell-spec : {M : Type 1} → statement M
 clear-cell-spec =
