@@ -29,3 +29,7 @@ padded n s = s ++ zeros (n - length s)
 -- a and b are the same bytes
 unfoldable pub sameBytes : List ℕ → List ℕ → Bool
 sameBytes a b = eqb (length a) (length b) && allBelow (length a) (λ i. eqb (getD a i 0) (getD b i 0))
+
+-- every byte of s is zero
+unfoldable pub isZero : List ℕ → Bool
+isZero s = allBelow (length s) (λ i. eqb (getD s i 0) 0)

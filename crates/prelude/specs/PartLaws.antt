@@ -1,5 +1,6 @@
 -- Laws of parts, rows, zeros and padding.
 use mathlib.Core.Path.{_≡_, refl, sym, ap, _∙_}
+use mathlib.Core.Bool.{true}
 use mathlib.Core.List.{List, [], _∷_, _++_, append-nil}
 use Prim.Native.Nat.{ℕ, zero, suc, _+_, _-_, _*_, _≤_, _<_}
 use native.Mathlib.Omega.{arith}
@@ -11,7 +12,7 @@ use lib.Seq.{drop-at, drop-drop, take-take, take-append-seam, take-add, take-all
 use Rattle.prelude.specs.Says.{Says}
 use Rattle.prelude.specs.SaysLaws.{says-iff, says-and, says-eq}
 use Rattle.prelude.specs.BelowLaws.{says-all}
-use Rattle.prelude.specs.Part.{part, rowAt, zeros, padded, sameBytes}
+use Rattle.prelude.specs.Part.{part, rowAt, zeros, padded, isZero, sameBytes}
 
 -- ---- a part
 
@@ -148,3 +149,16 @@ unfolding sameBytes
 says-same-bytes a b =
     says-iff (says-and (says-eq (length a) (length b)) (says-all (length a) (λ i l. says-eq (getD a i 0) (getD b i 0))))
     (λ h. ext-getD 0 a b (h .0) (h .1), λ e. (ap length e, λ i l. ap (λ (x : List ℕ). getD x i 0) e))
+
+-- the test of zero bytes says that they are zeros
+pub says-zero : (s : List ℕ) → Says (isZero s) (s ≡ zeros (length s))
+unfolding isZero
+says-zero s =
+    says-iff (says-all (length s) (λ i l. says-eq (getD s i 0) 0))
+    (λ h. ext-getD 0 s (zeros (length s)) (sym (zeros-length (length s))) (λ i l. h i l ∙ sym (zeros-at (length s) i)), λ e i l. ap (λ (x : List ℕ). getD x i 0) e ∙ zeros-at (length s) i)
+
+pub zeros-zero : (n : ℕ) → isZero (zeros n) ≡ true
+zeros-zero n = says-zero (zeros n) .passes (ap zeros (sym (zeros-length n)))
+
+pub zero-zeros : (n : ℕ) (s : List ℕ) → length s ≡ n → isZero s ≡ true → s ≡ zeros n
+zero-zeros n s l z = says-zero s .holds z ∙ ap zeros l

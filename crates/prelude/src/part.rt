@@ -2,7 +2,7 @@
 ghost use mathlib.Core.Path.{_≡_};
 ghost use Prim.Native.Nat.{_+_, _*_, _≤_};
 ghost use lib.ListN.{length};
-ghost use Rattle.prelude.specs.Part.{part, rowAt, zeros, padded, sameBytes};
+ghost use Rattle.prelude.specs.Part.{part, rowAt, zeros, padded, sameBytes, isZero};
 
 // The n bytes of s from at: a part of it, no copy.
 pub fn part_of(s: &[u8], at: usize, n: usize) -> &[u8]
@@ -51,6 +51,20 @@ pub fn same(a: &[u8], b: &[u8]) -> bool
     let mut i = 0;
     while i < a.len() {
         if a[i] != b[i] {
+            return false;
+        }
+        i += 1;
+    }
+    true
+}
+
+// Whether every byte of s is zero.
+pub fn is_zero(s: &[u8]) -> bool
+    ensures { λ r. ⌜ r ≡ isZero (now (s .entry)) ⌝ }
+{
+    let mut i = 0;
+    while i < s.len() {
+        if s[i] != 0 {
             return false;
         }
         i += 1;

@@ -1,0 +1,112 @@
+use mathlib.Core.Path.{_∙_, sym}
+use Prim.Native.Nat.{zero-le}
+use lib.ListN.{List·getD-eq-default}
+use Rattle.formats.specs.Formats.{classFields, noRule}
+use Rattle.formats.proofs.Arms.{past}
+use borrow.Author.Needs.{needs}
+use Rattle.formats.proofs.table.class_field.Statement.{statement}
+use Rattle.formats.proofs.table.class_field.Tie as tie
+
+required-requires : tie.Need-required-requires
+required-requires c κs = search needs
+
+required-requires-2 : tie.Need-required-requires-2
+required-requires-2 c κs = search needs
+
+marked-requires : tie.Need-marked-requires
+marked-requires c κs = search needs
+
+optional-requires : tie.Need-optional-requires
+optional-requires c κs = search needs
+
+optional-requires-2 : tie.Need-optional-requires-2
+optional-requires-2 c κs = search needs
+
+optional-requires-3 : tie.Need-optional-requires-3
+optional-requires-3 c κs = search needs
+
+optional-requires-4 : tie.Need-optional-requires-4
+optional-requires-4 c κs = search needs
+
+optional-requires-5 : tie.Need-optional-requires-5
+optional-requires-5 c κs = search needs
+
+optional-requires-6 : tie.Need-optional-requires-6
+optional-requires-6 c κs = search needs
+
+optional-requires-7 : tie.Need-optional-requires-7
+optional-requires-7 c κs = search needs
+
+no-rule-requires : tie.Need-no-rule-requires
+no-rule-requires c κs = search needs
+
+returns : tie.Need-returns
+unfolding classFields
+returns c = rw (c .before .match .keys1) (c .required .ensures)
+
+returns-2 : tie.Need-returns-2
+unfolding classFields
+returns-2 c = rw (c .before .match .keys2) (c .required2 .ensures)
+
+returns-3 : tie.Need-returns-3
+unfolding classFields
+returns-3 c = rw (c .before .match .keys3) (c .marked .ensures)
+
+returns-4 : tie.Need-returns-4
+unfolding classFields
+returns-4 c = rw (c .before .match .keys4) (c .optional .ensures)
+
+returns-5 : tie.Need-returns-5
+unfolding classFields
+returns-5 c = rw (c .before .match .keys5) (c .optional2 .ensures)
+
+returns-6 : tie.Need-returns-6
+unfolding classFields
+returns-6 c = rw (c .before .match .keys6) (c .optional3 .ensures)
+
+returns-7 : tie.Need-returns-7
+unfolding classFields
+returns-7 c = rw (c .before .match .keys7) (c .optional4 .ensures)
+
+returns-8 : tie.Need-returns-8
+unfolding classFields
+returns-8 c = rw (c .before .match .keys8) (c .optional5 .ensures)
+
+returns-9 : tie.Need-returns-9
+unfolding classFields
+returns-9 c = rw (c .before .match .keys9) (c .optional6 .ensures)
+
+returns-10 : tie.Need-returns-10
+unfolding classFields
+returns-10 c = rw (c .before .match .keys10) (c .optional7 .ensures)
+
+returns-11 : tie.Need-returns-11
+unfolding classFields
+returns-11 c = let n = c .before .match .rest in c .no-rule .ensures ∙ sym (List·getD-eq-default classFields noRule (past 9 _ (past 8 _ (past 7 _ (past 6 _ (past 5 _ (past 4 _ (past 3 _ (past 2 _ (past 1 _ (past 0 _ zero-le (n .0 .0 .0 .0 .0 .0 .0 .0 .0 .1)) (n .0 .0 .0 .0 .0 .0 .0 .0 .1)) (n .0 .0 .0 .0 .0 .0 .0 .1)) (n .0 .0 .0 .0 .0 .0 .1)) (n .0 .0 .0 .0 .0 .1)) (n .0 .0 .0 .0 .1)) (n .0 .0 .0 .1)) (n .0 .0 .1)) (n .0 .1)) (n .1)))
+
+pub class-field-spec : {M : Type 1} → statement M
+class-field-spec =
+    tie.close
+    (tie.spec
+    required-requires
+    required-requires-2
+    marked-requires
+    optional-requires
+    optional-requires-2
+    optional-requires-3
+    optional-requires-4
+    optional-requires-5
+    optional-requires-6
+    optional-requires-7
+    no-rule-requires
+    returns
+    returns-2
+    returns-3
+    returns-4
+    returns-5
+    returns-6
+    returns-7
+    returns-8
+    returns-9
+    returns-10
+    returns-11)

@@ -1,0 +1,22 @@
+use mathlib.Core.Path.{_∙_, sym}
+use lib.ListN.{List·getD-append}
+use Rattle.formats.specs.Formats.{commonFields, classFields, noRule}
+use Rattle.formats.proofs.Arms.{common-long, common-past}
+use borrow.Author.Needs.{needs}
+use Rattle.formats.proofs.table.class_rule.Statement.{statement}
+use Rattle.formats.proofs.table.class_rule.Tie as tie
+
+common-rule-requires : tie.Need-common-rule-requires
+common-rule-requires c κs = search needs
+
+returns : tie.Need-returns
+returns c = c .common-rule .ensures ∙ sym (List·getD-append (commonFields (c .before .before .args .defunct)) classFields noRule (c .before .before .args .i) (common-long _ _ (c .before .if1 .taken)))
+
+class-field-requires : tie.Need-class-field-requires
+class-field-requires c κs = search needs
+
+returns-2 : tie.Need-returns-2
+returns-2 c = c .class-field .ensures ∙ common-past (c .before .before .args .defunct) classFields (c .before .before .args .i) (c .before .if1 .left)
+
+pub class-rule-spec : {M : Type 1} → statement M
+class-rule-spec = tie.close (tie.spec common-rule-requires returns class-field-requires returns-2)
