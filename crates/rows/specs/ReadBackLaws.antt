@@ -73,10 +73,9 @@ module _ (s : List ℕ) (end : ℕ) (r : Rule) (rs : List Rule) (o n at : ℕ) (
   cell-stays cell k b ln =
       let inside : r .at + length cell ≤ length row = omega (arith, l .place, laid-le rs (o + width r) n (l .rest)) in
       let grown : o ≤ o + width r = omega arith in
-      let shorter : take o new ≡ take o (splice (r .at) cell row) = sym (take-take o (o + width r) new grown) ∙ ap (take o) b ∙ take-take o (o + width r) (splice (r .at) cell row) grown in
-      (
+      let shorter : take o new ≡ take o (splice (r .at) cell row) = sym (take-take o (o + width r) new grown) ∙ ap (take o) b ∙ take-take o (o + width r) (splice (r .at) cell row) grown in (
         front-part (o + width r) (r .at) (width r) new (splice (r .at) cell row) (omega (arith, l .place)) b ∙ part-splice-same (r .at) cell row inside (width r) (sym k),
-        (shorter ∙ splice-before (r .at) cell row inside o (omega (arith, l .place)), ln ∙ splice-length (r .at) cell row inside)
+        (shorter ∙ splice-before (r .at) cell row inside o (omega (arith, l .place)), ln ∙ splice-length (r .at) cell row inside),
       )
 
   -- a rule that took nothing
