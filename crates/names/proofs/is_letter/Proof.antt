@@ -1,0 +1,27 @@
+use mathlib.Core.Path.{_≡_, refl, sym, ap, _∙_}
+use borrow.Author.Tests.{not-true, not-false, lt-ltb, le-ltb, le-leb, lt-leb, eq-eqb, ne-eqb}
+use Rattle.names.specs.Name.{isLetter}
+use native.Mathlib.Omega.{arith}
+use borrow.Author.Needs.{needs}
+use Rattle.names.proofs.is_letter.Statement.{statement}
+use Rattle.names.proofs.is_letter.Tie as tie
+use Rattle.names.proofs.is_letter.Reads as reads
+use Rattle.names.proofs.is_letter.Lts as lts
+use Rattle.names.proofs.is_between.Reads as is-between-reads
+
+is-between-requires : tie.Need-is-between-requires
+is-between-requires c κs = search needs
+
+returns : tie.Need-returns
+unfolding isLetter
+returns c = rw (← (c .before .is-between .ensures), c .if1 .taken)
+
+is-between-requires-2 : tie.Need-is-between-requires-2
+is-between-requires-2 c κs = search needs
+
+returns-2 : tie.Need-returns-2
+unfolding isLetter
+returns-2 c = rw (← (c .before .before .is-between .ensures), c .before .if1 .left) (c .is-between2 .ensures)
+
+pub is-letter-spec : {M : Type 1} → statement M
+is-letter-spec = tie.close (tie.spec is-between-requires returns is-between-requires-2 returns-2)
