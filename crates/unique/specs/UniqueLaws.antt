@@ -3,20 +3,24 @@ use mathlib.Core.Path.{_≡_, sym, _∙_}
 use mathlib.Core.Bool.{Bool, true, false}
 use mathlib.Core.List.{List}
 use mathlib.Core.Logic.{_⊎_}
-use Prim.Native.Nat.{ℕ}
+use Prim.Native.Nat.{ℕ, _≤_, _<_}
 use native.Mathlib.Omega.{arith}
 use lib.Dec.{eqb}
+use lib.ListN.{length}
 use Rattle.prelude.specs.Says.{Says}
 use Rattle.prelude.specs.SaysLaws.{says, says-and, says-or, says-not, says-eq, says-test, says-iff, says-same, says-false}
 use Rattle.prelude.specs.Below.{anyBelow, Some}
 use Rattle.prelude.specs.BelowLaws.{says-any, any-cong}
 use Rattle.prelude.specs.PartLaws.{says-same-bytes}
 use Rattle.schema.specs.Row.{nameOf, identifierOf, guidOf}
-use Rattle.schema.specs.Store.{Table}
+use Rattle.schema.specs.Layout.{commonWidth, attributeWidth, classWidth}
+use Rattle.schema.specs.Store.{Table, attributeTable, classTable}
+use Rattle.tables.specs.Shaped.{Bounded, AttributesShaped, ClassesShaped}
+use Rattle.tables.specs.ShapedLaws.{attribute-row-length, class-row-length, attribute-rows, class-rows}
 use Rattle.names.specs.NameLaws.{says-same-name, same-name-symmetric}
 use Rattle.unique.specs.declared.Key.{Key}
 use Rattle.unique.specs.declared.Key.the-variants.{Name, Identifier, Guid, Mapi, Link}
-use Rattle.unique.specs.Unique.{sameKey, Counting, clash, rivalIn, heldIn, attributeTaken, classTaken, numberTaken, SameKey, Clash, RivalIn, HeldIn}
+use Rattle.unique.specs.Unique.{sameKey, Counting, clash, rivalIn, heldIn, attributeTaken, classTaken, numberTaken, SameKey, Clash, RivalIn, HeldIn, keyWidth, Comparable}
 
 pub says-same-key : (key : Key) (a b : List ℕ) → Says (sameKey key a b) (SameKey key a b)
 unfolding sameKey
@@ -68,3 +72,35 @@ same-key-turned Link a b s = (λ e. s .0 (s .1 ∙ e), sym (s .1))
 
 pub clash-turned : (counts : Counting) (key : Key) (a b : List ℕ) → Clash counts key a b → Clash counts key b a
 clash-turned counts key a b s = ((s .0 .1, s .0 .0), same-key-turned key a b (s .1))
+
+-- ---- what the comparison reads
+
+pub key-common : (key : Key) → commonWidth ≤ keyWidth key
+key-common Name = omega arith
+key-common Identifier = omega arith
+key-common Guid = omega arith
+key-common Mapi = omega arith
+key-common Link = omega arith
+
+-- every row is wide enough for every key
+pub key-attribute : (key : Key) → keyWidth key ≤ attributeWidth
+key-attribute Name = omega arith
+key-attribute Identifier = omega arith
+key-attribute Guid = omega arith
+key-attribute Mapi = omega arith
+key-attribute Link = omega arith
+
+-- a row of shaped stores has every key
+pub attribute-has : {s : List ℕ} → AttributesShaped s → (key : Key) (k : ℕ) → k < attributeTable s .count → (keyWidth key ≤ length (attributeTable s .row k)) × Bounded (attributeTable s .row k)
+attribute-has {s} h key k l = (omega (arith, key-attribute key, attribute-row-length s k (h .long) (omega (arith, h .count))), h .bounded k l)
+
+pub class-has : {s : List ℕ} → ClassesShaped s → (key : Key) (k : ℕ) → k < classTable s .count → (keyWidth key ≤ length (classTable s .row k)) × Bounded (classTable s .row k)
+class-has {s} h key k l = (omega (arith, key-attribute key, class-row-length s k (h .long) (omega (arith, h .count))), h .bounded k l)
+
+-- and may be compared with every row
+module _ (key : Key) (row : List ℕ) (has : (keyWidth key ≤ length row) × Bounded row) where
+  pub with-attributes : {s : List ℕ} → AttributesShaped s → Comparable key attributeWidth s (attributeTable s .count) row
+  with-attributes h = record { rows = attribute-rows h; wide = key-attribute key; long = has .0; bounded = has .1 }
+
+  pub with-classes : {s : List ℕ} → ClassesShaped s → Comparable key classWidth s (classTable s .count) row
+  with-classes h = record { rows = class-rows h; wide = omega (arith, key-attribute key); long = has .0; bounded = has .1 }

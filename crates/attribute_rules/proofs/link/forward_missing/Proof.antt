@@ -1,0 +1,28 @@
+use mathlib.Core.Path.{_≡_, refl, sym, ap, _∙_}
+use borrow.Author.Tests.{not-true, not-false, lt-ltb, le-ltb, le-leb, lt-leb, eq-eqb, ne-eqb}
+use Rattle.attribute_rules.specs.Links.{isBackLink, forwardMissing}
+use native.Mathlib.Omega.{arith}
+use borrow.Author.Needs.{needs}
+use Rattle.attribute_rules.proofs.link.forward_missing.Statement.{statement}
+use Rattle.attribute_rules.proofs.link.forward_missing.Tie as tie
+use Rattle.attribute_rules.proofs.link.forward_missing.Reads as reads
+use Rattle.attribute_rules.proofs.link.forward_missing.Lts as lts
+use Rattle.attribute_rules.proofs.link.has_forward.Reads as has-forward-reads
+use Rattle.schema.proofs.attribute.link.Reads as link-reads
+
+link-requires : tie.Need-link-requires
+link-requires c κs = search needs
+
+returns : tie.Need-returns
+unfolding forwardMissing isBackLink
+returns c = rw (← (c .before .link .ensures), ne-eqb _ _ (c .if1 .taken))
+
+has-forward-requires : tie.Need-has-forward-requires
+has-forward-requires c κs = search needs
+
+returns-2 : tie.Need-returns-2
+unfolding forwardMissing isBackLink
+returns-2 c = rw (← (c .before .before .link .ensures), eq-eqb _ _ (c .before .if1 .left), ← (c .has-forward .ensures))
+
+pub forward-missing-spec : {M : Type 1} → statement M
+forward-missing-spec = tie.close (tie.spec link-requires returns has-forward-requires returns-2)

@@ -1,0 +1,42 @@
+use mathlib.Core.Path.{_≡_, refl, sym, ap, _∙_}
+use borrow.Author.Tests.{not-true, not-false, lt-ltb, le-ltb, le-leb, lt-leb, eq-eqb, ne-eqb}
+use native.Mathlib.Omega.{arith}
+use borrow.Author.Needs.{needs}
+use Rattle.attribute_rules.proofs.syntax.is_pair.Statement.{statement}
+use Rattle.attribute_rules.proofs.syntax.is_pair.Tie as tie
+use Rattle.attribute_rules.proofs.syntax.is_pair.Reads as reads
+use Rattle.attribute_rules.proofs.syntax.is_pair.Lts as lts
+use Rattle.prelude.proofs.number.byte_at.Reads as byte-at-reads
+
+mul-byte-at : tie.Need-mul-byte-at
+mul-byte-at c = search needs
+
+byte-at-requires : tie.Need-byte-at-requires
+byte-at-requires c κs = search needs
+
+returns : tie.Need-returns
+returns c = rw (← (c .before .byte-at .ensures), ne-eqb _ _ (c .if1 .taken))
+
+mul-byte-at-2 : tie.Need-mul-byte-at-2
+mul-byte-at-2 c = search needs
+
+add-byte-at : tie.Need-add-byte-at
+add-byte-at c = search needs
+
+byte-at-requires-2 : tie.Need-byte-at-requires-2
+byte-at-requires-2 c κs = search needs
+
+returns-2 : tie.Need-returns-2
+returns-2 c = rw (← (c .before .before .byte-at .ensures), eq-eqb _ _ (c .before .if1 .left), ← (c .byte-at2 .ensures))
+
+pub is-pair-spec : {M : Type 1} → statement M
+is-pair-spec =
+    tie.close
+    (tie.spec
+    mul-byte-at
+    byte-at-requires
+    returns
+    mul-byte-at-2
+    add-byte-at
+    byte-at-requires-2
+    returns-2)

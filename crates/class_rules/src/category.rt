@@ -1,0 +1,8 @@
+// Rule 21.
+pub enum Inheritance {
+    Sound,
+    RootNotAbstract,
+    AbstractUnderOther,
+    AuxiliaryUnderStructural,
+    StructuralUnderAuxiliary,
+}

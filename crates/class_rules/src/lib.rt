@@ -1,0 +1,3 @@
+// Rules of a class row.
+pub mod category;
+pub mod named;

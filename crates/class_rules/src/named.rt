@@ -1,0 +1,5 @@
+// The lists of classes.
+pub enum ClassList {
+    Auxiliaries,
+    Superiors,
+}
