@@ -3,11 +3,11 @@ use mathlib.Core.Path.{_≡_, refl, sym, ap, _∙_}
 use mathlib.Core.Bool.{Bool, true, false, cond, not, _&&_, _||_}
 use mathlib.Core.List.{List}
 use mathlib.Core.Logic.{_⊎_, inl, inr, ⊎-elim}
-use Prim.Native.Nat.{ℕ, _<_}
+use Prim.Native.Nat.{ℕ, _≤_, _<_}
 use native.Mathlib.Omega.{arith}
 use lib.Dec.{ltb, eqb}
 use Rattle.prelude.specs.Says.{Says}
-use Rattle.prelude.specs.SaysLaws.{says, says-and, says-or, says-not, says-eq, says-lt, says-test, says-iff, says-split}
+use Rattle.prelude.specs.SaysLaws.{says, says-and, says-or, says-not, says-eq, says-lt, says-test, says-iff, says-split, says-true, says-false}
 use Rattle.prelude.specs.BelowLaws.{says-any}
 use Rattle.schema.specs.Numbers.{classLimit}
 use Rattle.schema.specs.ClassRow.{categoryOf, superclassOf}
@@ -66,3 +66,19 @@ says-inheritance-wrong c k =
     let above : ℕ = categoryOf (c .row (superclassOf (c .row k))) in
     rw (test-of (eqb k 0) (ltb (superclassOf (c .row k)) (c .count)) (rootInheritance own) (inheritance own above))
     (says-or (says-and (says-eq k 0) (says-root own)) (says-and (says-not (says-eq k 0)) (says-and (says-lt (superclassOf (c .row k)) (c .count)) (says-illegal own above))))
+
+-- ---- for a function that looks for the superclass
+
+module _ (c : Table) (k : ℕ) where
+  pub inheritance-root : k ≡ 0 → inheritanceOf c k ≡ rootInheritance (categoryOf (c .row k))
+  unfolding inheritanceOf
+  inheritance-root e = rw (says-true (says-eq k 0) e)
+
+  pub inheritance-lost : ¬ (k ≡ 0) → c .count ≤ superclassOf (c .row k) → inheritanceOf c k ≡ Sound
+  unfolding inheritanceOf
+  inheritance-lost d h = rw (says-false (says-eq k 0) d, says-false (says-lt (superclassOf (c .row k)) (c .count)) (λ l. omega arith))
+
+  pub inheritance-at : ¬ (k ≡ 0) → (s : ℕ) → superclassOf (c .row k) ≡ s → s < c .count
+      → inheritanceOf c k ≡ inheritance (categoryOf (c .row k)) (categoryOf (c .row s))
+  unfolding inheritanceOf
+  inheritance-at d s e l = rw (says-false (says-eq k 0) d, e, says-true (says-lt s (c .count)) l)

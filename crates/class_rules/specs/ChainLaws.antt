@@ -3,7 +3,7 @@ use mathlib.Core.Path.{_≡_, refl, sym, ap, _∙_}
 use mathlib.Core.Bool.{Bool, true, false, true≢false}
 use mathlib.Core.List.{List}
 use mathlib.Core.Logic.{_⊎_, inl, inr, ⊎-elim}
-use Prim.Native.Nat.{ℕ, zero, suc, _≤_, _<_}
+use Prim.Native.Nat.{ℕ, zero, suc, _-_, _≤_, _<_}
 use native.Mathlib.Omega.{arith}
 use native.Mathlib.Decide.{ℕ-discrete}
 use lib.Dec.{ltb, eqb}
@@ -43,13 +43,22 @@ pub says-chain-wrong : (t : Table) (k : ℕ) → Says (chainWrong t k) (¬ (Chai
 unfolding chainWrong
 says-chain-wrong t k = says-not (says-chain t chainLimit k)
 
--- a chain is followed on: the step of a loop
+-- ---- for a loop that follows the chain
+
 pub chain-root : (t : Table) (n : ℕ) → chainEnds t n 0 ≡ true
 chain-root t n = says-true (says-chain t n 0) (root-within t n 0 refl)
 
-pub chain-step : (t : Table) (n c : ℕ) → ¬ (c ≡ 0) → c < t .count → chainEnds t (suc n) c ≡ chainEnds t n (superclassOf (t .row c))
+pub chain-step : (t : Table) (n c : ℕ) → 0 < n → ¬ (c ≡ 0) → c < t .count → chainEnds t n c ≡ chainEnds t (n - 1) (superclassOf (t .row c))
 unfolding chainEnds
-chain-step t n c d l = rw (says-false (says-eq c 0) d, says-true (says-lt c (t .count)) l)
+chain-step t zero c p d l = absurd (omega arith)
+chain-step t (suc n) c p d l =
+    let e : suc n - 1 ≡ n = omega arith in
+    rw (says-false (says-eq c 0) d, says-true (says-lt c (t .count)) l, e)
+
+-- no step is left
+pub chain-over : (t : Table) (n c : ℕ) → n ≤ 0 → chainEnds t n c ≡ eqb c 0
+unfolding chainEnds
+chain-over t n c h = let e : n ≡ 0 = omega arith in rw e
 
 pub chain-lost : (t : Table) (n c : ℕ) → ¬ (c ≡ 0) → t .count ≤ c → chainEnds t n c ≡ false
 chain-lost t n c d l = says-false (says-chain t n c) (λ h. ⊎-elim d (λ q. omega (arith, q .0)) (back (h .steps) (h .chain) (omega arith)))

@@ -1,0 +1,35 @@
+use mathlib.Core.Path.{_≡_, refl, sym, ap, _∙_}
+use borrow.Author.Tests.{not-true, not-false, lt-ltb, le-ltb, le-leb, lt-leb, eq-eqb, ne-eqb}
+use lib.ListN.{length}
+use Rattle.tables.specs.ShapedLaws.{attribute-row-length, class-row-length}
+use Rattle.class_rules.specs.Named.{lists, namedBy, namesAttribute, namesClass, attributeNotLive, classNotLive, superclassLate, classWrong, listsItself, namingWrong}
+use native.Mathlib.Omega.{arith}
+use borrow.Author.Needs.{needs}
+use Rattle.class_rules.proofs.live.lists_itself.Statement.{statement}
+use Rattle.class_rules.proofs.live.lists_itself.Tie as tie
+use Rattle.class_rules.proofs.live.lists_itself.Reads as reads
+use Rattle.class_rules.proofs.live.lists_itself.Lts as lts
+use Rattle.class_rules.proofs.named.is_listed.Reads as is-listed-reads
+use Rattle.schema.proofs.store.class_row.Reads as class-row-reads
+
+class-row-requires : tie.Need-class-row-requires
+class-row-requires c κs = search needs
+
+is-listed-requires : tie.Need-is-listed-requires
+is-listed-requires c κs = omega (arith, ap length (c .class-row .ensures), class-row-length (c .before .before .args .classes .now) (c .before .before .args .c .0) (c .before .before .pre .0 .long) (omega (arith, c .before .before .pre .0 .count)))
+
+returns : tie.Need-returns
+unfolding listsItself
+returns c = rw (← (c .before .before .class-row .ensures), ← (c .before .is-listed .ensures), c .if1 .taken)
+
+is-listed-requires-2 : tie.Need-is-listed-requires-2
+is-listed-requires-2 c κs = omega (arith, ap length (c .before .before .class-row .ensures), class-row-length (c .before .before .before .before .args .classes .now) (c .before .before .before .before .args .c .0) (c .before .before .before .before .pre .0 .long) (omega (arith, c .before .before .before .before .pre .0 .count)))
+
+returns-2 : tie.Need-returns-2
+unfolding listsItself
+returns-2 c = rw (← (c .before .before .before .class-row .ensures), ← (c .before .before .is-listed .ensures), c .before .if1 .left) (c .is-listed2 .ensures)
+
+pub lists-itself-spec : {M : Type 1} → statement M
+lists-itself-spec =
+    tie.close
+    (tie.spec class-row-requires is-listed-requires returns is-listed-requires-2 returns-2)

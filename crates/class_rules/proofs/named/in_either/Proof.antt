@@ -1,0 +1,26 @@
+use mathlib.Core.Path.{_≡_, refl, sym, ap, _∙_}
+use borrow.Author.Tests.{not-true, not-false, lt-ltb, le-ltb, le-leb, lt-leb, eq-eqb, ne-eqb}
+use lib.ListN.{length}
+use Rattle.tables.specs.ShapedLaws.{attribute-row-length, class-row-length}
+use native.Mathlib.Omega.{arith}
+use borrow.Author.Needs.{needs}
+use Rattle.class_rules.proofs.named.in_either.Statement.{statement}
+use Rattle.class_rules.proofs.named.in_either.Tie as tie
+use Rattle.class_rules.proofs.named.in_either.Reads as reads
+use Rattle.class_rules.proofs.named.in_either.Lts as lts
+use Rattle.sets.proofs.has.Reads as has-reads
+
+has-requires : tie.Need-has-requires
+has-requires c κs = search needs
+
+returns : tie.Need-returns
+returns c = rw (← (c .before .has .ensures), c .if1 .taken)
+
+has-requires-2 : tie.Need-has-requires-2
+has-requires-2 c κs = search needs
+
+returns-2 : tie.Need-returns-2
+returns-2 c = rw (← (c .before .before .has .ensures), c .before .if1 .left) (c .has2 .ensures)
+
+pub in-either-spec : {M : Type 1} → statement M
+in-either-spec = tie.close (tie.spec has-requires returns has-requires-2 returns-2)

@@ -1,0 +1,45 @@
+use mathlib.Core.Path.{_≡_, refl, sym, ap, _∙_}
+use borrow.Author.Tests.{not-true, not-false, lt-ltb, le-ltb, le-leb, lt-leb, eq-eqb, ne-eqb}
+use lib.ListN.{length}
+use Rattle.tables.specs.ShapedLaws.{attribute-row-length, class-row-length}
+use Rattle.class_rules.specs.Named.{lists, namedBy, namesAttribute, namesClass, attributeNotLive, classNotLive, superclassLate, classWrong, listsItself, namingWrong}
+use native.Mathlib.Omega.{arith}
+use borrow.Author.Needs.{needs}
+use Rattle.class_rules.proofs.named.names_class.Statement.{statement}
+use Rattle.class_rules.proofs.named.names_class.Tie as tie
+use Rattle.class_rules.proofs.named.names_class.Reads as reads
+use Rattle.class_rules.proofs.named.names_class.Lts as lts
+use Rattle.class_rules.proofs.named.is_listed.Reads as is-listed-reads
+use Rattle.class_rules.proofs.named.superclass_number.Reads as superclass-number-reads
+
+superclass-number-requires : tie.Need-superclass-number-requires
+superclass-number-requires c κs = search needs
+
+returns : tie.Need-returns
+unfolding namesClass
+returns c = rw (← (c .before .before .superclass-number .ensures), eq-eqb _ _ (c .if1 .taken))
+
+is-listed-requires : tie.Need-is-listed-requires
+is-listed-requires c κs = search needs
+
+returns-2 : tie.Need-returns-2
+unfolding namesClass
+returns-2 c = rw (← (c .before .before .before .before .superclass-number .ensures), ne-eqb _ _ (c .before .before .if1 .left), ← (c .before .is-listed .ensures), c .if2 .taken)
+
+is-listed-requires-2 : tie.Need-is-listed-requires-2
+is-listed-requires-2 c κs = search needs
+
+returns-3 : tie.Need-returns-3
+unfolding namesClass
+returns-3 c = rw (← (c .before .before .before .before .before .superclass-number .ensures), ne-eqb _ _ (c .before .before .before .if1 .left), ← (c .before .before .is-listed .ensures), c .before .if2 .left) (c .is-listed2 .ensures)
+
+pub names-class-spec : {M : Type 1} → statement M
+names-class-spec =
+    tie.close
+    (tie.spec
+    superclass-number-requires
+    returns
+    is-listed-requires
+    returns-2
+    is-listed-requires-2
+    returns-3)
