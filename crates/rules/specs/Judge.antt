@@ -4,11 +4,11 @@ use mathlib.Core.Bool.{false, cond, _||_}
 use mathlib.Core.List.{List, [], _∷_}
 use Prim.Native.Nat.{ℕ, _<_}
 use Rattle.prelude.specs.Below.{anyBelow, firstBelow}
-use Rattle.prelude.specs.First.{Case, _when_}
+use Rattle.prelude.specs.First.{Case}
 use Rattle.schema.specs.Answers.{answer, done}
 use Rattle.schema.specs.Store.{Table}
 use Rattle.schema.specs.declared.answer.Answer.{Answer}
-use Rattle.rules.specs.Rules.{RowRule, schemaRules}
+use Rattle.rules.specs.Rules.{RowRule, schemaRules, casesOf}
 
 -- one rule over n attributes and m classes: the lowest attribute that breaks it, else the lowest class, else an answer
 unfoldable pub judgeRule : RowRule → ℕ → ℕ → Answer → Answer
@@ -25,10 +25,9 @@ judgeRules (r ∷ rs) n m = judgeRule r n m (judgeRules rs n m)
 unfoldable pub judged : Table → Table → Answer
 judged a c = judgeRules (schemaRules a c) (a .count) (c .count)
 
--- the rules as cases: some row breaks the rule
+-- the rules that some row breaks
 abbrev pub brokenCases : List RowRule → ℕ → ℕ → List Case
-brokenCases [] n m = []
-brokenCases (r ∷ rs) n m = (r .number when (anyBelow n (r .attribute) || anyBelow m (r .class))) ∷ brokenCases rs n m
+brokenCases rs n m = casesOf (λ r. anyBelow n (r .attribute) || anyBelow m (r .class)) rs
 
 -- no row breaks a rule
 pub record Kept (r : RowRule) (n m : ℕ) : Type 0 where

@@ -80,11 +80,19 @@ abbrev pub numbersOf : List RowRule → List ℕ
 numbersOf [] = []
 numbersOf (r ∷ rs) = r .number ∷ numbersOf rs
 
--- the rules for one row, as cases: the first that holds is the rule that the row breaks
+-- rules as cases: the first that a test picks
+abbrev pub casesOf : (RowRule → Bool) → List RowRule → List Case
+casesOf test [] = []
+casesOf test (r ∷ rs) = (r .number when test r) ∷ casesOf test rs
+
+-- the rules that one row breaks
 abbrev pub attributeCases : List RowRule → ℕ → List Case
-attributeCases [] k = []
-attributeCases (r ∷ rs) k = (r .number when r .attribute k) ∷ attributeCases rs k
+attributeCases rs k = casesOf (λ r. r .attribute k) rs
 
 abbrev pub classCases : List RowRule → ℕ → List Case
-classCases [] k = []
-classCases (r ∷ rs) k = (r .number when r .class k) ∷ classCases rs k
+classCases rs k = casesOf (λ r. r .class k) rs
+
+-- the rules of some numbers, in that order
+abbrev pub rulesOf : List RowRule → List ℕ → List RowRule
+rulesOf rs [] = []
+rulesOf rs (n ∷ ns) = numbered rs n ∷ rulesOf rs ns
