@@ -1,16 +1,15 @@
 -- What the test of a range says, and how it is computed by numbers without a sign.
-use mathlib.Core.Path.{_≡_, refl, sym, ap, ap₂, _∙_}
+use mathlib.Core.Path.{_≡_, refl, sym}
 use mathlib.Core.Bool.{Bool, true, false, cond, not, false≢true}
 use mathlib.Core.List.{List}
-use mathlib.Core.Logic.{_⊎_, inl, inr, ⊎-elim}
-use Prim.Native.Nat.{ℕ, _+_, _-_, _≤_, _<_, _^_}
+use Prim.Native.Nat.{ℕ, _+_, _-_, _≤_, _<_}
 use native.Mathlib.Omega.{arith}
 use native.Mathlib.Decide.{decLt}
 use lib.Dec.{T, ltb}
 use lib.IntN.{ℤ, pos, negsuc}
-use lib.Signed.{ltZ, leZ, _≤ℤ_, _<ℤ_, ltZ-yes, ltZ-no, clashℤ}
+use lib.Signed.{ltZ, _≤ℤ_, ltZ-yes, ltZ-no, clashℤ}
 use Rattle.prelude.specs.Says.{Says}
-use Rattle.prelude.specs.SaysLaws.{says-test, says-lt, says-split, says-same, says-iff, says-true, says-false}
+use Rattle.prelude.specs.SaysLaws.{says-lt, says-same, says-iff, says-true, says-false}
 use Rattle.schema.specs.AttributeRow.{rangeLower, rangeUpper}
 use Rattle.schema.specs.declared.attribute.Bound.{Bound}
 use Rattle.schema.specs.declared.attribute.Bound.the-variants.{Given, Absent}

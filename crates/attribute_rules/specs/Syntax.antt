@@ -5,7 +5,7 @@ use mathlib.Core.List.{List, [], _∷_, _++_}
 use Prim.Native.Nat.{ℕ, _+_, _*_, _≤_, _<_}
 use lib.Dec.{eqb}
 use lib.ListN.{length, getD}
-use Rattle.prelude.specs.Part.{part, rowAt, padded, sameBytes}
+use Rattle.prelude.specs.Part.{rowAt, padded, sameBytes}
 use Rattle.prelude.specs.Below.{anyBelow, Some}
 use Rattle.schema.specs.Row.{countedAt}
 use Rattle.schema.specs.AttributeRow.{syntaxOf, omSyntaxOf, objectClassOf}

@@ -1,13 +1,12 @@
 -- What the tests of categories say.
-use mathlib.Core.Path.{_≡_, refl, sym, ap, _∙_}
+use mathlib.Core.Path.{_≡_, refl, sym}
 use mathlib.Core.Bool.{Bool, true, false, cond, not, _&&_, _||_}
 use mathlib.Core.List.{List}
-use mathlib.Core.Logic.{_⊎_, inl, inr, ⊎-elim}
 use Prim.Native.Nat.{ℕ, _≤_, _<_}
 use native.Mathlib.Omega.{arith}
 use lib.Dec.{ltb, eqb}
 use Rattle.prelude.specs.Says.{Says}
-use Rattle.prelude.specs.SaysLaws.{says, says-and, says-or, says-not, says-eq, says-lt, says-test, says-iff, says-split, says-true, says-false}
+use Rattle.prelude.specs.SaysLaws.{says, says-and, says-or, says-not, says-eq, says-lt, says-true, says-false}
 use Rattle.prelude.specs.BelowLaws.{says-any}
 use Rattle.schema.specs.Numbers.{classLimit}
 use Rattle.schema.specs.ClassRow.{categoryOf, superclassOf}

@@ -1,7 +1,6 @@
 -- What the test of the chain says, and that rule 22 never holds where rule 18 holds for no row.
-use mathlib.Core.Path.{_≡_, refl, sym, ap, _∙_}
-use mathlib.Core.Bool.{Bool, true, false, true≢false}
-use mathlib.Core.List.{List}
+use mathlib.Core.Path.{_≡_, refl}
+use mathlib.Core.Bool.{true, false}
 use mathlib.Core.Logic.{_⊎_, inl, inr, ⊎-elim}
 use Prim.Native.Nat.{ℕ, zero, suc, _-_, _≤_, _<_}
 use native.Mathlib.Omega.{arith}
@@ -11,7 +10,7 @@ use Rattle.prelude.specs.Says.{Says}
 use Rattle.prelude.specs.SaysLaws.{says-and, says-or, says-not, says-eq, says-lt, says-iff, says-true, says-false, says-fails, says-split}
 use Rattle.schema.specs.ClassRow.{superclassOf}
 use Rattle.schema.specs.Store.{Table}
-use Rattle.class_rules.specs.Named.{superclassLate, SuperclassEarly, classWrong, ClassNotLive}
+use Rattle.class_rules.specs.Named.{classWrong}
 use Rattle.class_rules.specs.NamedLaws.{says-class-wrong}
 use Rattle.class_rules.specs.Chain.{chainEnds, chainLimit, chainWrong, Chain, top, up, ChainWithin}
 

@@ -2,21 +2,21 @@
 use mathlib.Core.Path.{_≡_, refl, sym, ap, _∙_}
 use mathlib.Core.Bool.{Bool, true, false, _||_}
 use mathlib.Core.List.{List, [], _∷_}
-use mathlib.Core.Logic.{_⊎_, inl, inr, ⊎-elim, _↔_}
+use mathlib.Core.Logic.{_↔_}
 use Prim.Native.Nat.{ℕ, _+_, _≤_, _<_}
 use lib.ListN.{length, getD, drop}
 use native.Mathlib.Omega.{arith}
-use Rattle.prelude.specs.SaysLaws.{says-split, says-test, says-or, says-fails, says-true, says-false, says-lt}
+use Rattle.prelude.specs.SaysLaws.{says-true, says-false, says-lt}
 use Rattle.prelude.specs.Below.{anyBelow, firstBelow}
-use Rattle.prelude.specs.BelowLaws.{any-none, any-false, first-some, first-any}
-use Rattle.prelude.specs.First.{Case, _when_, firstOf, NoneHolds, NonZero, Rising}
+use Rattle.prelude.specs.BelowLaws.{any-none, any-false, first-any}
+use Rattle.prelude.specs.First.{_when_, firstOf, NoneHolds, Rising}
 use Rattle.prelude.specs.FirstLaws.{first-hit, first-miss, first-none, zero-iff-none}
 use Rattle.schema.specs.Answers.{answer, done}
 use Rattle.schema.specs.Store.{Table}
 use Rattle.schema.specs.declared.answer.Answer.{Answer}
 use Rattle.rules.specs.Rules.{RowRule, schemaRules, numbered, rulesOf}
 use Rattle.rules.specs.RulesLaws.{rules-next, rules-end, numbered-number}
-use Rattle.rules.specs.Judge.{judgeRule, judgeRules, judged, brokenCases, Kept, AllKept}
+use Rattle.rules.specs.Judge.{judgeRule, judgeRules, judged, brokenCases, AllKept}
 
 -- ---- one rule, by case
 
@@ -149,6 +149,7 @@ rising a c n m = omega arith
 pub judged-zero : (a c : Table) → (judged a c .number ≡ 0) ↔ AllKept (schemaRules a c) (a .count) (c .count)
 unfolding judged
 judged-zero a c =
-    let rs = schemaRules a c in
-    (λ e. none-kept rs (a .count) (c .count) (zero-iff-none (brokenCases rs (a .count) (c .count)) (omega arith) .0 (sym (judge-number rs (a .count) (c .count)) ∙ e)),
-    λ h. judge-number rs (a .count) (c .count) ∙ zero-iff-none (brokenCases rs (a .count) (c .count)) (omega arith) .1 (kept-none rs (a .count) (c .count) h))
+    let rs = schemaRules a c in (
+      λ e. none-kept rs (a .count) (c .count) (zero-iff-none (brokenCases rs (a .count) (c .count)) (omega arith) .0 (sym (judge-number rs (a .count) (c .count)) ∙ e)),
+      λ h. judge-number rs (a .count) (c .count) ∙ zero-iff-none (brokenCases rs (a .count) (c .count)) (omega arith) .1 (kept-none rs (a .count) (c .count) h),
+    )

@@ -9,7 +9,7 @@ use Rattle.prelude.specs.Part.{part, zeros, padded, sameBytes}
 use Rattle.prelude.specs.BigEndian.{bigEndian, bigEndianBytes}
 use Rattle.prelude.specs.Below.{anyBelow, allBelow, firstBelow}
 use Rattle.sets.specs.Sets.{digit, bit, member}
-use Rattle.schema.specs.Answers.{answer, done}
+use Rattle.schema.specs.Answers.{answer}
 use Rattle.schema.specs.AttributeRow.{boundAt}
 use Rattle.schema.specs.ClassRow.{namingOf}
 use Rattle.schema.specs.Store.{Table}

@@ -1,15 +1,15 @@
 -- Finding a rule by its number: what functions that go by a list of numbers cite.
 use mathlib.Core.Path.{_≡_, refl, sym, ap, _∙_}
-use mathlib.Core.Bool.{Bool, true, false, cond, _&&_}
+use mathlib.Core.Bool.{Bool, true, false, _&&_}
 use mathlib.Core.List.{List, [], _∷_, _++_}
-use mathlib.Core.Logic.{_⊎_, inl, inr, ⊎-elim}
+use mathlib.Core.Logic.{⊎-elim}
 use Prim.Native.Nat.{ℕ, _+_, _≤_, _<_}
 use native.Mathlib.Omega.{arith}
 use native.Mathlib.Numerals.{add-one}
 use lib.Dec.{eqb}
 use lib.ListN.{length, getD, drop, drop-of-length-le}
 use lib.Seq.{drop-cons}
-use Rattle.prelude.specs.SaysLaws.{says-eq, says-split, says-true, says-false}
+use Rattle.prelude.specs.SaysLaws.{says-eq, says-split, says-true}
 use Rattle.prelude.specs.First.{Case, _when_, firstOf}
 use Rattle.prelude.specs.FirstLaws.{first-hit, first-miss, first-none, append-first, append-second}
 use Rattle.class_rules.specs.Named.{listsItself}

@@ -34,7 +34,26 @@ pub const FIRST_ORDER: [u8; 6] = [12, 13, 14, 15, 16, 17];
 
 pub const LATER_ORDER: [u8; 12] = [18, 19, 20, 21, 22, 23, 24, 25, 26, 27, 28, 29];
 
-pub const ORDER: [u8; 18] = [12, 13, 14, 15, 16, 17, 18, 19, 20, 21, 22, 23, 24, 25, 26, 27, 28, 29];
+pub const ORDER: [u8; 18] = [
+    12,
+    13,
+    14,
+    15,
+    16,
+    17,
+    18,
+    19,
+    20,
+    21,
+    22,
+    23,
+    24,
+    25,
+    26,
+    27,
+    28,
+    29,
+];
 
 // Whether an attribute breaks the rule of a number.
 pub fn attribute_breaks(attributes: &[u8], classes: &[u8], number: u8, a: AttributeNumber) -> bool

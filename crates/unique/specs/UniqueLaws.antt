@@ -1,15 +1,13 @@
 -- What the tests of uniqueness say, and that having the same key is symmetric.
 use mathlib.Core.Path.{_≡_, sym, _∙_}
-use mathlib.Core.Bool.{Bool, true, false}
+use mathlib.Core.Bool.{false}
 use mathlib.Core.List.{List}
 use mathlib.Core.Logic.{_⊎_}
 use Prim.Native.Nat.{ℕ, _≤_, _<_}
 use native.Mathlib.Omega.{arith}
-use lib.Dec.{eqb}
 use lib.ListN.{length}
 use Rattle.prelude.specs.Says.{Says}
-use Rattle.prelude.specs.SaysLaws.{says, says-and, says-or, says-not, says-eq, says-test, says-iff, says-same, says-false}
-use Rattle.prelude.specs.Below.{anyBelow, Some}
+use Rattle.prelude.specs.SaysLaws.{says, says-and, says-or, says-not, says-eq, says-test, says-false}
 use Rattle.prelude.specs.BelowLaws.{says-any, any-cong}
 use Rattle.prelude.specs.PartLaws.{says-same-bytes}
 use Rattle.schema.specs.Row.{nameOf, identifierOf, guidOf}

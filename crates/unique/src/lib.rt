@@ -60,7 +60,15 @@ fn same_key(key: Key, a: &[u8], b: &[u8]) -> bool
 }
 
 // Whether row j of a table, but not row own, has the key of a row.
-fn is_rival(rows: &[u8], width: usize, count: usize, key: Key, own: usize, row: &[u8], j: usize) -> bool
+fn is_rival(
+    rows: &[u8],
+    width: usize,
+    count: usize,
+    key: Key,
+    own: usize,
+    row: &[u8],
+    j: usize,
+) -> bool
     requires { ⌜ Comparable key width (now rows) count (now row) × (j < count) ⌝ }
     ensures { λ r. ⌜ r ≡ (not (eqb j own) && sameKey key (now (row .entry)) (rowAt rowsAt width (now (rows .entry)) j)) ⌝ }
 {
@@ -90,7 +98,14 @@ pub fn number_taken(attributes: &[u8], key: Key, a: AttributeNumber) -> bool
     requires { ⌜ AttributesShaped (now attributes) × (a .0 < attributeTable (now attributes) .count) ⌝ }
     ensures { λ r. ⌜ r ≡ numberTaken everyRow key (attributeTable (now (attributes .entry))) (a .0) ⌝ }
 {
-    rival_in(attributes, ATTRIBUTE_WIDTH, attribute_count(attributes), key, a.0, attribute_row(attributes, a))
+    rival_in(
+        attributes,
+        ATTRIBUTE_WIDTH,
+        attribute_count(attributes),
+        key,
+        a.0,
+        attribute_row(attributes, a),
+    )
 }
 
 // Whether another class has the key of class c.
@@ -98,7 +113,14 @@ fn class_rival(classes: &[u8], key: Key, c: ClassNumber) -> bool
     requires { ⌜ ClassesShaped (now classes) × (c .0 < classTable (now classes) .count) ⌝ }
     ensures { λ r. ⌜ r ≡ rivalIn everyRow key (classTable (now (classes .entry))) (c .0) (classTable (now (classes .entry)) .row (c .0)) ⌝ }
 {
-    rival_in(classes, CLASS_WIDTH, class_count(classes), key, c.0, class_row(classes, c))
+    rival_in(
+        classes,
+        CLASS_WIDTH,
+        class_count(classes),
+        key,
+        c.0,
+        class_row(classes, c),
+    )
 }
 
 // Whether some attribute has the key of a class row.

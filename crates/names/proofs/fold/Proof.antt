@@ -1,14 +1,10 @@
-use mathlib.Core.Path.{_≡_, refl, sym, ap, _∙_}
-use borrow.Author.Tests.{not-true, not-false, lt-ltb, le-ltb, le-leb, lt-leb, eq-eqb, ne-eqb}
+use mathlib.Core.Path.{sym, _∙_}
 use Rattle.names.specs.Name.{folded}
 use Rattle.names.specs.NameLaws.{says-between}
 use native.Mathlib.Omega.{arith}
 use borrow.Author.Needs.{needs}
 use Rattle.names.proofs.fold.Statement.{statement}
 use Rattle.names.proofs.fold.Tie as tie
-use Rattle.names.proofs.fold.Reads as reads
-use Rattle.names.proofs.fold.Lts as lts
-use Rattle.names.proofs.is_between.Reads as is-between-reads
 
 is-between-requires : tie.Need-is-between-requires
 is-between-requires c κs = search needs

@@ -1,14 +1,9 @@
-use mathlib.Core.Path.{_≡_, refl, sym, ap, _∙_}
-use borrow.Author.Tests.{not-true, not-false, lt-ltb, le-ltb, le-leb, lt-leb, eq-eqb, ne-eqb}
+use borrow.Author.Tests.{lt-ltb, le-ltb}
 use Rattle.names.specs.Name.{identifierInvalid}
 use native.Mathlib.Omega.{arith}
 use borrow.Author.Needs.{needs}
 use Rattle.names.proofs.identifier_invalid.Statement.{statement}
 use Rattle.names.proofs.identifier_invalid.Tie as tie
-use Rattle.names.proofs.identifier_invalid.Reads as reads
-use Rattle.names.proofs.identifier_invalid.Lts as lts
-use Rattle.schema.proofs.row.arc.Reads as arc-reads
-use Rattle.schema.proofs.row.arc_count.Reads as arc-count-reads
 
 arc-count-requires : tie.Need-arc-count-requires
 arc-count-requires c κs = search needs

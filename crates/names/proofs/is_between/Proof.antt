@@ -1,12 +1,7 @@
-use mathlib.Core.Path.{_≡_, refl, sym, ap, _∙_}
-use borrow.Author.Tests.{not-true, not-false, lt-ltb, le-ltb, le-leb, lt-leb, eq-eqb, ne-eqb}
+use borrow.Author.Tests.{le-leb, lt-leb}
 use Rattle.names.specs.Name.{between}
-use native.Mathlib.Omega.{arith}
-use borrow.Author.Needs.{needs}
 use Rattle.names.proofs.is_between.Statement.{statement}
 use Rattle.names.proofs.is_between.Tie as tie
-use Rattle.names.proofs.is_between.Reads as reads
-use Rattle.names.proofs.is_between.Lts as lts
 
 returns : tie.Need-returns
 unfolding between

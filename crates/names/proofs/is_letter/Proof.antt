@@ -1,13 +1,7 @@
-use mathlib.Core.Path.{_≡_, refl, sym, ap, _∙_}
-use borrow.Author.Tests.{not-true, not-false, lt-ltb, le-ltb, le-leb, lt-leb, eq-eqb, ne-eqb}
 use Rattle.names.specs.Name.{isLetter}
-use native.Mathlib.Omega.{arith}
 use borrow.Author.Needs.{needs}
 use Rattle.names.proofs.is_letter.Statement.{statement}
 use Rattle.names.proofs.is_letter.Tie as tie
-use Rattle.names.proofs.is_letter.Reads as reads
-use Rattle.names.proofs.is_letter.Lts as lts
-use Rattle.names.proofs.is_between.Reads as is-between-reads
 
 is-between-requires : tie.Need-is-between-requires
 is-between-requires c κs = search needs

@@ -1,14 +1,7 @@
-use mathlib.Core.Path.{_≡_, refl, sym, ap, _∙_}
-use borrow.Author.Tests.{not-true, not-false, lt-ltb, le-ltb, le-leb, lt-leb, eq-eqb, ne-eqb}
 use Rattle.names.specs.Name.{isNameByte}
-use native.Mathlib.Omega.{arith}
 use borrow.Author.Needs.{needs}
 use Rattle.names.proofs.is_name_byte.Statement.{statement}
 use Rattle.names.proofs.is_name_byte.Tie as tie
-use Rattle.names.proofs.is_name_byte.Reads as reads
-use Rattle.names.proofs.is_name_byte.Lts as lts
-use Rattle.names.proofs.is_between.Reads as is-between-reads
-use Rattle.names.proofs.is_letter.Reads as is-letter-reads
 
 is-letter-requires : tie.Need-is-letter-requires
 is-letter-requires c κs = search needs

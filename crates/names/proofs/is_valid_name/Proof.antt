@@ -1,24 +1,17 @@
 use Rattle.names.specs.Name.{isLetter, isNameByte, validName}
-use mathlib.Core.Bool.{and-false}
-use mathlib.Core.Path.{_≡_, refl, sym, ap, _∙_}
-use mathlib.Core.Bool.{true, false}
-use Prim.Native.Nat.{ℕ, _+_, _-_, _≤_, _<_}
-use borrow.Author.Tests.{not-true, not-false, lt-ltb, le-ltb, le-leb, lt-leb, eq-eqb, ne-eqb, ltb-true, ltb-false}
+use mathlib.Core.Bool.{and-false, true, false}
+use mathlib.Core.Path.{_≡_, sym, ap, _∙_}
+use Prim.Native.Nat.{_-_, _≤_}
+use borrow.Author.Tests.{not-true, not-false}
 use lib.ListN.{length, getD}
 use Rattle.prelude.specs.SaysLaws.{says-false}
 use Rattle.prelude.specs.Below.{allBelow}
 use Rattle.prelude.specs.BelowLaws.{all-zero, all-more, all-not, all-end}
-use Rattle.names.specs.Name.{isNameByte, validName}
 use Rattle.names.specs.NameLaws.{says-valid}
 use native.Mathlib.Omega.{arith}
 use borrow.Author.Needs.{needs}
 use Rattle.names.proofs.is_valid_name.Statement.{statement}
 use Rattle.names.proofs.is_valid_name.Tie as tie
-use Rattle.names.proofs.is_valid_name.Reads as reads
-use Rattle.names.proofs.is_valid_name.Lts as lts
-use Rattle.names.proofs.is_letter.Reads as is-letter-reads
-use Rattle.names.proofs.is_name_byte.Reads as is-name-byte-reads
-use Rattle.prelude.proofs.number.byte_at.Reads as byte-at-reads
 
 abbrev Inv-loop : tie.InvT-loop
 Inv-loop name i₀ i = (i ≤ length name) × (allBelow i (λ k. isNameByte (getD name k 0)) ≡ true)

@@ -1,21 +1,15 @@
-use mathlib.Core.Bool.{and-false}
-use mathlib.Core.Path.{_≡_, refl, sym, ap, _∙_}
-use mathlib.Core.Bool.{true, false}
-use Prim.Native.Nat.{ℕ, _+_, _-_, _≤_, _<_}
-use borrow.Author.Tests.{not-true, not-false, lt-ltb, le-ltb, le-leb, lt-leb, eq-eqb, ne-eqb, ltb-true, ltb-false}
+use mathlib.Core.Bool.{and-false, true, false}
+use mathlib.Core.Path.{_≡_, sym, ap, _∙_}
+use Prim.Native.Nat.{_-_, _≤_}
+use borrow.Author.Tests.{eq-eqb, ne-eqb}
 use lib.Dec.{eqb}
 use lib.ListN.{length, getD}
 use Rattle.prelude.specs.Below.{allBelow}
 use Rattle.prelude.specs.BelowLaws.{all-zero, all-more, all-not, all-end}
 use Rattle.names.specs.Name.{folded, sameName}
-use native.Mathlib.Omega.{arith}
 use borrow.Author.Needs.{needs}
 use Rattle.names.proofs.same_name.Statement.{statement}
 use Rattle.names.proofs.same_name.Tie as tie
-use Rattle.names.proofs.same_name.Reads as reads
-use Rattle.names.proofs.same_name.Lts as lts
-use Rattle.names.proofs.fold.Reads as fold-reads
-use Rattle.prelude.proofs.number.byte_at.Reads as byte-at-reads
 
 abbrev Inv-loop : tie.InvT-loop
 Inv-loop s t i₀ i = (i ≤ length s) × (allBelow i (λ k. eqb (folded (getD s k 0)) (folded (getD t k 0))) ≡ true)

@@ -1,17 +1,12 @@
 use lib.ListN.{length}
-use Rattle.tables.specs.ShapedLaws.{attribute-row-length, class-row-length}
-use mathlib.Core.Path.{_≡_, refl, sym, ap, _∙_}
-use borrow.Author.Tests.{not-true, not-false, lt-ltb, le-ltb, le-leb, lt-leb, eq-eqb, ne-eqb}
+use Rattle.tables.specs.ShapedLaws.{attribute-row-length}
+use mathlib.Core.Path.{ap}
+use borrow.Author.Tests.{lt-ltb, le-ltb}
 use Rattle.tables.specs.Live.{live}
 use native.Mathlib.Omega.{arith}
 use borrow.Author.Needs.{needs}
 use Rattle.tables.proofs.attribute_live.Statement.{statement}
 use Rattle.tables.proofs.attribute_live.Tie as tie
-use Rattle.tables.proofs.attribute_live.Reads as reads
-use Rattle.tables.proofs.attribute_live.Lts as lts
-use Rattle.schema.proofs.store.attribute_count.Reads as attribute-count-reads
-use Rattle.schema.proofs.store.attribute_row.Reads as attribute-row-reads
-use Rattle.tables.proofs.is_active_for.Reads as is-active-for-reads
 
 attribute-count-requires : tie.Need-attribute-count-requires
 attribute-count-requires c κs = search needs

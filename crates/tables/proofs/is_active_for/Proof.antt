@@ -1,12 +1,6 @@
-use mathlib.Core.Path.{_≡_, refl, sym, ap, _∙_}
-use borrow.Author.Tests.{not-true, not-false, lt-ltb, le-ltb, le-leb, lt-leb, eq-eqb, ne-eqb}
-use native.Mathlib.Omega.{arith}
 use borrow.Author.Needs.{needs}
 use Rattle.tables.proofs.is_active_for.Statement.{statement}
 use Rattle.tables.proofs.is_active_for.Tie as tie
-use Rattle.tables.proofs.is_active_for.Reads as reads
-use Rattle.tables.proofs.is_active_for.Lts as lts
-use Rattle.schema.proofs.row.is_defunct.Reads as is-defunct-reads
 
 is-defunct-requires : tie.Need-is-defunct-requires
 is-defunct-requires c κs = search needs

@@ -1,16 +1,8 @@
-use mathlib.Core.Path.{_≡_, refl, sym, ap, _∙_}
-use Rattle.unique.specs.UniqueLaws.{rival-of-none, attribute-has, class-has, with-attributes, with-classes}
-use Rattle.unique.specs.Unique.{attributeTaken, classTaken, numberTaken, rivalIn, everyRow}
-use Rattle.schema.specs.Store.{attributeTable, classTable}
-use native.Mathlib.Omega.{arith}
+use Rattle.unique.specs.UniqueLaws.{attribute-has}
+use Rattle.unique.specs.Unique.{attributeTaken, numberTaken}
 use borrow.Author.Needs.{needs}
 use Rattle.unique.proofs.attribute_taken.Statement.{statement}
 use Rattle.unique.proofs.attribute_taken.Tie as tie
-use Rattle.unique.proofs.attribute_taken.Reads as reads
-use Rattle.unique.proofs.attribute_taken.Lts as lts
-use Rattle.schema.proofs.store.attribute_row.Reads as attribute-row-reads
-use Rattle.unique.proofs.held_by_class.Reads as held-by-class-reads
-use Rattle.unique.proofs.number_taken.Reads as number-taken-reads
 
 number-taken-requires : tie.Need-number-taken-requires
 number-taken-requires c κs = search needs

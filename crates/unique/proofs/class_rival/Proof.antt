@@ -1,16 +1,7 @@
-use mathlib.Core.Path.{_≡_, refl, sym, ap, _∙_}
-use Rattle.unique.specs.UniqueLaws.{rival-of-none, attribute-has, class-has, with-attributes, with-classes}
-use Rattle.unique.specs.Unique.{attributeTaken, classTaken, numberTaken, rivalIn, everyRow}
-use Rattle.schema.specs.Store.{attributeTable, classTable}
-use native.Mathlib.Omega.{arith}
+use Rattle.unique.specs.UniqueLaws.{class-has, with-classes}
 use borrow.Author.Needs.{needs}
 use Rattle.unique.proofs.class_rival.Statement.{statement}
 use Rattle.unique.proofs.class_rival.Tie as tie
-use Rattle.unique.proofs.class_rival.Reads as reads
-use Rattle.unique.proofs.class_rival.Lts as lts
-use Rattle.schema.proofs.store.class_count.Reads as class-count-reads
-use Rattle.schema.proofs.store.class_row.Reads as class-row-reads
-use Rattle.unique.proofs.rival_in.Reads as rival-in-reads
 
 class-count-requires : tie.Need-class-count-requires
 class-count-requires c κs = search needs

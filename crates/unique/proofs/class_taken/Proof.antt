@@ -1,16 +1,8 @@
-use mathlib.Core.Path.{_≡_, refl, sym, ap, _∙_}
-use Rattle.unique.specs.UniqueLaws.{rival-of-none, attribute-has, class-has, with-attributes, with-classes}
-use Rattle.unique.specs.Unique.{attributeTaken, classTaken, numberTaken, rivalIn, everyRow}
-use Rattle.schema.specs.Store.{attributeTable, classTable}
-use native.Mathlib.Omega.{arith}
+use Rattle.unique.specs.UniqueLaws.{class-has}
+use Rattle.unique.specs.Unique.{classTaken}
 use borrow.Author.Needs.{needs}
 use Rattle.unique.proofs.class_taken.Statement.{statement}
 use Rattle.unique.proofs.class_taken.Tie as tie
-use Rattle.unique.proofs.class_taken.Reads as reads
-use Rattle.unique.proofs.class_taken.Lts as lts
-use Rattle.schema.proofs.store.class_row.Reads as class-row-reads
-use Rattle.unique.proofs.class_rival.Reads as class-rival-reads
-use Rattle.unique.proofs.held_by_attribute.Reads as held-by-attribute-reads
 
 class-row-requires : tie.Need-class-row-requires
 class-row-requires c κs = search needs

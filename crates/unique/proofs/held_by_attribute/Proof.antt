@@ -1,15 +1,9 @@
-use mathlib.Core.Path.{_≡_, refl, sym, ap, _∙_}
-use Rattle.unique.specs.UniqueLaws.{rival-of-none, attribute-has, class-has, with-attributes, with-classes}
-use Rattle.unique.specs.Unique.{attributeTaken, classTaken, numberTaken, rivalIn, everyRow}
-use Rattle.schema.specs.Store.{attributeTable, classTable}
-use native.Mathlib.Omega.{arith}
+use Rattle.unique.specs.UniqueLaws.{rival-of-none, with-attributes}
+use Rattle.unique.specs.Unique.{everyRow}
+use Rattle.schema.specs.Store.{attributeTable}
 use borrow.Author.Needs.{needs}
 use Rattle.unique.proofs.held_by_attribute.Statement.{statement}
 use Rattle.unique.proofs.held_by_attribute.Tie as tie
-use Rattle.unique.proofs.held_by_attribute.Reads as reads
-use Rattle.unique.proofs.held_by_attribute.Lts as lts
-use Rattle.schema.proofs.store.attribute_count.Reads as attribute-count-reads
-use Rattle.unique.proofs.rival_in.Reads as rival-in-reads
 
 attribute-count-requires : tie.Need-attribute-count-requires
 attribute-count-requires c κs = search needs

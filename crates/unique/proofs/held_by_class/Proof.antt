@@ -1,15 +1,9 @@
-use mathlib.Core.Path.{_≡_, refl, sym, ap, _∙_}
-use Rattle.unique.specs.UniqueLaws.{rival-of-none, attribute-has, class-has, with-attributes, with-classes}
-use Rattle.unique.specs.Unique.{attributeTaken, classTaken, numberTaken, rivalIn, everyRow}
-use Rattle.schema.specs.Store.{attributeTable, classTable}
-use native.Mathlib.Omega.{arith}
+use Rattle.unique.specs.UniqueLaws.{rival-of-none, with-classes}
+use Rattle.unique.specs.Unique.{everyRow}
+use Rattle.schema.specs.Store.{classTable}
 use borrow.Author.Needs.{needs}
 use Rattle.unique.proofs.held_by_class.Statement.{statement}
 use Rattle.unique.proofs.held_by_class.Tie as tie
-use Rattle.unique.proofs.held_by_class.Reads as reads
-use Rattle.unique.proofs.held_by_class.Lts as lts
-use Rattle.schema.proofs.store.class_count.Reads as class-count-reads
-use Rattle.unique.proofs.rival_in.Reads as rival-in-reads
 
 class-count-requires : tie.Need-class-count-requires
 class-count-requires c κs = search needs

@@ -1,17 +1,9 @@
-use mathlib.Core.Path.{_≡_, refl, sym, ap, _∙_}
-use borrow.Author.Tests.{not-true, not-false, lt-ltb, le-ltb, le-leb, lt-leb, eq-eqb, ne-eqb}
-use Rattle.unique.specs.UniqueLaws.{key-common, key-attribute, rival-of-none}
-use Rattle.unique.specs.Unique.{keyWidth, sameKey, attributeTaken, classTaken, numberTaken, rivalIn}
+use borrow.Author.Tests.{eq-eqb, ne-eqb}
 use Rattle.prelude.specs.PartLaws.{row-fits}
 use Rattle.tables.specs.ShapedLaws.{row-length}
 use native.Mathlib.Omega.{arith}
-use borrow.Author.Needs.{needs}
 use Rattle.unique.proofs.is_rival.Statement.{statement}
 use Rattle.unique.proofs.is_rival.Tie as tie
-use Rattle.unique.proofs.is_rival.Reads as reads
-use Rattle.unique.proofs.is_rival.Lts as lts
-use Rattle.prelude.proofs.part.row_of.Reads as row-of-reads
-use Rattle.unique.proofs.same_key.Reads as same-key-reads
 
 returns : tie.Need-returns
 returns c = rw (eq-eqb _ _ (c .if1 .taken))

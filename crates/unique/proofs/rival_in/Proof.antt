@@ -1,21 +1,15 @@
-use mathlib.Core.Path.{_≡_, refl, sym, ap, _∙_}
-use mathlib.Core.Bool.{true, false}
-use Prim.Native.Nat.{ℕ, _+_, _-_, _≤_, _<_}
-use borrow.Author.Tests.{not-true, not-false, lt-ltb, le-ltb, le-leb, lt-leb, eq-eqb, ne-eqb, ltb-true, ltb-false}
-use mathlib.Core.Bool.{not, _&&_}
+use mathlib.Core.Path.{_≡_, sym, _∙_}
+use mathlib.Core.Bool.{false, not, _&&_}
+use Prim.Native.Nat.{_-_, _≤_}
 use lib.Dec.{eqb}
 use Rattle.prelude.specs.Part.{rowAt}
 use Rattle.prelude.specs.Below.{anyBelow}
 use Rattle.prelude.specs.BelowLaws.{any-zero, any-more, any-here, any-end}
 use Rattle.schema.specs.Layout.{rowsAt}
 use Rattle.unique.specs.Unique.{sameKey, rivalIn}
-use native.Mathlib.Omega.{arith}
 use borrow.Author.Needs.{needs}
 use Rattle.unique.proofs.rival_in.Statement.{statement}
 use Rattle.unique.proofs.rival_in.Tie as tie
-use Rattle.unique.proofs.rival_in.Reads as reads
-use Rattle.unique.proofs.rival_in.Lts as lts
-use Rattle.unique.proofs.is_rival.Reads as is-rival-reads
 
 abbrev Inv-loop : tie.InvT-loop
 Inv-loop rows width count key own row j₀ j = (j ≤ count) × (anyBelow j (λ i. not (eqb i own) && sameKey key row (rowAt rowsAt width rows i)) ≡ false)

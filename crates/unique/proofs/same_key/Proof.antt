@@ -1,21 +1,10 @@
-use mathlib.Core.Path.{_≡_, refl, sym, ap, _∙_}
-use borrow.Author.Tests.{not-true, not-false, lt-ltb, le-ltb, le-leb, lt-leb, eq-eqb, ne-eqb}
-use Rattle.unique.specs.UniqueLaws.{key-common, key-attribute, rival-of-none}
-use Rattle.unique.specs.Unique.{keyWidth, sameKey, attributeTaken, classTaken, numberTaken, rivalIn}
+use mathlib.Core.Path.{ap}
+use Rattle.unique.specs.UniqueLaws.{key-common}
+use Rattle.unique.specs.Unique.{keyWidth, sameKey}
 use native.Mathlib.Omega.{arith}
 use borrow.Author.Needs.{needs}
 use Rattle.unique.proofs.same_key.Statement.{statement}
 use Rattle.unique.proofs.same_key.Tie as tie
-use Rattle.unique.proofs.same_key.Reads as reads
-use Rattle.unique.proofs.same_key.Lts as lts
-use Rattle.names.proofs.same_name.Reads as same-name-reads
-use Rattle.prelude.proofs.part.same.Reads as same-reads
-use Rattle.schema.proofs.attribute.link.Reads as link-reads
-use Rattle.schema.proofs.attribute.mapi.Reads as mapi-reads
-use Rattle.schema.proofs.row.guid.Reads as guid-reads
-use Rattle.schema.proofs.row.identifier.Reads as identifier-reads
-use Rattle.schema.proofs.row.name.Reads as name-reads
-use Rattle.unique.proofs.same_present.Reads as same-present-reads
 
 enum-told : tie.Need-enum-told
 enum-told c = search needs

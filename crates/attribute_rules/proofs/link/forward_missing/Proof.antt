@@ -1,14 +1,8 @@
-use mathlib.Core.Path.{_≡_, refl, sym, ap, _∙_}
-use borrow.Author.Tests.{not-true, not-false, lt-ltb, le-ltb, le-leb, lt-leb, eq-eqb, ne-eqb}
+use borrow.Author.Tests.{eq-eqb, ne-eqb}
 use Rattle.attribute_rules.specs.Links.{isBackLink, forwardMissing}
-use native.Mathlib.Omega.{arith}
 use borrow.Author.Needs.{needs}
 use Rattle.attribute_rules.proofs.link.forward_missing.Statement.{statement}
 use Rattle.attribute_rules.proofs.link.forward_missing.Tie as tie
-use Rattle.attribute_rules.proofs.link.forward_missing.Reads as reads
-use Rattle.attribute_rules.proofs.link.forward_missing.Lts as lts
-use Rattle.attribute_rules.proofs.link.has_forward.Reads as has-forward-reads
-use Rattle.schema.proofs.attribute.link.Reads as link-reads
 
 link-requires : tie.Need-link-requires
 link-requires c κs = search needs

@@ -1,10 +1,8 @@
-use mathlib.Core.Path.{_≡_, refl, sym, ap, _∙_}
-use mathlib.Core.Bool.{true, false}
-use Prim.Native.Nat.{ℕ, _+_, _-_, _≤_, _<_}
-use borrow.Author.Tests.{not-true, not-false, lt-ltb, le-ltb, le-leb, lt-leb, eq-eqb, ne-eqb, ltb-true, ltb-false}
+use mathlib.Core.Path.{_≡_, sym, _∙_}
+use mathlib.Core.Bool.{false, _&&_}
+use Prim.Native.Nat.{_-_, _≤_}
 use Rattle.prelude.specs.Below.{anyBelow}
 use Rattle.prelude.specs.BelowLaws.{any-zero, any-more, any-here, any-end}
-use mathlib.Core.Bool.{_&&_}
 use Rattle.schema.specs.Store.{attributeTable}
 use Rattle.tables.specs.Live.{live}
 use Rattle.attribute_rules.specs.Links.{isForwardOf}
@@ -12,10 +10,6 @@ use native.Mathlib.Omega.{arith}
 use borrow.Author.Needs.{needs}
 use Rattle.attribute_rules.proofs.link.has_forward.Statement.{statement}
 use Rattle.attribute_rules.proofs.link.has_forward.Tie as tie
-use Rattle.attribute_rules.proofs.link.has_forward.Reads as reads
-use Rattle.attribute_rules.proofs.link.has_forward.Lts as lts
-use Rattle.attribute_rules.proofs.link.is_live_forward.Reads as is-live-forward-reads
-use Rattle.schema.proofs.store.attribute_count.Reads as attribute-count-reads
 
 abbrev Inv-loop : tie.InvT-loop
 Inv-loop attributes back n j₀ j = (j ≤ n) × (anyBelow j (λ i. isForwardOf back (attributeTable attributes .row i) && live (attributeTable attributes) back i) ≡ false)

@@ -1,15 +1,12 @@
 use Prim.Native.Nat.{_+_, _-_}
-use mathlib.Core.Path.{_≡_, refl, sym, ap, _∙_}
-use borrow.Author.Tests.{not-true, not-false, lt-ltb, le-ltb, le-leb, lt-leb, eq-eqb, ne-eqb}
+use mathlib.Core.Path.{sym}
+use borrow.Author.Tests.{eq-eqb, ne-eqb}
 use Rattle.attribute_rules.specs.Links.{isForwardOf}
 use Rattle.prelude.specs.SaysLaws.{says-same, says-iff, says-eq}
 use native.Mathlib.Omega.{arith}
 use borrow.Author.Needs.{needs}
 use Rattle.attribute_rules.proofs.link.is_forward_of.Statement.{statement}
 use Rattle.attribute_rules.proofs.link.is_forward_of.Tie as tie
-use Rattle.attribute_rules.proofs.link.is_forward_of.Reads as reads
-use Rattle.attribute_rules.proofs.link.is_forward_of.Lts as lts
-use Rattle.schema.proofs.attribute.link.Reads as link-reads
 
 link-requires : tie.Need-link-requires
 link-requires c κs = search needs

@@ -1,16 +1,11 @@
-use mathlib.Core.Path.{_≡_, refl, sym, ap, _∙_}
-use borrow.Author.Tests.{not-true, not-false, lt-ltb, le-ltb, le-leb, lt-leb, eq-eqb, ne-eqb}
+use mathlib.Core.Path.{ap}
+use borrow.Author.Tests.{not-true, not-false}
 use lib.ListN.{length}
 use Rattle.tables.specs.ShapedLaws.{attribute-row-length}
 use native.Mathlib.Omega.{arith}
 use borrow.Author.Needs.{needs}
 use Rattle.attribute_rules.proofs.link.is_live_forward.Statement.{statement}
 use Rattle.attribute_rules.proofs.link.is_live_forward.Tie as tie
-use Rattle.attribute_rules.proofs.link.is_live_forward.Reads as reads
-use Rattle.attribute_rules.proofs.link.is_live_forward.Lts as lts
-use Rattle.attribute_rules.proofs.link.is_forward_of.Reads as is-forward-of-reads
-use Rattle.schema.proofs.store.attribute_row.Reads as attribute-row-reads
-use Rattle.tables.proofs.attribute_live.Reads as attribute-live-reads
 
 attribute-row-requires : tie.Need-attribute-row-requires
 attribute-row-requires c κs = search needs

@@ -1,12 +1,8 @@
-use mathlib.Core.Path.{_≡_, refl, sym, ap, _∙_}
-use borrow.Author.Tests.{not-true, not-false, lt-ltb, le-ltb, le-leb, lt-leb, eq-eqb, ne-eqb}
+use mathlib.Core.Path.{sym}
 use Rattle.attribute_rules.specs.RangeLaws.{biased-low, biased-high}
-use native.Mathlib.Omega.{arith}
 use borrow.Author.Needs.{needs}
 use Rattle.attribute_rules.proofs.range.bias.Statement.{statement}
 use Rattle.attribute_rules.proofs.range.bias.Tie as tie
-use Rattle.attribute_rules.proofs.range.bias.Reads as reads
-use Rattle.attribute_rules.proofs.range.bias.Lts as lts
 
 add-result : tie.Need-add-result
 add-result c = search needs

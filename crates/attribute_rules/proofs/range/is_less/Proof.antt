@@ -1,13 +1,7 @@
-use mathlib.Core.Path.{_≡_, refl, sym, ap, _∙_}
-use borrow.Author.Tests.{not-true, not-false, lt-ltb, le-ltb, le-leb, lt-leb, eq-eqb, ne-eqb}
 use Rattle.attribute_rules.specs.RangeLaws.{less-biased}
-use native.Mathlib.Omega.{arith}
 use borrow.Author.Needs.{needs}
 use Rattle.attribute_rules.proofs.range.is_less.Statement.{statement}
 use Rattle.attribute_rules.proofs.range.is_less.Tie as tie
-use Rattle.attribute_rules.proofs.range.is_less.Reads as reads
-use Rattle.attribute_rules.proofs.range.is_less.Lts as lts
-use Rattle.attribute_rules.proofs.range.bias.Reads as bias-reads
 
 bias-requires : tie.Need-bias-requires
 bias-requires c κs = search needs

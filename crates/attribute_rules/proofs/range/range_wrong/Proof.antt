@@ -1,15 +1,7 @@
-use mathlib.Core.Path.{_≡_, refl, sym, ap, _∙_}
-use borrow.Author.Tests.{not-true, not-false, lt-ltb, le-ltb, le-leb, lt-leb, eq-eqb, ne-eqb}
 use Rattle.attribute_rules.specs.Range.{rangeWrong, endsCrossed}
-use native.Mathlib.Omega.{arith}
 use borrow.Author.Needs.{needs}
 use Rattle.attribute_rules.proofs.range.range_wrong.Statement.{statement}
 use Rattle.attribute_rules.proofs.range.range_wrong.Tie as tie
-use Rattle.attribute_rules.proofs.range.range_wrong.Reads as reads
-use Rattle.attribute_rules.proofs.range.range_wrong.Lts as lts
-use Rattle.attribute_rules.proofs.range.is_less.Reads as is-less-reads
-use Rattle.schema.proofs.attribute.range_lower.Reads as range-lower-reads
-use Rattle.schema.proofs.attribute.range_upper.Reads as range-upper-reads
 
 range-lower-requires : tie.Need-range-lower-requires
 range-lower-requires c κs = search needs

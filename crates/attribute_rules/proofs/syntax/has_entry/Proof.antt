@@ -1,17 +1,12 @@
-use mathlib.Core.Path.{_≡_, refl, sym, ap, _∙_}
-use mathlib.Core.Bool.{true, false}
-use Prim.Native.Nat.{ℕ, _+_, _-_, _≤_, _<_}
-use borrow.Author.Tests.{not-true, not-false, lt-ltb, le-ltb, le-leb, lt-leb, eq-eqb, ne-eqb, ltb-true, ltb-false}
+use mathlib.Core.Path.{_≡_, sym, _∙_}
+use mathlib.Core.Bool.{false}
+use Prim.Native.Nat.{_-_, _≤_}
 use Rattle.prelude.specs.Below.{anyBelow}
 use Rattle.prelude.specs.BelowLaws.{any-zero, any-more, any-here, any-end}
 use Rattle.attribute_rules.specs.Syntax.{entrySays, entryCount}
-use native.Mathlib.Omega.{arith}
 use borrow.Author.Needs.{needs}
 use Rattle.attribute_rules.proofs.syntax.has_entry.Statement.{statement}
 use Rattle.attribute_rules.proofs.syntax.has_entry.Tie as tie
-use Rattle.attribute_rules.proofs.syntax.has_entry.Reads as reads
-use Rattle.attribute_rules.proofs.syntax.has_entry.Lts as lts
-use Rattle.attribute_rules.proofs.syntax.is_entry.Reads as is-entry-reads
 
 abbrev Inv-loop : tie.InvT-loop
 Inv-loop table syntax value i₀ i = (i ≤ entryCount) × (anyBelow i (entrySays table syntax value) ≡ false)

@@ -1,21 +1,14 @@
-use mathlib.Core.Path.{_≡_, refl, sym, ap, _∙_}
-use mathlib.Core.Bool.{true, false}
-use Prim.Native.Nat.{ℕ, _+_, _-_, _≤_, _<_}
-use borrow.Author.Tests.{not-true, not-false, lt-ltb, le-ltb, le-leb, lt-leb, eq-eqb, ne-eqb, ltb-true, ltb-false}
+use mathlib.Core.Path.{_≡_, sym, _∙_}
+use mathlib.Core.Bool.{false, _&&_}
+use Prim.Native.Nat.{_+_, _-_, _≤_, _*_}
 use Rattle.prelude.specs.Below.{anyBelow}
 use Rattle.prelude.specs.BelowLaws.{any-zero, any-more, any-here, any-end}
-use Prim.Native.Nat.{_*_}
-use mathlib.Core.Bool.{_&&_}
 use lib.Dec.{eqb}
 use lib.ListN.{getD}
 use Rattle.attribute_rules.specs.Syntax.{pairCount}
-use native.Mathlib.Omega.{arith}
 use borrow.Author.Needs.{needs}
 use Rattle.attribute_rules.proofs.syntax.has_pair.Statement.{statement}
 use Rattle.attribute_rules.proofs.syntax.has_pair.Tie as tie
-use Rattle.attribute_rules.proofs.syntax.has_pair.Reads as reads
-use Rattle.attribute_rules.proofs.syntax.has_pair.Lts as lts
-use Rattle.attribute_rules.proofs.syntax.is_pair.Reads as is-pair-reads
 
 abbrev Inv-loop : tie.InvT-loop
 Inv-loop pairs syntax om i₀ i = (i ≤ pairCount) × (anyBelow i (λ j. eqb (getD pairs (2 * j) 0) syntax && eqb (getD pairs (2 * j + 1) 0) om) ≡ false)

@@ -1,18 +1,9 @@
 use Rattle.attribute_rules.specs.SyntaxLaws.{entry-length}
-use Prim.Native.Nat.{_*_}
-use mathlib.Core.Path.{_≡_, refl, sym, ap, _∙_}
-use borrow.Author.Tests.{not-true, not-false, lt-ltb, le-ltb, le-leb, lt-leb, eq-eqb, ne-eqb}
-use Rattle.prelude.specs.PartLaws.{part-length}
+use borrow.Author.Tests.{eq-eqb, ne-eqb}
 use native.Mathlib.Omega.{arith}
 use borrow.Author.Needs.{needs}
 use Rattle.attribute_rules.proofs.syntax.is_entry.Statement.{statement}
 use Rattle.attribute_rules.proofs.syntax.is_entry.Tie as tie
-use Rattle.attribute_rules.proofs.syntax.is_entry.Reads as reads
-use Rattle.attribute_rules.proofs.syntax.is_entry.Lts as lts
-use Rattle.prelude.proofs.number.byte_at.Reads as byte-at-reads
-use Rattle.prelude.proofs.part.row_of.Reads as row-of-reads
-use Rattle.prelude.proofs.part.same.Reads as same-reads
-use Rattle.schema.proofs.row.counted.Reads as counted-reads
 
 row-of-requires : tie.Need-row-of-requires
 row-of-requires c κs = search needs

@@ -1,12 +1,7 @@
-use mathlib.Core.Path.{_≡_, refl, sym, ap, _∙_}
-use borrow.Author.Tests.{not-true, not-false, lt-ltb, le-ltb, le-leb, lt-leb, eq-eqb, ne-eqb}
-use native.Mathlib.Omega.{arith}
+use borrow.Author.Tests.{eq-eqb, ne-eqb}
 use borrow.Author.Needs.{needs}
 use Rattle.attribute_rules.proofs.syntax.is_pair.Statement.{statement}
 use Rattle.attribute_rules.proofs.syntax.is_pair.Tie as tie
-use Rattle.attribute_rules.proofs.syntax.is_pair.Reads as reads
-use Rattle.attribute_rules.proofs.syntax.is_pair.Lts as lts
-use Rattle.prelude.proofs.number.byte_at.Reads as byte-at-reads
 
 mul-byte-at : tie.Need-mul-byte-at
 mul-byte-at c = search needs

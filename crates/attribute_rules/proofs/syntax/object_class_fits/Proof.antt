@@ -1,15 +1,9 @@
-use mathlib.Core.Path.{_≡_, refl, sym, ap, _∙_}
-use borrow.Author.Tests.{not-true, not-false, lt-ltb, le-ltb, le-leb, lt-leb, eq-eqb, ne-eqb}
 use Rattle.attribute_rules.specs.SyntaxLaws.{entries}
 use Rattle.attribute_rules.specs.Syntax.{objectClasses, objectClassFits}
 use Rattle.prelude.specs.Part.{padded, zeros}
-use native.Mathlib.Omega.{arith}
 use borrow.Author.Needs.{needs}
 use Rattle.attribute_rules.proofs.syntax.object_class_fits.Statement.{statement}
 use Rattle.attribute_rules.proofs.syntax.object_class_fits.Tie as tie
-use Rattle.attribute_rules.proofs.syntax.object_class_fits.Reads as reads
-use Rattle.attribute_rules.proofs.syntax.object_class_fits.Lts as lts
-use Rattle.attribute_rules.proofs.syntax.has_entry.Reads as has-entry-reads
 
 slice-aggregate-has-entry : tie.Need-slice-aggregate-has-entry
 slice-aggregate-has-entry c = search needs

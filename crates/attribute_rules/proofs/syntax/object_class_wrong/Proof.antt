@@ -1,16 +1,8 @@
-use mathlib.Core.Path.{_≡_, refl, sym, ap, _∙_}
-use borrow.Author.Tests.{not-true, not-false, lt-ltb, le-ltb, le-leb, lt-leb, eq-eqb, ne-eqb}
+use borrow.Author.Tests.{eq-eqb, ne-eqb}
 use Rattle.attribute_rules.specs.Syntax.{objectClassWrong}
-use native.Mathlib.Omega.{arith}
 use borrow.Author.Needs.{needs}
 use Rattle.attribute_rules.proofs.syntax.object_class_wrong.Statement.{statement}
 use Rattle.attribute_rules.proofs.syntax.object_class_wrong.Tie as tie
-use Rattle.attribute_rules.proofs.syntax.object_class_wrong.Reads as reads
-use Rattle.attribute_rules.proofs.syntax.object_class_wrong.Lts as lts
-use Rattle.attribute_rules.proofs.syntax.object_class_fits.Reads as object-class-fits-reads
-use Rattle.schema.proofs.attribute.object_class.Reads as object-class-reads
-use Rattle.schema.proofs.attribute.om_syntax.Reads as om-syntax-reads
-use Rattle.schema.proofs.attribute.syntax.Reads as syntax-reads
 
 om-syntax-requires : tie.Need-om-syntax-requires
 om-syntax-requires c κs = search needs

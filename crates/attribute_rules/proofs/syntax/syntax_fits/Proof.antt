@@ -1,13 +1,7 @@
-use mathlib.Core.Path.{_≡_, refl, sym, ap, _∙_}
-use borrow.Author.Tests.{not-true, not-false, lt-ltb, le-ltb, le-leb, lt-leb, eq-eqb, ne-eqb}
 use Rattle.attribute_rules.specs.Syntax.{syntaxFits}
-use native.Mathlib.Omega.{arith}
 use borrow.Author.Needs.{needs}
 use Rattle.attribute_rules.proofs.syntax.syntax_fits.Statement.{statement}
 use Rattle.attribute_rules.proofs.syntax.syntax_fits.Tie as tie
-use Rattle.attribute_rules.proofs.syntax.syntax_fits.Reads as reads
-use Rattle.attribute_rules.proofs.syntax.syntax_fits.Lts as lts
-use Rattle.attribute_rules.proofs.syntax.has_pair.Reads as has-pair-reads
 
 slice-aggregate-has-pair : tie.Need-slice-aggregate-has-pair
 slice-aggregate-has-pair c = search needs

@@ -1,15 +1,7 @@
-use mathlib.Core.Path.{_≡_, refl, sym, ap, _∙_}
-use borrow.Author.Tests.{not-true, not-false, lt-ltb, le-ltb, le-leb, lt-leb, eq-eqb, ne-eqb}
 use Rattle.attribute_rules.specs.Syntax.{syntaxWrong}
-use native.Mathlib.Omega.{arith}
 use borrow.Author.Needs.{needs}
 use Rattle.attribute_rules.proofs.syntax.syntax_wrong.Statement.{statement}
 use Rattle.attribute_rules.proofs.syntax.syntax_wrong.Tie as tie
-use Rattle.attribute_rules.proofs.syntax.syntax_wrong.Reads as reads
-use Rattle.attribute_rules.proofs.syntax.syntax_wrong.Lts as lts
-use Rattle.attribute_rules.proofs.syntax.syntax_fits.Reads as syntax-fits-reads
-use Rattle.schema.proofs.attribute.om_syntax.Reads as om-syntax-reads
-use Rattle.schema.proofs.attribute.syntax.Reads as syntax-reads
 
 syntax-requires : tie.Need-syntax-requires
 syntax-requires c κs = search needs

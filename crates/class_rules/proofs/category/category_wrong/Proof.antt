@@ -1,25 +1,17 @@
-use mathlib.Core.Path.{_≡_, refl, sym, ap, _∙_}
-use mathlib.Core.Bool.{true, false}
-use Prim.Native.Nat.{ℕ, _+_, _-_, _≤_, _<_}
-use borrow.Author.Tests.{not-true, not-false, lt-ltb, le-ltb, le-leb, lt-leb, eq-eqb, ne-eqb, ltb-true, ltb-false}
+use mathlib.Core.Path.{_≡_, sym, _∙_}
+use mathlib.Core.Bool.{false, not, _&&_, _||_}
+use Prim.Native.Nat.{_-_, _≤_}
 use Rattle.prelude.specs.Below.{anyBelow}
 use Rattle.prelude.specs.BelowLaws.{any-zero, any-more, any-here, any-end}
-use Rattle.class_rules.specs.Category.{class88, listCategory, categoryWrong, inheritance, rootInheritance, inheritanceOf, inheritanceNumber, inheritanceWrong}
-use Rattle.class_rules.specs.CategoryLaws.{inheritance-root, inheritance-lost, inheritance-at}
-use Rattle.class_rules.specs.NamedLaws.{class-read-is, class-read-beyond}
-use Rattle.class_rules.specs.Named.{lists, namedBy, namesAttribute, namesClass, attributeNotLive, classNotLive, superclassLate, classWrong, listsItself, namingWrong}
-use mathlib.Core.Bool.{not, _&&_, _||_}
+use Rattle.class_rules.specs.Category.{class88, listCategory, categoryWrong}
+use Rattle.class_rules.specs.Named.{lists}
 use lib.Dec.{eqb, ltb}
 use Rattle.schema.specs.Numbers.{classLimit}
 use Rattle.schema.specs.Store.{classTable}
 use Rattle.schema.specs.ClassRow.{categoryOf}
-use native.Mathlib.Omega.{arith}
 use borrow.Author.Needs.{needs}
 use Rattle.class_rules.proofs.category.category_wrong.Statement.{statement}
 use Rattle.class_rules.proofs.category.category_wrong.Tie as tie
-use Rattle.class_rules.proofs.category.category_wrong.Reads as reads
-use Rattle.class_rules.proofs.category.category_wrong.Lts as lts
-use Rattle.class_rules.proofs.category.is_wrongly_listed.Reads as is-wrongly-listed-reads
 
 abbrev Inv-loop : tie.InvT-loop
 Inv-loop kind classes row n₀ n = (n ≤ classLimit) × (anyBelow n (λ m. lists kind row m && (ltb m (classTable classes .count) && not (eqb (categoryOf (classTable classes .row m)) class88 || eqb (categoryOf (classTable classes .row m)) (listCategory kind)))) ≡ false)

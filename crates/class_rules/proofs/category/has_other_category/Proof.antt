@@ -1,20 +1,11 @@
-use mathlib.Core.Path.{_≡_, refl, sym, ap, _∙_}
-use borrow.Author.Tests.{not-true, not-false, lt-ltb, le-ltb, le-leb, lt-leb, eq-eqb, ne-eqb}
+use mathlib.Core.Path.{ap}
+use borrow.Author.Tests.{lt-ltb, le-ltb, eq-eqb, ne-eqb}
 use lib.ListN.{length}
-use Rattle.tables.specs.ShapedLaws.{attribute-row-length, class-row-length}
-use Rattle.class_rules.specs.Category.{class88, listCategory, categoryWrong, inheritance, rootInheritance, inheritanceOf, inheritanceNumber, inheritanceWrong}
-use Rattle.class_rules.specs.CategoryLaws.{inheritance-root, inheritance-lost, inheritance-at}
-use Rattle.class_rules.specs.NamedLaws.{class-read-is, class-read-beyond}
+use Rattle.tables.specs.ShapedLaws.{class-row-length}
 use native.Mathlib.Omega.{arith}
 use borrow.Author.Needs.{needs}
 use Rattle.class_rules.proofs.category.has_other_category.Statement.{statement}
 use Rattle.class_rules.proofs.category.has_other_category.Tie as tie
-use Rattle.class_rules.proofs.category.has_other_category.Reads as reads
-use Rattle.class_rules.proofs.category.has_other_category.Lts as lts
-use Rattle.class_rules.proofs.category.list_category.Reads as list-category-reads
-use Rattle.schema.proofs.class.category.Reads as category-reads
-use Rattle.schema.proofs.store.class_count.Reads as class-count-reads
-use Rattle.schema.proofs.store.class_row.Reads as class-row-reads
 
 class-count-requires : tie.Need-class-count-requires
 class-count-requires c κs = search needs

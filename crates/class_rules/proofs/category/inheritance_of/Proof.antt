@@ -1,8 +1,6 @@
-use mathlib.Core.Path.{_≡_, refl, sym, ap, _∙_}
-use borrow.Author.Tests.{not-true, not-false, lt-ltb, le-ltb, le-leb, lt-leb, eq-eqb, ne-eqb}
+use mathlib.Core.Path.{sym, ap, _∙_}
 use lib.ListN.{length}
-use Rattle.tables.specs.ShapedLaws.{attribute-row-length, class-row-length}
-use Rattle.class_rules.specs.Category.{class88, listCategory, categoryWrong, inheritance, rootInheritance, inheritanceOf, inheritanceNumber, inheritanceWrong}
+use Rattle.tables.specs.ShapedLaws.{class-row-length}
 use Rattle.class_rules.specs.CategoryLaws.{inheritance-root, inheritance-lost, inheritance-at}
 use Rattle.class_rules.specs.NamedLaws.{class-read-is, class-read-beyond}
 use mathlib.Core.List.{List}
@@ -14,14 +12,6 @@ use native.Mathlib.Omega.{arith}
 use borrow.Author.Needs.{needs}
 use Rattle.class_rules.proofs.category.inheritance_of.Statement.{statement}
 use Rattle.class_rules.proofs.category.inheritance_of.Tie as tie
-use Rattle.class_rules.proofs.category.inheritance_of.Reads as reads
-use Rattle.class_rules.proofs.category.inheritance_of.Lts as lts
-use Rattle.class_rules.proofs.category.inheritance_under.Reads as inheritance-under-reads
-use Rattle.class_rules.proofs.category.root_inheritance.Reads as root-inheritance-reads
-use Rattle.schema.proofs.class.category.Reads as category-reads
-use Rattle.schema.proofs.class.superclass.Reads as superclass-reads
-use Rattle.schema.proofs.store.class_count.Reads as class-count-reads
-use Rattle.schema.proofs.store.class_row.Reads as class-row-reads
 
 class-row-requires : tie.Need-class-row-requires
 class-row-requires c κs = search needs

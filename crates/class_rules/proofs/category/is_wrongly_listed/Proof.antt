@@ -1,15 +1,7 @@
-use mathlib.Core.Path.{_≡_, refl, sym, ap, _∙_}
-use borrow.Author.Tests.{not-true, not-false, lt-ltb, le-ltb, le-leb, lt-leb, eq-eqb, ne-eqb}
-use lib.ListN.{length}
-use Rattle.tables.specs.ShapedLaws.{attribute-row-length, class-row-length}
-use native.Mathlib.Omega.{arith}
+use borrow.Author.Tests.{not-true, not-false}
 use borrow.Author.Needs.{needs}
 use Rattle.class_rules.proofs.category.is_wrongly_listed.Statement.{statement}
 use Rattle.class_rules.proofs.category.is_wrongly_listed.Tie as tie
-use Rattle.class_rules.proofs.category.is_wrongly_listed.Reads as reads
-use Rattle.class_rules.proofs.category.is_wrongly_listed.Lts as lts
-use Rattle.class_rules.proofs.category.has_other_category.Reads as has-other-category-reads
-use Rattle.class_rules.proofs.named.is_listed.Reads as is-listed-reads
 
 is-listed-requires : tie.Need-is-listed-requires
 is-listed-requires c κs = search needs

@@ -1,7 +1,5 @@
 use mathlib.Core.Path.{_≡_, refl, sym, ap, _∙_}
-use mathlib.Core.Bool.{true, false}
-use Prim.Native.Nat.{ℕ, _+_, _-_, _≤_, _<_}
-use borrow.Author.Tests.{not-true, not-false, lt-ltb, le-ltb, le-leb, lt-leb, eq-eqb, ne-eqb, ltb-true, ltb-false}
+use Prim.Native.Nat.{_-_}
 use lib.ListN.{length}
 use Rattle.tables.specs.ShapedLaws.{class-row-length}
 use Rattle.schema.specs.Store.{classTable}
@@ -12,11 +10,6 @@ use native.Mathlib.Omega.{arith}
 use borrow.Author.Needs.{needs}
 use Rattle.class_rules.proofs.chain.chain_ends.Statement.{statement}
 use Rattle.class_rules.proofs.chain.chain_ends.Tie as tie
-use Rattle.class_rules.proofs.chain.chain_ends.Reads as reads
-use Rattle.class_rules.proofs.chain.chain_ends.Lts as lts
-use Rattle.class_rules.proofs.named.superclass_number.Reads as superclass-number-reads
-use Rattle.schema.proofs.store.class_count.Reads as class-count-reads
-use Rattle.schema.proofs.store.class_row.Reads as class-row-reads
 
 abbrev Inv-loop : tie.InvT-loop
 Inv-loop classes n at₀ left₀ at left = chainEnds (classTable classes) left at ≡ chainEnds (classTable classes) left₀ at₀

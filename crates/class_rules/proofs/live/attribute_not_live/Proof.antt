@@ -1,21 +1,15 @@
-use mathlib.Core.Path.{_≡_, refl, sym, ap, _∙_}
-use mathlib.Core.Bool.{true, false}
-use Prim.Native.Nat.{ℕ, _+_, _-_, _≤_, _<_}
-use borrow.Author.Tests.{not-true, not-false, lt-ltb, le-ltb, le-leb, lt-leb, eq-eqb, ne-eqb, ltb-true, ltb-false}
+use mathlib.Core.Path.{_≡_, sym, _∙_}
+use mathlib.Core.Bool.{false, not, _&&_}
+use Prim.Native.Nat.{_-_, _≤_}
 use Rattle.prelude.specs.Below.{anyBelow}
 use Rattle.prelude.specs.BelowLaws.{any-zero, any-more, any-here, any-end}
-use Rattle.class_rules.specs.Named.{lists, namedBy, namesAttribute, namesClass, attributeNotLive, classNotLive, superclassLate, classWrong, listsItself, namingWrong}
-use mathlib.Core.Bool.{not, _&&_}
+use Rattle.class_rules.specs.Named.{namesAttribute, attributeNotLive}
 use Rattle.schema.specs.Numbers.{attributeLimit}
 use Rattle.schema.specs.Store.{attributeTable}
 use Rattle.tables.specs.Live.{live}
-use native.Mathlib.Omega.{arith}
 use borrow.Author.Needs.{needs}
 use Rattle.class_rules.proofs.live.attribute_not_live.Statement.{statement}
 use Rattle.class_rules.proofs.live.attribute_not_live.Tie as tie
-use Rattle.class_rules.proofs.live.attribute_not_live.Reads as reads
-use Rattle.class_rules.proofs.live.attribute_not_live.Lts as lts
-use Rattle.class_rules.proofs.live.names_dead_attribute.Reads as names-dead-attribute-reads
 
 abbrev Inv-loop : tie.InvT-loop
 Inv-loop attributes row n₀ n = (n ≤ attributeLimit) × (anyBelow n (λ m. namesAttribute row m && not (live (attributeTable attributes) row m)) ≡ false)

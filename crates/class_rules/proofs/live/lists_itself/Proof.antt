@@ -1,16 +1,11 @@
-use mathlib.Core.Path.{_≡_, refl, sym, ap, _∙_}
-use borrow.Author.Tests.{not-true, not-false, lt-ltb, le-ltb, le-leb, lt-leb, eq-eqb, ne-eqb}
+use mathlib.Core.Path.{ap}
 use lib.ListN.{length}
-use Rattle.tables.specs.ShapedLaws.{attribute-row-length, class-row-length}
-use Rattle.class_rules.specs.Named.{lists, namedBy, namesAttribute, namesClass, attributeNotLive, classNotLive, superclassLate, classWrong, listsItself, namingWrong}
+use Rattle.tables.specs.ShapedLaws.{class-row-length}
+use Rattle.class_rules.specs.Named.{listsItself}
 use native.Mathlib.Omega.{arith}
 use borrow.Author.Needs.{needs}
 use Rattle.class_rules.proofs.live.lists_itself.Statement.{statement}
 use Rattle.class_rules.proofs.live.lists_itself.Tie as tie
-use Rattle.class_rules.proofs.live.lists_itself.Reads as reads
-use Rattle.class_rules.proofs.live.lists_itself.Lts as lts
-use Rattle.class_rules.proofs.named.is_listed.Reads as is-listed-reads
-use Rattle.schema.proofs.store.class_row.Reads as class-row-reads
 
 class-row-requires : tie.Need-class-row-requires
 class-row-requires c κs = search needs

@@ -1,16 +1,7 @@
-use mathlib.Core.Path.{_≡_, refl, sym, ap, _∙_}
-use borrow.Author.Tests.{not-true, not-false, lt-ltb, le-ltb, le-leb, lt-leb, eq-eqb, ne-eqb}
-use lib.ListN.{length}
-use Rattle.tables.specs.ShapedLaws.{attribute-row-length, class-row-length}
-use Rattle.class_rules.specs.Named.{lists, namedBy, namesAttribute, namesClass, attributeNotLive, classNotLive, superclassLate, classWrong, listsItself, namingWrong}
-use native.Mathlib.Omega.{arith}
+use borrow.Author.Tests.{not-true, not-false}
 use borrow.Author.Needs.{needs}
 use Rattle.class_rules.proofs.live.names_dead_attribute.Statement.{statement}
 use Rattle.class_rules.proofs.live.names_dead_attribute.Tie as tie
-use Rattle.class_rules.proofs.live.names_dead_attribute.Reads as reads
-use Rattle.class_rules.proofs.live.names_dead_attribute.Lts as lts
-use Rattle.class_rules.proofs.named.names_attribute.Reads as names-attribute-reads
-use Rattle.tables.proofs.attribute_live.Reads as attribute-live-reads
 
 names-attribute-requires : tie.Need-names-attribute-requires
 names-attribute-requires c κs = search needs

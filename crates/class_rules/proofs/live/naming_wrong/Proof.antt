@@ -1,19 +1,12 @@
-use mathlib.Core.Path.{_≡_, refl, sym, ap, _∙_}
-use borrow.Author.Tests.{not-true, not-false, lt-ltb, le-ltb, le-leb, lt-leb, eq-eqb, ne-eqb}
+use mathlib.Core.Path.{ap}
+use borrow.Author.Tests.{lt-ltb, le-ltb, eq-eqb, ne-eqb}
 use lib.ListN.{length}
-use Rattle.tables.specs.ShapedLaws.{attribute-row-length, class-row-length}
-use Rattle.class_rules.specs.Named.{lists, namedBy, namesAttribute, namesClass, attributeNotLive, classNotLive, superclassLate, classWrong, listsItself, namingWrong}
+use Rattle.tables.specs.ShapedLaws.{attribute-row-length}
+use Rattle.class_rules.specs.Named.{namingWrong}
 use native.Mathlib.Omega.{arith}
 use borrow.Author.Needs.{needs}
 use Rattle.class_rules.proofs.live.naming_wrong.Statement.{statement}
 use Rattle.class_rules.proofs.live.naming_wrong.Tie as tie
-use Rattle.class_rules.proofs.live.naming_wrong.Reads as reads
-use Rattle.class_rules.proofs.live.naming_wrong.Lts as lts
-use Rattle.schema.proofs.attribute.is_single_valued.Reads as is-single-valued-reads
-use Rattle.schema.proofs.attribute.syntax.Reads as syntax-reads
-use Rattle.schema.proofs.class.naming_attribute.Reads as naming-attribute-reads
-use Rattle.schema.proofs.store.attribute_count.Reads as attribute-count-reads
-use Rattle.schema.proofs.store.attribute_row.Reads as attribute-row-reads
 
 naming-attribute-requires : tie.Need-naming-attribute-requires
 naming-attribute-requires c κs = search needs

@@ -1,14 +1,6 @@
-use mathlib.Core.Path.{_≡_, refl, sym, ap, _∙_}
-use borrow.Author.Tests.{not-true, not-false, lt-ltb, le-ltb, le-leb, lt-leb, eq-eqb, ne-eqb}
-use lib.ListN.{length}
-use Rattle.tables.specs.ShapedLaws.{attribute-row-length, class-row-length}
-use native.Mathlib.Omega.{arith}
 use borrow.Author.Needs.{needs}
 use Rattle.class_rules.proofs.named.in_either.Statement.{statement}
 use Rattle.class_rules.proofs.named.in_either.Tie as tie
-use Rattle.class_rules.proofs.named.in_either.Reads as reads
-use Rattle.class_rules.proofs.named.in_either.Lts as lts
-use Rattle.sets.proofs.has.Reads as has-reads
 
 has-requires : tie.Need-has-requires
 has-requires c κs = search needs

@@ -1,19 +1,7 @@
-use mathlib.Core.Path.{_≡_, refl, sym, ap, _∙_}
-use borrow.Author.Tests.{not-true, not-false, lt-ltb, le-ltb, le-leb, lt-leb, eq-eqb, ne-eqb}
-use lib.ListN.{length}
-use Rattle.tables.specs.ShapedLaws.{attribute-row-length, class-row-length}
-use Rattle.class_rules.specs.Named.{lists, namedBy, namesAttribute, namesClass, attributeNotLive, classNotLive, superclassLate, classWrong, listsItself, namingWrong}
-use native.Mathlib.Omega.{arith}
+use Rattle.class_rules.specs.Named.{lists}
 use borrow.Author.Needs.{needs}
 use Rattle.class_rules.proofs.named.is_listed.Statement.{statement}
 use Rattle.class_rules.proofs.named.is_listed.Tie as tie
-use Rattle.class_rules.proofs.named.is_listed.Reads as reads
-use Rattle.class_rules.proofs.named.is_listed.Lts as lts
-use Rattle.class_rules.proofs.named.in_either.Reads as in-either-reads
-use Rattle.schema.proofs.class.fixed_auxiliary.Reads as fixed-auxiliary-reads
-use Rattle.schema.proofs.class.fixed_superior.Reads as fixed-superior-reads
-use Rattle.schema.proofs.class.open_auxiliary.Reads as open-auxiliary-reads
-use Rattle.schema.proofs.class.open_superior.Reads as open-superior-reads
 
 enum-told : tie.Need-enum-told
 enum-told c = search needs

@@ -1,15 +1,7 @@
-use mathlib.Core.Path.{_≡_, refl, sym, ap, _∙_}
-use borrow.Author.Tests.{not-true, not-false, lt-ltb, le-ltb, le-leb, lt-leb, eq-eqb, ne-eqb}
-use lib.ListN.{length}
-use Rattle.tables.specs.ShapedLaws.{attribute-row-length, class-row-length}
-use Rattle.class_rules.specs.Named.{lists, namedBy, namesAttribute, namesClass, attributeNotLive, classNotLive, superclassLate, classWrong, listsItself, namingWrong}
-use native.Mathlib.Omega.{arith}
+use Rattle.class_rules.specs.Named.{namedBy}
 use borrow.Author.Needs.{needs}
 use Rattle.class_rules.proofs.named.is_named_by.Statement.{statement}
 use Rattle.class_rules.proofs.named.is_named_by.Tie as tie
-use Rattle.class_rules.proofs.named.is_named_by.Reads as reads
-use Rattle.class_rules.proofs.named.is_named_by.Lts as lts
-use Rattle.schema.proofs.class.naming_attribute.Reads as naming-attribute-reads
 
 naming-attribute-requires : tie.Need-naming-attribute-requires
 naming-attribute-requires c κs = search needs

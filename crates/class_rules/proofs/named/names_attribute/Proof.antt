@@ -1,19 +1,7 @@
-use mathlib.Core.Path.{_≡_, refl, sym, ap, _∙_}
-use borrow.Author.Tests.{not-true, not-false, lt-ltb, le-ltb, le-leb, lt-leb, eq-eqb, ne-eqb}
-use lib.ListN.{length}
-use Rattle.tables.specs.ShapedLaws.{attribute-row-length, class-row-length}
-use Rattle.class_rules.specs.Named.{lists, namedBy, namesAttribute, namesClass, attributeNotLive, classNotLive, superclassLate, classWrong, listsItself, namingWrong}
-use native.Mathlib.Omega.{arith}
+use Rattle.class_rules.specs.Named.{namesAttribute}
 use borrow.Author.Needs.{needs}
 use Rattle.class_rules.proofs.named.names_attribute.Statement.{statement}
 use Rattle.class_rules.proofs.named.names_attribute.Tie as tie
-use Rattle.class_rules.proofs.named.names_attribute.Reads as reads
-use Rattle.class_rules.proofs.named.names_attribute.Lts as lts
-use Rattle.class_rules.proofs.named.is_named_by.Reads as is-named-by-reads
-use Rattle.schema.proofs.class.fixed_optional.Reads as fixed-optional-reads
-use Rattle.schema.proofs.class.mandatory.Reads as mandatory-reads
-use Rattle.schema.proofs.class.open_optional.Reads as open-optional-reads
-use Rattle.sets.proofs.has.Reads as has-reads
 
 mandatory-requires : tie.Need-mandatory-requires
 mandatory-requires c κs = search needs

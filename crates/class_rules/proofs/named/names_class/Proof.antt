@@ -1,16 +1,8 @@
-use mathlib.Core.Path.{_≡_, refl, sym, ap, _∙_}
-use borrow.Author.Tests.{not-true, not-false, lt-ltb, le-ltb, le-leb, lt-leb, eq-eqb, ne-eqb}
-use lib.ListN.{length}
-use Rattle.tables.specs.ShapedLaws.{attribute-row-length, class-row-length}
-use Rattle.class_rules.specs.Named.{lists, namedBy, namesAttribute, namesClass, attributeNotLive, classNotLive, superclassLate, classWrong, listsItself, namingWrong}
-use native.Mathlib.Omega.{arith}
+use borrow.Author.Tests.{eq-eqb, ne-eqb}
+use Rattle.class_rules.specs.Named.{namesClass}
 use borrow.Author.Needs.{needs}
 use Rattle.class_rules.proofs.named.names_class.Statement.{statement}
 use Rattle.class_rules.proofs.named.names_class.Tie as tie
-use Rattle.class_rules.proofs.named.names_class.Reads as reads
-use Rattle.class_rules.proofs.named.names_class.Lts as lts
-use Rattle.class_rules.proofs.named.is_listed.Reads as is-listed-reads
-use Rattle.class_rules.proofs.named.superclass_number.Reads as superclass-number-reads
 
 superclass-number-requires : tie.Need-superclass-number-requires
 superclass-number-requires c κs = search needs

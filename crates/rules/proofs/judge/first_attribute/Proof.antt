@@ -1,7 +1,6 @@
-use mathlib.Core.Path.{_≡_, refl, sym, ap, _∙_}
-use mathlib.Core.Bool.{true, false}
-use Prim.Native.Nat.{ℕ, _+_, _-_, _≤_, _<_}
-use borrow.Author.Tests.{not-true, not-false, lt-ltb, le-ltb, le-leb, lt-leb, eq-eqb, ne-eqb, ltb-true, ltb-false}
+use mathlib.Core.Path.{_≡_, sym, _∙_}
+use mathlib.Core.Bool.{false}
+use Prim.Native.Nat.{_-_, _≤_}
 use Rattle.prelude.specs.Below.{anyBelow}
 use Rattle.prelude.specs.BelowLaws.{any-zero, any-more, any-end, first-found, first-absent}
 use Rattle.schema.specs.Store.{attributeTable, classTable}
@@ -10,10 +9,6 @@ use native.Mathlib.Omega.{arith}
 use borrow.Author.Needs.{needs}
 use Rattle.rules.proofs.judge.first_attribute.Statement.{statement}
 use Rattle.rules.proofs.judge.first_attribute.Tie as tie
-use Rattle.rules.proofs.judge.first_attribute.Reads as reads
-use Rattle.rules.proofs.judge.first_attribute.Lts as lts
-use Rattle.rules.proofs.row.attribute_breaks.Reads as attribute-breaks-reads
-use Rattle.schema.proofs.store.attribute_count.Reads as attribute-count-reads
 
 abbrev Inv-loop : tie.InvT-loop
 Inv-loop attributes classes number n k₀ k = (k ≤ n) × (anyBelow k (numbered (schemaRules (attributeTable attributes) (classTable classes)) number .attribute) ≡ false)

@@ -1,7 +1,5 @@
 use mathlib.Core.Path.{_≡_, refl, sym, ap, _∙_}
-use mathlib.Core.Bool.{true, false}
-use Prim.Native.Nat.{ℕ, _+_, _-_, _≤_, _<_}
-use borrow.Author.Tests.{not-true, not-false, lt-ltb, le-ltb, le-leb, lt-leb, eq-eqb, ne-eqb, ltb-true, ltb-false}
+use Prim.Native.Nat.{ℕ, _-_}
 use lib.ListN.{length, drop}
 use Rattle.schema.specs.Answers.{done}
 use Rattle.schema.specs.Store.{attributeTable, classTable}
@@ -13,11 +11,6 @@ use native.Mathlib.Omega.{arith}
 use borrow.Author.Needs.{needs}
 use Rattle.rules.proofs.judge.judge_by.Statement.{statement}
 use Rattle.rules.proofs.judge.judge_by.Tie as tie
-use Rattle.rules.proofs.judge.judge_by.Reads as reads
-use Rattle.rules.proofs.judge.judge_by.Lts as lts
-use Rattle.prelude.proofs.number.byte_at.Reads as byte-at-reads
-use Rattle.rules.proofs.judge.judge_rule.Reads as judge-rule-reads
-use Rattle.schema.proofs.answer.Answer.done.Reads as done-reads
 
 abbrev Inv-loop : tie.InvT-loop
 Inv-loop order attributes classes i₀ i = judgeRules (rulesOf (schemaRules (attributeTable attributes) (classTable classes)) order) (attributeTable attributes .count) (classTable classes .count) ≡ judgeRules (rulesOf (schemaRules (attributeTable attributes) (classTable classes)) (drop i order)) (attributeTable attributes .count) (classTable classes .count)

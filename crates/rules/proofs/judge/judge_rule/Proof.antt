@@ -1,22 +1,11 @@
-use mathlib.Core.Path.{_≡_, refl, sym, ap, _∙_}
-use lib.ListN.{length}
-use Rattle.tables.specs.ShapedLaws.{attribute-row-length, class-row-length}
-use Rattle.prelude.specs.Below.{anyBelow}
+use mathlib.Core.Path.{_∙_}
 use Rattle.schema.specs.Store.{attributeTable, classTable}
-use Rattle.rules.specs.Rules.{schemaRules, numbered, RowRule}
-use Rattle.rules.specs.RulesLaws.{numbered-passed}
-use Rattle.rules.specs.JudgeLaws.{answer-attribute, answer-class, answer-none, judge-found, judge-next, judge-over}
+use Rattle.rules.specs.Rules.{schemaRules}
+use Rattle.rules.specs.JudgeLaws.{answer-attribute, answer-class, answer-none}
 use native.Mathlib.Omega.{arith}
 use borrow.Author.Needs.{needs}
 use Rattle.rules.proofs.judge.judge_rule.Statement.{statement}
 use Rattle.rules.proofs.judge.judge_rule.Tie as tie
-use Rattle.rules.proofs.judge.judge_rule.Reads as reads
-use Rattle.rules.proofs.judge.judge_rule.Lts as lts
-use Rattle.rules.proofs.judge.first_attribute.Reads as first-attribute-reads
-use Rattle.rules.proofs.judge.first_class.Reads as first-class-reads
-use Rattle.schema.proofs.answer.Answer.done.Reads as done-reads
-use Rattle.schema.proofs.store.attribute_count.Reads as attribute-count-reads
-use Rattle.schema.proofs.store.class_count.Reads as class-count-reads
 
 first-attribute-requires : tie.Need-first-attribute-requires
 first-attribute-requires c κs = search needs

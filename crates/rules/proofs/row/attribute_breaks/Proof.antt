@@ -1,7 +1,5 @@
-use mathlib.Core.Path.{_≡_, refl, sym, ap, _∙_}
-use lib.ListN.{length}
-use Rattle.tables.specs.ShapedLaws.{attribute-row-length, class-row-length}
-use Rattle.prelude.specs.Below.{anyBelow}
+use mathlib.Core.Path.{refl, sym}
+use Rattle.tables.specs.ShapedLaws.{attribute-row-length}
 use Rattle.schema.specs.Store.{attributeTable, classTable}
 use Rattle.rules.specs.Rules.{schemaRules, numbered, RowRule}
 use Rattle.rules.specs.RulesLaws.{numbered-passed}
@@ -9,17 +7,6 @@ use native.Mathlib.Omega.{arith}
 use borrow.Author.Needs.{needs}
 use Rattle.rules.proofs.row.attribute_breaks.Statement.{statement}
 use Rattle.rules.proofs.row.attribute_breaks.Tie as tie
-use Rattle.rules.proofs.row.attribute_breaks.Reads as reads
-use Rattle.rules.proofs.row.attribute_breaks.Lts as lts
-use Rattle.attribute_rules.proofs.link.forward_missing.Reads as forward-missing-reads
-use Rattle.attribute_rules.proofs.range.range_wrong.Reads as range-wrong-reads
-use Rattle.attribute_rules.proofs.syntax.object_class_wrong.Reads as object-class-wrong-reads
-use Rattle.attribute_rules.proofs.syntax.syntax_wrong.Reads as syntax-wrong-reads
-use Rattle.names.proofs.identifier_invalid.Reads as identifier-invalid-reads
-use Rattle.names.proofs.name_invalid.Reads as name-invalid-reads
-use Rattle.schema.proofs.store.attribute_row.Reads as attribute-row-reads
-use Rattle.unique.proofs.attribute_taken.Reads as attribute-taken-reads
-use Rattle.unique.proofs.number_taken.Reads as number-taken-reads
 
 attribute-row-requires : tie.Need-attribute-row-requires
 attribute-row-requires c κs = search needs

@@ -1,7 +1,5 @@
-use mathlib.Core.Path.{_≡_, refl, sym, ap, _∙_}
-use lib.ListN.{length}
-use Rattle.tables.specs.ShapedLaws.{attribute-row-length, class-row-length}
-use Rattle.prelude.specs.Below.{anyBelow}
+use mathlib.Core.Path.{refl, sym}
+use Rattle.tables.specs.ShapedLaws.{class-row-length}
 use Rattle.schema.specs.Store.{attributeTable, classTable}
 use Rattle.rules.specs.Rules.{schemaRules, numbered, RowRule}
 use Rattle.rules.specs.RulesLaws.{numbered-passed}
@@ -9,18 +7,6 @@ use native.Mathlib.Omega.{arith}
 use borrow.Author.Needs.{needs}
 use Rattle.rules.proofs.row.class_breaks.Statement.{statement}
 use Rattle.rules.proofs.row.class_breaks.Tie as tie
-use Rattle.rules.proofs.row.class_breaks.Reads as reads
-use Rattle.rules.proofs.row.class_breaks.Lts as lts
-use Rattle.class_rules.proofs.category.category_wrong.Reads as category-wrong-reads
-use Rattle.class_rules.proofs.category.inheritance_wrong.Reads as inheritance-wrong-reads
-use Rattle.class_rules.proofs.chain.chain_wrong.Reads as chain-wrong-reads
-use Rattle.class_rules.proofs.live.attribute_not_live.Reads as attribute-not-live-reads
-use Rattle.class_rules.proofs.live.class_wrong.Reads as class-wrong-reads
-use Rattle.class_rules.proofs.live.naming_wrong.Reads as naming-wrong-reads
-use Rattle.names.proofs.identifier_invalid.Reads as identifier-invalid-reads
-use Rattle.names.proofs.name_invalid.Reads as name-invalid-reads
-use Rattle.schema.proofs.store.class_row.Reads as class-row-reads
-use Rattle.unique.proofs.class_taken.Reads as class-taken-reads
 
 class-row-requires : tie.Need-class-row-requires
 class-row-requires c κs = search needs

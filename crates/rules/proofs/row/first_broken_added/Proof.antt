@@ -1,19 +1,10 @@
-use mathlib.Core.Path.{_≡_, refl, sym, ap, _∙_}
-use lib.ListN.{length}
-use Rattle.tables.specs.ShapedLaws.{attribute-row-length, class-row-length}
-use Rattle.prelude.specs.Below.{anyBelow}
+use mathlib.Core.Path.{sym, _∙_}
 use Rattle.schema.specs.Store.{attributeTable, classTable}
-use Rattle.rules.specs.Rules.{schemaRules, numbered, RowRule}
-use Rattle.rules.specs.RulesLaws.{numbered-passed}
+use Rattle.rules.specs.Rules.{numbered}
 use Rattle.rules.specs.RulesLaws.{added-first, added-own, added-later}
-use native.Mathlib.Omega.{arith}
 use borrow.Author.Needs.{needs}
 use Rattle.rules.proofs.row.first_broken_added.Statement.{statement}
 use Rattle.rules.proofs.row.first_broken_added.Tie as tie
-use Rattle.rules.proofs.row.first_broken_added.Reads as reads
-use Rattle.rules.proofs.row.first_broken_added.Lts as lts
-use Rattle.class_rules.proofs.live.lists_itself.Reads as lists-itself-reads
-use Rattle.rules.proofs.row.first_class_rule.Reads as first-class-rule-reads
 
 slice-aggregate-first-class-rule : tie.Need-slice-aggregate-first-class-rule
 slice-aggregate-first-class-rule c = search needs

@@ -1,17 +1,7 @@
-use mathlib.Core.Path.{_≡_, refl, sym, ap, _∙_}
-use lib.ListN.{length}
-use Rattle.tables.specs.ShapedLaws.{attribute-row-length, class-row-length}
-use Rattle.prelude.specs.Below.{anyBelow}
-use Rattle.schema.specs.Store.{attributeTable, classTable}
-use Rattle.rules.specs.Rules.{schemaRules, numbered, RowRule}
-use Rattle.rules.specs.RulesLaws.{numbered-passed}
-use native.Mathlib.Omega.{arith}
+use Rattle.rules.specs.Rules.{numbered}
 use borrow.Author.Needs.{needs}
 use Rattle.rules.proofs.row.first_broken_attribute.Statement.{statement}
 use Rattle.rules.proofs.row.first_broken_attribute.Tie as tie
-use Rattle.rules.proofs.row.first_broken_attribute.Reads as reads
-use Rattle.rules.proofs.row.first_broken_attribute.Lts as lts
-use Rattle.rules.proofs.row.first_attribute_rule.Reads as first-attribute-rule-reads
 
 slice-aggregate-first-attribute-rule : tie.Need-slice-aggregate-first-attribute-rule
 slice-aggregate-first-attribute-rule c = search needs

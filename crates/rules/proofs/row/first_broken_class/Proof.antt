@@ -1,17 +1,7 @@
-use mathlib.Core.Path.{_≡_, refl, sym, ap, _∙_}
-use lib.ListN.{length}
-use Rattle.tables.specs.ShapedLaws.{attribute-row-length, class-row-length}
-use Rattle.prelude.specs.Below.{anyBelow}
-use Rattle.schema.specs.Store.{attributeTable, classTable}
-use Rattle.rules.specs.Rules.{schemaRules, numbered, RowRule}
-use Rattle.rules.specs.RulesLaws.{numbered-passed}
-use native.Mathlib.Omega.{arith}
+use Rattle.rules.specs.Rules.{numbered}
 use borrow.Author.Needs.{needs}
 use Rattle.rules.proofs.row.first_broken_class.Statement.{statement}
 use Rattle.rules.proofs.row.first_broken_class.Tie as tie
-use Rattle.rules.proofs.row.first_broken_class.Reads as reads
-use Rattle.rules.proofs.row.first_broken_class.Lts as lts
-use Rattle.rules.proofs.row.first_class_rule.Reads as first-class-rule-reads
 
 slice-aggregate-first-class-rule : tie.Need-slice-aggregate-first-class-rule
 slice-aggregate-first-class-rule c = search needs

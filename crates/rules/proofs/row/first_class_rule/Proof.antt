@@ -1,8 +1,6 @@
 use mathlib.Core.Path.{_≡_, refl, sym, ap, _∙_}
-use mathlib.Core.Bool.{true, false}
-use Prim.Native.Nat.{ℕ, _+_, _-_, _≤_, _<_}
-use borrow.Author.Tests.{not-true, not-false, lt-ltb, le-ltb, le-leb, lt-leb, eq-eqb, ne-eqb, ltb-true, ltb-false}
-use lib.ListN.{length, getD, drop}
+use Prim.Native.Nat.{ℕ, _-_}
+use lib.ListN.{length, drop}
 use Rattle.prelude.specs.First.{firstOf}
 use Rattle.schema.specs.Store.{attributeTable, classTable}
 use Rattle.rules.specs.Rules.{RowRule, schemaRules, numbered, rulesOf, casesOf}
@@ -11,10 +9,6 @@ use native.Mathlib.Omega.{arith}
 use borrow.Author.Needs.{needs}
 use Rattle.rules.proofs.row.first_class_rule.Statement.{statement}
 use Rattle.rules.proofs.row.first_class_rule.Tie as tie
-use Rattle.rules.proofs.row.first_class_rule.Reads as reads
-use Rattle.rules.proofs.row.first_class_rule.Lts as lts
-use Rattle.prelude.proofs.number.byte_at.Reads as byte-at-reads
-use Rattle.rules.proofs.row.class_breaks.Reads as class-breaks-reads
 
 abbrev Inv-loop : tie.InvT-loop
 Inv-loop order attributes classes c i₀ i = firstOf (casesOf (λ (r : RowRule). r .class (c .0)) (rulesOf (schemaRules (attributeTable attributes) (classTable classes)) order)) ≡ firstOf (casesOf (λ (r : RowRule). r .class (c .0)) (rulesOf (schemaRules (attributeTable attributes) (classTable classes)) (drop i order)))
