@@ -5,3 +5,4 @@ pub mod Category
 pub mod CategoryLaws
 pub mod Chain
 pub mod ChainLaws
+pub mod StayLaws

@@ -3,4 +3,6 @@ pub mod Rules
 pub mod RulesLaws
 pub mod Judge
 pub mod JudgeLaws
+pub mod Change
+pub mod ChangeLaws
 pub mod Pieces

@@ -1,10 +1,17 @@
 -- A replaced row and an added row are such changes, and what is then in row k.
-use mathlib.Core.Path.{_≡_, refl}
+use mathlib.Core.Path.{_≡_, refl, ap, _∙_}
+use mathlib.Core.Bool.{Bool, true, false}
+use mathlib.Core.Logic.{_⊎_, inl, inr, ⊎-elim}
 use mathlib.Core.List.{List}
 use Prim.Native.Nat.{ℕ, _<_}
 use native.Mathlib.Omega.{arith}
-use Rattle.prelude.specs.SaysLaws.{says-eq, says-true, says-false}
+use native.Mathlib.Decide.{ℕ-discrete}
+use Rattle.prelude.specs.SaysLaws.{says-eq, says-true, says-false, says-split, says-test}
+use Rattle.prelude.specs.Below.{anyBelow}
+use Rattle.prelude.specs.BelowLaws.{any-one}
+use Rattle.schema.specs.Row.{isDefunct}
 use Rattle.schema.specs.Store.{Table}
+use Rattle.tables.specs.Live.{Live}
 use Rattle.tables.specs.Changed.{withRow, plusRow, ChangedAt}
 
 pub with-changed : (t : Table) (k : ℕ) (row : List ℕ) → k < t .count → ChangedAt k t (withRow t k row)
@@ -20,3 +27,30 @@ with-here t k row = rw (says-true (says-eq k k) refl)
 
 pub plus-here : (t : Table) (row : List ℕ) → plusRow t row .row (t .count) ≡ row
 plus-here t row = rw (says-true (says-eq (t .count) (t .count)) refl)
+
+-- ---- what stays
+
+module _ {k : ℕ} {t u : Table} (h : ChangedAt k t u) where
+  -- a test of a row by itself: where no row passed it before, only row k can pass it now
+  pub any-changed : (f : List ℕ → Bool) → ((j : ℕ) → j < t .count → f (t .row j) ≡ false) → anyBelow (u .count) (λ j. f (u .row j)) ≡ f (u .row k)
+  any-changed f e = any-one (u .count) k (λ j. f (u .row j)) (h .here) (λ j l d. ap f (h .other j d (h .old j l d)) ∙ e j (h .old j l d))
+
+  -- a live row stays live, unless it is row k, which has become defunct, and the naming row is active
+  pub live-stays : (naming : List ℕ) (n : ℕ)
+      → (n ≡ k → isDefunct (u .row k) ≡ true → (isDefunct (t .row k) ≡ true) ⊎ (isDefunct naming ≡ true)) → Live t naming n → Live u naming n
+  live-stays naming n ok l = (h .stays n (l .0), go (ℕ-discrete n k))
+    where
+      State : Type 0
+      State = (isDefunct naming ≡ true) ⊎ ¬ (isDefunct (u .row n) ≡ true)
+
+      was : n ≡ k → ¬ (isDefunct (t .row n) ≡ true) → (isDefunct (t .row k) ≡ true) ⊎ (isDefunct naming ≡ true) → State
+      was e active (inl q) = absurd (active (rw e q))
+      was e active (inr q) = inl q
+
+      here : n ≡ k → ¬ (isDefunct (t .row n) ≡ true) → ((isDefunct (u .row k) ≡ true) × (isDefunct (u .row k) ≡ true)) ⊎ ((isDefunct (u .row k) ≡ false) × ¬ (isDefunct (u .row k) ≡ true)) → State
+      here e active (inl q) = was e active (ok e (q .0))
+      here e active (inr q) = inr (rw e (q .1))
+
+      go : Dec (n ≡ k) → State
+      go (yes e) = ⊎-elim inl (λ active. here e active (says-split (says-test (isDefunct (u .row k))))) (l .1)
+      go (no d) = rw (h .other n d (l .0)) (l .1)
