@@ -1,15 +1,14 @@
 -- Rules of a class row where one row of either table was changed or added: each law says of which facts of the changed row the rule of another row
 -- depends.
-use mathlib.Core.Path.{_≡_, refl, sym, ap, _∙_}
-use mathlib.Core.Bool.{Bool, true, false}
+use mathlib.Core.Path.{_≡_, ap, _∙_}
+use mathlib.Core.Bool.{true, false}
 use mathlib.Core.List.{List}
 use mathlib.Core.Logic.{_⊎_, inl, inr, ⊎-elim}
-use Prim.Native.Nat.{ℕ, _≤_, _<_}
+use Prim.Native.Nat.{ℕ, _<_}
 use native.Mathlib.Omega.{arith}
 use native.Mathlib.Decide.{ℕ-discrete, decLt}
-use Rattle.prelude.specs.Below.{Some}
 use Rattle.prelude.specs.SaysLaws.{says-false, says-fails}
-use Rattle.schema.specs.Numbers.{attributeLimit, classLimit}
+use Rattle.schema.specs.Numbers.{classLimit}
 use Rattle.schema.specs.Row.{isDefunct}
 use Rattle.schema.specs.AttributeRow.{syntaxOf, isSingleValued}
 use Rattle.schema.specs.ClassRow.{categoryOf, superclassOf}
@@ -17,17 +16,16 @@ use Rattle.schema.specs.Store.{Table}
 use Rattle.schema.specs.declared.class.Naming.{Naming}
 use Rattle.schema.specs.declared.class.Naming.the-variants.{By}
 use Rattle.tables.specs.Live.{Live}
-use Rattle.tables.specs.LiveLaws.{says-live}
 use Rattle.tables.specs.Changed.{ChangedAt}
 use Rattle.tables.specs.ChangedLaws.{live-stays}
 use Rattle.class_rules.specs.declared.named.ClassList.{ClassList}
 use Rattle.class_rules.specs.declared.named.ClassList.the-variants.{Auxiliaries, Superiors}
-use Rattle.class_rules.specs.Named.{namesAttribute, namesClass, attributeNotLive, classNotLive, superclassLate, classWrong, namingWrong, Lists, NamesAttribute, NamesClass, ClassNotLive, SuperclassEarly}
-use Rattle.class_rules.specs.NamedLaws.{says-names-attribute, says-names-class, says-attribute-not-live, says-class-not-live, says-class-wrong, says-superclass-late, says-naming-wrong}
-use Rattle.class_rules.specs.Category.{class88, listCategory, categoryWrong, inheritanceWrong, CategoryWrong, Illegal, InheritanceWrong}
+use Rattle.class_rules.specs.Named.{namesAttribute, namesClass, attributeNotLive, classWrong, namingWrong, Lists, NamesAttribute, NamesClass, ClassNotLive, SuperclassEarly}
+use Rattle.class_rules.specs.NamedLaws.{says-names-attribute, says-names-class, says-attribute-not-live, says-class-wrong, says-naming-wrong}
+use Rattle.class_rules.specs.Category.{categoryWrong, inheritanceWrong, CategoryWrong, Illegal, InheritanceWrong}
 use Rattle.class_rules.specs.CategoryLaws.{says-category-wrong, says-inheritance-wrong}
-use Rattle.class_rules.specs.Chain.{chainLimit, chainWrong, Chain, top, up, ChainWithin}
-use Rattle.class_rules.specs.ChainLaws.{says-chain-wrong, says-chain}
+use Rattle.class_rules.specs.Chain.{chainWrong, Chain, top, up}
+use Rattle.class_rules.specs.ChainLaws.{says-chain-wrong}
 
 -- ---- an attribute was changed or added
 

@@ -62,13 +62,13 @@ pub fn is_valid_name(name: &[u8]) -> bool
 }
 
 // A to Z as a to z, every other byte as it is.
-pub fn fold(b: u8) -> u8
-    ensures { λ r. ⌜ r ≡ folded b ⌝ }
+pub fn fold(x: u8) -> u8
+    ensures { λ r. ⌜ r ≡ folded x ⌝ }
 {
-    if is_between(b'A', b'Z', b) {
-        return b + 32;
+    if is_between(b'A', b'Z', x) {
+        return x + 32;
     }
-    b
+    x
 }
 
 // Whether two names are the same, case aside. The lengths come first: most names differ in them.

@@ -1,24 +1,21 @@
 -- Rules judged for the changed row alone, and for all rows: the two agree where no row broke a rule before. Each law is an equation of lists of
 -- cases, so that the number found is the same.
 use mathlib.Core.Path.{_≡_, refl, sym, ap, ap₂, _∙_}
-use mathlib.Core.Bool.{Bool, true, false, _&&_, _||_, true≢false}
+use mathlib.Core.Bool.{Bool, true, false, _||_, true≢false}
 use mathlib.Core.List.{List, [], _∷_, _++_}
 use mathlib.Core.Logic.{_⊎_, inl, inr, ⊎-elim}
-use Prim.Native.Nat.{ℕ, _≤_, _<_}
+use Prim.Native.Nat.{ℕ, _<_}
 use native.Mathlib.Omega.{arith}
-use native.Mathlib.Decide.{ℕ-discrete, decLt}
-use lib.Dec.{eqb}
-use Rattle.prelude.specs.SaysLaws.{says-eq, says-test, says-split, says-false, says-fails}
+use native.Mathlib.Decide.{decLt}
+use Rattle.prelude.specs.SaysLaws.{says-test, says-split, says-fails}
 use Rattle.prelude.specs.Below.{anyBelow}
-use Rattle.prelude.specs.BelowLaws.{any-one, any-false, any-here}
+use Rattle.prelude.specs.BelowLaws.{any-one, any-false}
 use Rattle.prelude.specs.First.{Case, _when_, firstOf}
 use Rattle.schema.specs.Numbers.{attributeLimit}
 use Rattle.schema.specs.Row.{isDefunct}
 use Rattle.schema.specs.ClassRow.{namingOf}
 use Rattle.schema.specs.Store.{Table}
-use Rattle.schema.specs.declared.class.Naming.the-variants.{By}
 use Rattle.names.specs.Name.{nameInvalid, identifierInvalid}
-use Rattle.tables.specs.Changed.{ChangedAt}
 use Rattle.tables.specs.ChangedLaws.{any-changed}
 use Rattle.unique.specs.declared.Key.the-variants.{Name, Identifier, Guid, Mapi, Link}
 use Rattle.unique.specs.Unique.{everyRow}
@@ -29,16 +26,16 @@ use Rattle.attribute_rules.specs.Links.{isBackLink, isForwardOf, forwardMissing
 use Rattle.attribute_rules.specs.LinksLaws.{forward-stays, no-back-link}
 use Rattle.class_rules.specs.declared.named.ClassList.{ClassList}
 use Rattle.class_rules.specs.declared.named.ClassList.the-variants.{Auxiliaries, Superiors}
-use Rattle.class_rules.specs.Named.{namesAttribute, namesClass, attributeNotLive, classWrong, listsItself, namingWrong, NamesAttribute}
+use Rattle.class_rules.specs.Named.{namesAttribute, namesClass, attributeNotLive, classWrong, namingWrong, NamesAttribute}
 use Rattle.class_rules.specs.NamedLaws.{says-attribute-not-live, says-names-attribute, says-names-class}
 use Rattle.class_rules.specs.Category.{categoryWrong, inheritanceWrong}
 use Rattle.class_rules.specs.Chain.{chainWrong}
 use Rattle.class_rules.specs.StayLaws.{named-there, attribute-live-stays, naming-stays, class-stays, category-stays, inheritance-stays, chain-stays}
 use Rattle.rules.specs.Rules.{RowRule, never, firstRules, laterRules, schemaRules, ownListRule, additionRules, casesOf, attributeCases, classCases}
-use Rattle.rules.specs.RulesLaws.{cases-append}
-use Rattle.rules.specs.Judge.{judgeRules, judged, brokenCases, Kept, AllKept}
+use Rattle.rules.specs.RulesLaws.{own-row, own-all}
+use Rattle.rules.specs.Judge.{judgeRules, judged, brokenCases, AllKept}
 use Rattle.rules.specs.JudgeLaws.{judge-number}
-use Rattle.rules.specs.Change.{AttributeUnneeded, AttributeChange, ClassUnneeded, ClassChange}
+use Rattle.rules.specs.Change.{AttributeChange, ClassChange}
 
 -- ---- two tests of rules that agree on a list
 
@@ -117,28 +114,58 @@ module _ {k : ℕ} {a u c : Table} (h : AttributeChange k a u c) (kept : AllKept
       go (inr q) = no-back-link u (a .row j) (q .0)
 
   first-attribute : Agree (broken (u .count) (c .count)) (λ r. r .attribute k) (firstRules u c)
-  first-attribute =
-      (or-left (any-changed (h .changed) nameInvalid (kept .0 .attributes)) (any-false _ (c .count) (kept .0 .classes)),
-      (attribute-rival everyRow Name c (h .changed) (kept .1 .0 .attributes) (kept .1 .0 .classes),
-      (or-left (any-changed (h .changed) identifierInvalid (kept .1 .1 .0 .attributes)) (any-false _ (c .count) (kept .1 .1 .0 .classes)),
-      (attribute-rival everyRow Identifier c (h .changed) (kept .1 .1 .1 .0 .attributes) (kept .1 .1 .1 .0 .classes),
-      (attribute-rival everyRow Guid c (h .changed) (kept .1 .1 .1 .1 .0 .attributes) (kept .1 .1 .1 .1 .0 .classes),
-      (or-left (none-never (u .count)) (any-false _ (c .count) live-kept), tt))))))
+  first-attribute = (
+    or-left (any-changed (h .changed) nameInvalid (kept .0 .attributes)) (any-false _ (c .count) (kept .0 .classes)),
+    (
+      attribute-rival everyRow Name c (h .changed) (kept .1 .0 .attributes) (kept .1 .0 .classes),
+      (
+        or-left (any-changed (h .changed) identifierInvalid (kept .1 .1 .0 .attributes)) (any-false _ (c .count) (kept .1 .1 .0 .classes)),
+        (
+          attribute-rival everyRow Identifier c (h .changed) (kept .1 .1 .1 .0 .attributes) (kept .1 .1 .1 .0 .classes),
+          (
+            attribute-rival everyRow Guid c (h .changed) (kept .1 .1 .1 .1 .0 .attributes) (kept .1 .1 .1 .1 .0 .classes),
+            (or-left (none-never (u .count)) (any-false _ (c .count) live-kept), tt),
+          ),
+        ),
+      ),
+    ),
+  )
 
   later-attribute : Agree (broken (u .count) (c .count)) (λ r. r .attribute k) (laterRules u c)
-  later-attribute =
-      (or-left (none-never (u .count)) (any-false _ (c .count) (kept .1 .1 .1 .1 .1 .1 .0 .classes)),
-      (or-left (none-never (u .count)) (any-false _ (c .count) (kept .1 .1 .1 .1 .1 .1 .1 .0 .classes)),
-      (or-left (none-never (u .count)) (any-false _ (c .count) (kept .1 .1 .1 .1 .1 .1 .1 .1 .0 .classes)),
-      (or-left (none-never (u .count)) (any-false _ (c .count) (kept .1 .1 .1 .1 .1 .1 .1 .1 .1 .0 .classes)),
-      (or-left (none-never (u .count)) (any-false _ (c .count) (kept .1 .1 .1 .1 .1 .1 .1 .1 .1 .1 .0 .classes)),
-      (or-left (none-never (u .count)) (any-false _ (c .count) naming-kept),
-      (or-left (number-rival everyRow Mapi (h .changed) (kept .1 .1 .1 .1 .1 .1 .1 .1 .1 .1 .1 .1 .0 .attributes)) (none-never (c .count)),
-      (or-left (any-changed (h .changed) rangeWrong (kept .1 .1 .1 .1 .1 .1 .1 .1 .1 .1 .1 .1 .1 .0 .attributes)) (none-never (c .count)),
-      (or-left (any-changed (h .changed) syntaxWrong (kept .1 .1 .1 .1 .1 .1 .1 .1 .1 .1 .1 .1 .1 .1 .0 .attributes)) (none-never (c .count)),
-      (or-left (any-changed (h .changed) objectClassWrong (kept .1 .1 .1 .1 .1 .1 .1 .1 .1 .1 .1 .1 .1 .1 .1 .0 .attributes)) (none-never (c .count)),
-      (or-left (number-rival everyRow Link (h .changed) (kept .1 .1 .1 .1 .1 .1 .1 .1 .1 .1 .1 .1 .1 .1 .1 .1 .0 .attributes)) (none-never (c .count)),
-      (or-left (any-one (u .count) k (λ j. forwardMissing u (u .row j)) (h .changed .here) forward-kept) (none-never (c .count)), tt))))))))))))
+  later-attribute = (
+    or-left (none-never (u .count)) (any-false _ (c .count) (kept .1 .1 .1 .1 .1 .1 .0 .classes)),
+    (
+      or-left (none-never (u .count)) (any-false _ (c .count) (kept .1 .1 .1 .1 .1 .1 .1 .0 .classes)),
+      (
+        or-left (none-never (u .count)) (any-false _ (c .count) (kept .1 .1 .1 .1 .1 .1 .1 .1 .0 .classes)),
+        (
+          or-left (none-never (u .count)) (any-false _ (c .count) (kept .1 .1 .1 .1 .1 .1 .1 .1 .1 .0 .classes)),
+          (
+            or-left (none-never (u .count)) (any-false _ (c .count) (kept .1 .1 .1 .1 .1 .1 .1 .1 .1 .1 .0 .classes)),
+            (
+              or-left (none-never (u .count)) (any-false _ (c .count) naming-kept),
+              (
+                or-left (number-rival everyRow Mapi (h .changed) (kept .1 .1 .1 .1 .1 .1 .1 .1 .1 .1 .1 .1 .0 .attributes)) (none-never (c .count)),
+                (
+                  or-left (any-changed (h .changed) rangeWrong (kept .1 .1 .1 .1 .1 .1 .1 .1 .1 .1 .1 .1 .1 .0 .attributes)) (none-never (c .count)),
+                  (
+                    or-left (any-changed (h .changed) syntaxWrong (kept .1 .1 .1 .1 .1 .1 .1 .1 .1 .1 .1 .1 .1 .1 .0 .attributes)) (none-never (c .count)),
+                    (
+                      or-left (any-changed (h .changed) objectClassWrong (kept .1 .1 .1 .1 .1 .1 .1 .1 .1 .1 .1 .1 .1 .1 .1 .0 .attributes)) (none-never (c .count)),
+                      (
+                        or-left (number-rival everyRow Link (h .changed) (kept .1 .1 .1 .1 .1 .1 .1 .1 .1 .1 .1 .1 .1 .1 .1 .1 .0 .attributes)) (none-never (c .count)),
+                        (or-left (any-one (u .count) k (λ j. forwardMissing u (u .row j)) (h .changed .here) forward-kept) (none-never (c .count)), tt),
+                      ),
+                    ),
+                  ),
+                ),
+              ),
+            ),
+          ),
+        ),
+      ),
+    ),
+  )
 
   -- all rows and the changed attribute alone: the same cases
   pub attribute-alone : brokenCases (schemaRules u c) (u .count) (c .count) ≡ attributeCases (schemaRules u c) k
@@ -185,33 +212,62 @@ module _ (a : Table) {k : ℕ} {c u : Table} (h : ClassChange k c u) (kept : All
   chain-kept j l d = chain-stays (h .changed) (h .superclass) j (kept .1 .1 .1 .1 .1 .1 .1 .1 .1 .1 .0 .classes j (h .changed .old j l d))
 
   first-class : Agree (broken (a .count) (u .count)) (λ r. r .class k) (firstRules a u)
-  first-class =
-      (or-right (any-false _ (a .count) (kept .0 .attributes)) (any-changed (h .changed) nameInvalid (kept .0 .classes)),
-      (class-rival everyRow Name a (h .changed) (kept .1 .0 .attributes) (kept .1 .0 .classes),
-      (or-right (any-false _ (a .count) (kept .1 .1 .0 .attributes)) (any-changed (h .changed) identifierInvalid (kept .1 .1 .0 .classes)),
-      (class-rival everyRow Identifier a (h .changed) (kept .1 .1 .1 .0 .attributes) (kept .1 .1 .1 .0 .classes),
-      (class-rival everyRow Guid a (h .changed) (kept .1 .1 .1 .1 .0 .attributes) (kept .1 .1 .1 .1 .0 .classes),
-      (or-right (none-never (a .count)) (any-changed (h .changed) (attributeNotLive a) (kept .1 .1 .1 .1 .1 .0 .classes)), tt))))))
+  first-class = (
+    or-right (any-false _ (a .count) (kept .0 .attributes)) (any-changed (h .changed) nameInvalid (kept .0 .classes)),
+    (
+      class-rival everyRow Name a (h .changed) (kept .1 .0 .attributes) (kept .1 .0 .classes),
+      (
+        or-right (any-false _ (a .count) (kept .1 .1 .0 .attributes)) (any-changed (h .changed) identifierInvalid (kept .1 .1 .0 .classes)),
+        (
+          class-rival everyRow Identifier a (h .changed) (kept .1 .1 .1 .0 .attributes) (kept .1 .1 .1 .0 .classes),
+          (
+            class-rival everyRow Guid a (h .changed) (kept .1 .1 .1 .1 .0 .attributes) (kept .1 .1 .1 .1 .0 .classes),
+            (or-right (none-never (a .count)) (any-changed (h .changed) (attributeNotLive a) (kept .1 .1 .1 .1 .1 .0 .classes)), tt),
+          ),
+        ),
+      ),
+    ),
+  )
 
   later-class : Agree (broken (a .count) (u .count)) (λ r. r .class k) (laterRules a u)
-  later-class =
-      (or-right (none-never (a .count)) (any-one (u .count) k (classWrong u) (h .changed .here) class-kept),
-      (or-right (none-never (a .count)) (any-one (u .count) k (λ j. categoryWrong Auxiliaries u (u .row j)) (h .changed .here) (category-kept Auxiliaries (kept .1 .1 .1 .1 .1 .1 .1 .0 .classes))),
-      (or-right (none-never (a .count)) (any-one (u .count) k (λ j. categoryWrong Superiors u (u .row j)) (h .changed .here) (category-kept Superiors (kept .1 .1 .1 .1 .1 .1 .1 .1 .0 .classes))),
-      (or-right (none-never (a .count)) (any-one (u .count) k (inheritanceWrong u) (h .changed .here) inheritance-kept),
-      (or-right (none-never (a .count)) (any-one (u .count) k (chainWrong u) (h .changed .here) chain-kept),
-      (or-right (none-never (a .count)) (any-changed (h .changed) (λ row. namingWrong a (namingOf row)) (kept .1 .1 .1 .1 .1 .1 .1 .1 .1 .1 .1 .0 .classes)),
-      (or-right (any-false _ (a .count) (kept .1 .1 .1 .1 .1 .1 .1 .1 .1 .1 .1 .1 .0 .attributes)) (none-never (u .count)),
-      (or-right (any-false _ (a .count) (kept .1 .1 .1 .1 .1 .1 .1 .1 .1 .1 .1 .1 .1 .0 .attributes)) (none-never (u .count)),
-      (or-right (any-false _ (a .count) (kept .1 .1 .1 .1 .1 .1 .1 .1 .1 .1 .1 .1 .1 .1 .0 .attributes)) (none-never (u .count)),
-      (or-right (any-false _ (a .count) (kept .1 .1 .1 .1 .1 .1 .1 .1 .1 .1 .1 .1 .1 .1 .1 .0 .attributes)) (none-never (u .count)),
-      (or-right (any-false _ (a .count) (kept .1 .1 .1 .1 .1 .1 .1 .1 .1 .1 .1 .1 .1 .1 .1 .1 .0 .attributes)) (none-never (u .count)),
-      (or-right (any-false _ (a .count) (kept .1 .1 .1 .1 .1 .1 .1 .1 .1 .1 .1 .1 .1 .1 .1 .1 .1 .0 .attributes)) (none-never (u .count)), tt))))))))))))
+  later-class = (
+    or-right (none-never (a .count)) (any-one (u .count) k (classWrong u) (h .changed .here) class-kept),
+    (
+      or-right (none-never (a .count)) (any-one (u .count) k (λ j. categoryWrong Auxiliaries u (u .row j)) (h .changed .here) (category-kept Auxiliaries (kept .1 .1 .1 .1 .1 .1 .1 .0 .classes))),
+      (
+        or-right (none-never (a .count)) (any-one (u .count) k (λ j. categoryWrong Superiors u (u .row j)) (h .changed .here) (category-kept Superiors (kept .1 .1 .1 .1 .1 .1 .1 .1 .0 .classes))),
+        (
+          or-right (none-never (a .count)) (any-one (u .count) k (inheritanceWrong u) (h .changed .here) inheritance-kept),
+          (
+            or-right (none-never (a .count)) (any-one (u .count) k (chainWrong u) (h .changed .here) chain-kept),
+            (
+              or-right (none-never (a .count)) (any-changed (h .changed) (λ row. namingWrong a (namingOf row)) (kept .1 .1 .1 .1 .1 .1 .1 .1 .1 .1 .1 .0 .classes)),
+              (
+                or-right (any-false _ (a .count) (kept .1 .1 .1 .1 .1 .1 .1 .1 .1 .1 .1 .1 .0 .attributes)) (none-never (u .count)),
+                (
+                  or-right (any-false _ (a .count) (kept .1 .1 .1 .1 .1 .1 .1 .1 .1 .1 .1 .1 .1 .0 .attributes)) (none-never (u .count)),
+                  (
+                    or-right (any-false _ (a .count) (kept .1 .1 .1 .1 .1 .1 .1 .1 .1 .1 .1 .1 .1 .1 .0 .attributes)) (none-never (u .count)),
+                    (
+                      or-right (any-false _ (a .count) (kept .1 .1 .1 .1 .1 .1 .1 .1 .1 .1 .1 .1 .1 .1 .1 .0 .attributes)) (none-never (u .count)),
+                      (
+                        or-right (any-false _ (a .count) (kept .1 .1 .1 .1 .1 .1 .1 .1 .1 .1 .1 .1 .1 .1 .1 .1 .0 .attributes)) (none-never (u .count)),
+                        (or-right (any-false _ (a .count) (kept .1 .1 .1 .1 .1 .1 .1 .1 .1 .1 .1 .1 .1 .1 .1 .1 .1 .0 .attributes)) (none-never (u .count)), tt),
+                      ),
+                    ),
+                  ),
+                ),
+              ),
+            ),
+          ),
+        ),
+      ),
+    ),
+  )
 
   -- the bar on the added class's own number looks at that class alone
   own-class : broken (a .count) (u .count) (ownListRule u k) ≡ ownListRule u k .class k
-  own-class =
-      or-right (none-never (a .count)) (any-one (u .count) k (λ j. eqb j k && listsItself u j) (h .changed .here) (λ j l d. rw (says-false (says-eq j k) d)))
+  own-class = own-all u k (a .count) (h .changed .here) ∙ sym (own-row u k)
 
   -- all rows and the changed class alone: the same cases, also with the bar
   pub class-alone : brokenCases (schemaRules a u) (a .count) (u .count) ≡ classCases (schemaRules a u) k

@@ -1,20 +1,21 @@
 -- Finding a rule by its number: what functions that go by a list of numbers cite.
 use mathlib.Core.Path.{_≡_, refl, sym, ap, _∙_}
-use mathlib.Core.Bool.{Bool, true, false, _&&_}
+use mathlib.Core.Bool.{Bool, true, false, _&&_, _||_}
 use mathlib.Core.List.{List, [], _∷_, _++_}
 use mathlib.Core.Logic.{⊎-elim}
 use Prim.Native.Nat.{ℕ, _+_, _≤_, _<_}
 use native.Mathlib.Omega.{arith}
 use native.Mathlib.Numerals.{add-one}
-use lib.Dec.{eqb}
 use lib.ListN.{length, getD, drop, drop-of-length-le}
 use lib.Seq.{drop-cons}
-use Rattle.prelude.specs.SaysLaws.{says-eq, says-split, says-true}
+use Rattle.prelude.specs.SaysLaws.{says-false, says-eq, says-split, says-true}
 use Rattle.prelude.specs.First.{Case, _when_, firstOf}
 use Rattle.prelude.specs.FirstLaws.{first-hit, first-miss, first-none, append-first, append-second}
 use Rattle.class_rules.specs.Named.{listsItself}
+use Rattle.prelude.specs.Below.{anyBelow}
+use Rattle.prelude.specs.BelowLaws.{any-false, any-one}
 use Rattle.schema.specs.Store.{Table}
-use Rattle.rules.specs.Rules.{RowRule, rule, never, firstRules, laterRules, schemaRules, numbered, numbersOf, rulesOf, casesOf, classCases, ownListRule, additionRules}
+use Rattle.rules.specs.Rules.{RowRule, rule, never, firstRules, laterRules, schemaRules, numbered, numbersOf, rulesOf, casesOf, ownListRule, additionRules}
 
 -- ---- a rule by its number
 
@@ -82,18 +83,25 @@ cases-append test (r ∷ p) q = ap (λ (cs : List Case). (r .number when test r)
 
 -- ---- an added class: the rules up to 17, its own number, the rules from 18 on
 
-module _ (a c : Table) (k : ℕ) where
-  own-holds : (b : Bool) → listsItself c k ≡ b → (eqb k k && listsItself c k) ≡ b
-  own-holds b e = ap (λ (x : Bool). x && listsItself c k) (says-true (says-eq k k) refl) ∙ e
+module _ (test : RowRule → Bool) (a c : Table) (k : ℕ) (own : test (ownListRule c k) ≡ listsItself c k) where
+  pub added-first : ¬ (firstOf (casesOf test (firstRules a c)) ≡ 0) → firstOf (casesOf test (additionRules a c k)) ≡ firstOf (casesOf test (firstRules a c))
+  added-first d = append-first (casesOf test (firstRules a c)) (casesOf test (ownListRule c k ∷ laterRules a c)) d
 
-  pub added-first : ¬ (firstOf (classCases (firstRules a c) k) ≡ 0) → firstOf (classCases (additionRules a c k) k) ≡ firstOf (classCases (firstRules a c) k)
-  added-first d = append-first (classCases (firstRules a c) k) (classCases (ownListRule c k ∷ laterRules a c) k) d
+  after-first : firstOf (casesOf test (firstRules a c)) ≡ 0 → firstOf (casesOf test (additionRules a c k)) ≡ firstOf (casesOf test (ownListRule c k ∷ laterRules a c))
+  after-first e = append-second (casesOf test (firstRules a c)) (casesOf test (ownListRule c k ∷ laterRules a c)) (omega arith) e
 
-  after-first : firstOf (classCases (firstRules a c) k) ≡ 0 → firstOf (classCases (additionRules a c k) k) ≡ firstOf (classCases (ownListRule c k ∷ laterRules a c) k)
-  after-first e = append-second (classCases (firstRules a c) k) (classCases (ownListRule c k ∷ laterRules a c) k) (omega arith) e
+  pub added-own : firstOf (casesOf test (firstRules a c)) ≡ 0 → listsItself c k ≡ true → firstOf (casesOf test (additionRules a c k)) ≡ 18
+  added-own e h = after-first e ∙ first-hit (18 when test (ownListRule c k)) (casesOf test (laterRules a c)) (own ∙ h)
 
-  pub added-own : firstOf (classCases (firstRules a c) k) ≡ 0 → listsItself c k ≡ true → firstOf (classCases (additionRules a c k) k) ≡ 18
-  added-own e h = after-first e ∙ first-hit (18 when (eqb k k && listsItself c k)) (classCases (laterRules a c) k) (own-holds true h)
+  pub added-later : firstOf (casesOf test (firstRules a c)) ≡ 0 → listsItself c k ≡ false → firstOf (casesOf test (additionRules a c k)) ≡ firstOf (casesOf test (laterRules a c))
+  added-later e h = after-first e ∙ first-miss (18 when test (ownListRule c k)) (casesOf test (laterRules a c)) (own ∙ h)
 
-  pub added-later : firstOf (classCases (firstRules a c) k) ≡ 0 → listsItself c k ≡ false → firstOf (classCases (additionRules a c k) k) ≡ firstOf (classCases (laterRules a c) k)
-  added-later e h = after-first e ∙ first-miss (18 when (eqb k k && listsItself c k)) (classCases (laterRules a c) k) (own-holds false h)
+-- the bar for the added class alone
+pub own-row : (c : Table) (k : ℕ) → ownListRule c k .class k ≡ listsItself c k
+own-row c k = ap (λ (x : Bool). x && listsItself c k) (says-true (says-eq k k) refl)
+
+-- and for all rows, of which it binds no other
+pub own-all : (c : Table) (k n : ℕ) → k < c .count → (anyBelow n (ownListRule c k .attribute) || anyBelow (c .count) (ownListRule c k .class)) ≡ listsItself c k
+own-all c k n l =
+    ap (λ (x : Bool). x || anyBelow (c .count) (ownListRule c k .class)) (any-false never n (λ j m. refl))
+    ∙ any-one (c .count) k (ownListRule c k .class) l (λ j m d. ap (λ (x : Bool). x && listsItself c j) (says-false (says-eq j k) d)) ∙ own-row c k

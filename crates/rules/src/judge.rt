@@ -1,7 +1,10 @@
 // The judge of all rows: rule by rule in the order of judging, for each rule the attributes first, the lowest row first.
+use crate::row::FIRST_ORDER;
+use crate::row::LATER_ORDER;
 use crate::row::ORDER;
 use crate::row::attribute_breaks;
 use crate::row::class_breaks;
+use class_rules::live::lists_itself;
 use prelude::number::byte_at;
 use schema::answer::Answer;
 use schema::number::AttributeNumber;
@@ -9,11 +12,12 @@ use schema::number::ClassNumber;
 use schema::store::attribute_count;
 use schema::store::class_count;
 ghost use mathlib.Core.Path.{_≡_};
+ghost use Prim.Native.Nat.{_<_};
 ghost use Rattle.prelude.specs.Below.{firstBelow};
 ghost use Rattle.schema.specs.Answers.{done};
 ghost use Rattle.schema.specs.Store.{attributeTable, classTable};
 ghost use Rattle.tables.specs.Shaped.{Shaped};
-ghost use Rattle.rules.specs.Rules.{schemaRules, numbered, rulesOf};
+ghost use Rattle.rules.specs.Rules.{schemaRules, additionRules, numbered, rulesOf};
 ghost use Rattle.rules.specs.Judge.{judgeRule, judgeRules, judged};
 
 // The lowest attribute that breaks the rule of a number, or how many there are.
@@ -22,12 +26,12 @@ fn first_attribute(attributes: &[u8], classes: &[u8], number: u8) -> usize
     ensures { λ r. ⌜ r ≡ firstBelow (attributeTable (now (attributes .entry)) .count) (numbered (schemaRules (attributeTable (now (attributes .entry))) (classTable (now (classes .entry)))) number .attribute) ⌝ }
 {
     let n = attribute_count(attributes);
-    let mut k = 0;
-    while k < n {
-        if attribute_breaks(attributes, classes, number, AttributeNumber(k)) {
-            return k;
+    let mut a = 0;
+    while a < n {
+        if attribute_breaks(attributes, classes, number, AttributeNumber(a)) {
+            return a;
         }
-        k += 1;
+        a += 1;
     }
     n
 }
@@ -95,4 +99,22 @@ pub fn judge(attributes: &[u8], classes: &[u8]) -> Answer
 {
     let order = ORDER;
     judge_by(&order, attributes, classes)
+}
+
+// The number of the first rule that some row breaks after the addition of class c, or 0.
+pub fn judge_addition(attributes: &[u8], classes: &[u8], c: ClassNumber) -> u8
+    requires { ⌜ Shaped (now attributes) (now classes) × (c .0 < classTable (now classes) .count) ⌝ }
+    ensures { λ r. ⌜ r ≡ judgeRules (additionRules (attributeTable (now (attributes .entry))) (classTable (now (classes .entry))) (c .0)) (attributeTable (now (attributes .entry)) .count) (classTable (now (classes .entry)) .count) .number ⌝ }
+{
+    let first = FIRST_ORDER;
+    let early = judge_by(&first, attributes, classes);
+    if early.number != 0 {
+        return early.number;
+    }
+    if lists_itself(classes, c) {
+        return 18;
+    }
+    let later = LATER_ORDER;
+    let late = judge_by(&later, attributes, classes);
+    late.number
 }
