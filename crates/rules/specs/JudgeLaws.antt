@@ -8,7 +8,7 @@ use lib.ListN.{length, getD, drop}
 use native.Mathlib.Omega.{arith}
 use Rattle.prelude.specs.SaysLaws.{says-true, says-false, says-lt}
 use Rattle.prelude.specs.Below.{anyBelow, firstBelow}
-use Rattle.prelude.specs.BelowLaws.{any-none, any-false, first-any}
+use Rattle.prelude.specs.BelowLaws.{first-some, any-none, any-false, first-any}
 use Rattle.prelude.specs.First.{_when_, firstOf, NoneHolds, Rising}
 use Rattle.prelude.specs.FirstLaws.{first-hit, first-miss, first-none, zero-iff-none}
 use Rattle.schema.specs.Answers.{answer, done}
@@ -17,6 +17,15 @@ use Rattle.schema.specs.declared.answer.Answer.{Answer}
 use Rattle.rules.specs.Rules.{RowRule, schemaRules, numbered, rulesOf}
 use Rattle.rules.specs.RulesLaws.{rules-next, rules-end, numbered-number}
 use Rattle.rules.specs.Judge.{judgeRule, judgeRules, judged, brokenCases, AllKept}
+
+-- k is the lowest number below n that passes
+pub record Lowest (p : ℕ → Bool) (n k : ℕ) : Type 0 where
+  pub below : k < n
+  pub passes : p k ≡ true
+  pub none : (j : ℕ) → j < k → p j ≡ false
+
+lowest : (p : ℕ → Bool) (n : ℕ) → anyBelow n p ≡ true → Lowest p n (firstBelow n p)
+lowest p n e = let f = first-some p n e in record { below = f .0; passes = f .1; none = f .2 }
 
 -- ---- one rule, by case
 
@@ -32,6 +41,13 @@ module _ (r : RowRule) (n m : ℕ) (else : Answer) where
   pub judge-neither : anyBelow n (r .attribute) ≡ false → anyBelow m (r .class) ≡ false → judgeRule r n m else ≡ else
   unfolding judgeRule
   judge-neither e f = rw (e, f)
+
+  -- the place is the lowest row that breaks the rule
+  pub lowest-attribute : anyBelow n (r .attribute) ≡ true → Lowest (r .attribute) n (judgeRule r n m else .place)
+  lowest-attribute e = rw (judge-attribute e) (lowest (r .attribute) n e)
+
+  pub lowest-class : anyBelow n (r .attribute) ≡ false → anyBelow m (r .class) ≡ true → Lowest (r .class) m (judgeRule r n m else .place)
+  lowest-class e f = rw (judge-class e f) (lowest (r .class) m f)
 
 pub judge-none : (n m : ℕ) → judgeRules [] n m ≡ done 0 0
 unfolding judgeRules

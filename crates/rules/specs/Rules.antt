@@ -75,11 +75,6 @@ unfoldable pub numbered : List RowRule → ℕ → RowRule
 numbered [] n = rule n never never
 numbered (r ∷ rs) n = cond (eqb (r .number) n) r (numbered rs n)
 
--- the numbers of the rules in their order
-abbrev pub numbersOf : List RowRule → List ℕ
-numbersOf [] = []
-numbersOf (r ∷ rs) = r .number ∷ numbersOf rs
-
 -- rules as cases: the first that a test picks
 abbrev pub casesOf : (RowRule → Bool) → List RowRule → List Case
 casesOf test [] = []

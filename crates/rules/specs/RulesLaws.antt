@@ -1,7 +1,7 @@
 -- Finding a rule by its number: what functions that go by a list of numbers cite.
 use mathlib.Core.Path.{_≡_, refl, sym, ap, _∙_}
 use mathlib.Core.Bool.{Bool, true, false, _&&_, _||_}
-use mathlib.Core.List.{List, [], _∷_, _++_}
+use mathlib.Core.List.{List, [], _∷_}
 use mathlib.Core.Logic.{⊎-elim}
 use Prim.Native.Nat.{ℕ, _+_, _≤_, _<_}
 use native.Mathlib.Omega.{arith}
@@ -9,13 +9,13 @@ use native.Mathlib.Numerals.{add-one}
 use lib.ListN.{length, getD, drop, drop-of-length-le}
 use lib.Seq.{drop-cons}
 use Rattle.prelude.specs.SaysLaws.{says-false, says-eq, says-split, says-true}
-use Rattle.prelude.specs.First.{Case, _when_, firstOf}
+use Rattle.prelude.specs.First.{_when_, firstOf}
 use Rattle.prelude.specs.FirstLaws.{first-hit, first-miss, first-none, append-first, append-second}
 use Rattle.class_rules.specs.Named.{listsItself}
 use Rattle.prelude.specs.Below.{anyBelow}
 use Rattle.prelude.specs.BelowLaws.{any-false, any-one}
 use Rattle.schema.specs.Store.{Table}
-use Rattle.rules.specs.Rules.{RowRule, rule, never, firstRules, laterRules, schemaRules, numbered, numbersOf, rulesOf, casesOf, ownListRule, additionRules}
+use Rattle.rules.specs.Rules.{RowRule, rule, never, firstRules, laterRules, numbered, rulesOf, casesOf, ownListRule, additionRules}
 
 -- ---- a rule by its number
 
@@ -37,19 +37,6 @@ numbered-passed test none (r ∷ rs) n p =
     ⊎-elim (λ q. rw (q .0) (p .0 (q .1))) (λ q. rw (q .0) (numbered-passed test none rs n (p .1))) (says-split (says-eq (r .number) n))
 
 -- ---- rules by a list of numbers
-
--- the rules are those of their numbers, whole and in the two parts
-pub rules-in-order : (a c : Table) → rulesOf (schemaRules a c) (numbersOf (schemaRules a c)) ≡ schemaRules a c
-unfolding numbered
-rules-in-order a c = refl
-
-pub first-in-order : (a c : Table) → rulesOf (schemaRules a c) (numbersOf (firstRules a c)) ≡ firstRules a c
-unfolding numbered
-first-in-order a c = refl
-
-pub later-in-order : (a c : Table) → rulesOf (schemaRules a c) (numbersOf (laterRules a c)) ≡ laterRules a c
-unfolding numbered
-later-in-order a c = refl
 
 -- one number after the other
 pub rules-next : (rs : List RowRule) (ns : List ℕ) (i : ℕ) → i < length ns → rulesOf rs (drop i ns) ≡ numbered rs (getD ns i 0) ∷ rulesOf rs (drop (i + 1) ns)
@@ -75,11 +62,6 @@ module _ (test : RowRule → Bool) (rs : List RowRule) (ns : List ℕ) (i : ℕ)
 
   pub pick-none : length ns ≤ i → firstOf (casesOf test (rulesOf rs (drop i ns))) ≡ 0
   pick-none l = ap (λ (x : List RowRule). firstOf (casesOf test x)) (rules-end rs ns i l) ∙ first-none
-
--- rules one after the other
-pub cases-append : (test : RowRule → Bool) (p q : List RowRule) → casesOf test (p ++ q) ≡ casesOf test p ++ casesOf test q
-cases-append test [] q = refl
-cases-append test (r ∷ p) q = ap (λ (cs : List Case). (r .number when test r) ∷ cs) (cases-append test p q)
 
 -- ---- an added class: the rules up to 17, its own number, the rules from 18 on
 
