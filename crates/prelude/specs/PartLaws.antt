@@ -94,9 +94,12 @@ pub row-fits : (base width n k room : ℕ) → base + width * n ≤ room → k <
 row-fits base width n k room h l = let p : width * (k + 1) ≤ width * n = mul-le-mul-left width (omega arith) in omega arith
 
 -- and is as wide as its rows are
+pub row-length : (base width n k : ℕ) (s : List ℕ) → base + width * n ≤ length s → k < n → length (rowAt base width s k) ≡ width
+row-length base width n k s h l = part-length (base + width * k) width s (row-fits base width n k (length s) h l)
+
 pub row-wide : (base width n k : ℕ) (s r : List ℕ) → base + width * n ≤ length s → k < n → r ≡ rowAt base width s k → width ≤ length r
 row-wide base width n k s r h l e =
-    let w : length r ≡ width = ap length e ∙ part-length (base + width * k) width s (row-fits base width n k (length s) h l) in
+    let w : length r ≡ width = ap length e ∙ row-length base width n k s h l in
     omega arith
 
 -- ---- zeros

@@ -8,7 +8,7 @@ use lib.ListN.{length}
 use Prim.Native.Nat.{ℕ, suc, _≤_, _<_}
 use Rattle.prelude.specs.Says.{Says}
 use Rattle.prelude.specs.SaysLaws.{says, says-fails, says-true, says-false, says-eq}
-use Rattle.prelude.specs.PartLaws.{row-wide}
+use Rattle.prelude.specs.PartLaws.{row-length, row-wide}
 use Rattle.schema.specs.Numbers.{attributeLimit, classLimit}
 use Rattle.schema.specs.Layout.{rowsAt, attributeWidth, classWidth, closureWidth, attributesLength, classesLength, closureLength}
 use Rattle.schema.specs.Store.{Table, attributeTable, classTable, closureAt, withRow, plusRow, Stores, anyShort, LongEnough}
@@ -57,6 +57,12 @@ module _ (t : Table) (new : List ℕ) where
   plus-other j l = rw (says-false (says-eq j (t .count)) (λ e. omega arith))
 
 -- ---- a row that was looked up is a whole row
+
+pub attribute-row-length : (s : List ℕ) (k : ℕ) → attributesLength ≤ length s → k < attributeLimit → length (attributeTable s .row k) ≡ attributeWidth
+attribute-row-length s k = row-length rowsAt attributeWidth attributeLimit k s
+
+pub class-row-length : (s : List ℕ) (k : ℕ) → classesLength ≤ length s → k < classLimit → length (classTable s .row k) ≡ classWidth
+class-row-length s k = row-length rowsAt classWidth classLimit k s
 
 pub attribute-wide : (s r : List ℕ) (k : ℕ) → attributesLength ≤ length s → k < attributeLimit → r ≡ attributeTable s .row k → attributeWidth ≤ length r
 attribute-wide s r k = row-wide rowsAt attributeWidth attributeLimit k s r

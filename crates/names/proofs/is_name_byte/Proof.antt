@@ -1,0 +1,26 @@
+use Rattle.names.specs.Name.{isNameByte}
+use borrow.Author.Needs.{needs}
+use Rattle.names.proofs.is_name_byte.Statement.{statement}
+use Rattle.names.proofs.is_name_byte.Tie as tie
+
+is-letter-requires : tie.Need-is-letter-requires
+is-letter-requires c κs = search needs
+
+returns : tie.Need-returns
+unfolding isNameByte
+returns c = rw (← (c .before .is-letter .ensures), c .if1 .taken)
+
+is-between-requires : tie.Need-is-between-requires
+is-between-requires c κs = search needs
+
+returns-2 : tie.Need-returns-2
+unfolding isNameByte
+returns-2 c = rw (← (c .before .before .before .is-letter .ensures), c .before .before .if1 .left, ← (c .before .is-between .ensures), c .if2 .taken)
+
+returns-3 : tie.Need-returns-3
+unfolding isNameByte
+returns-3 c = rw (← (c .before .before .before .is-letter .ensures), c .before .before .if1 .left, ← (c .before .is-between .ensures), c .if2 .left)
+
+pub is-name-byte-spec : {M : Type 1} → statement M
+is-name-byte-spec =
+    tie.close (tie.spec is-letter-requires returns is-between-requires returns-2 returns-3)

@@ -1,0 +1,53 @@
+-- A replaced row and an added row are such changes.
+use mathlib.Core.Path.{_≡_, ap, _∙_}
+use mathlib.Core.Bool.{Bool, true, false}
+use mathlib.Core.Logic.{_⊎_, inl, inr, ⊎-elim}
+use mathlib.Core.List.{List}
+use Prim.Native.Nat.{ℕ, suc, _<_}
+use native.Mathlib.Omega.{arith}
+use native.Mathlib.Decide.{ℕ-discrete}
+use Rattle.prelude.specs.SaysLaws.{says-split, says-test}
+use Rattle.prelude.specs.Below.{anyBelow}
+use Rattle.prelude.specs.BelowLaws.{any-one}
+use Rattle.schema.specs.Row.{isDefunct}
+use Rattle.schema.specs.Store.{Table, withRow, plusRow}
+use Rattle.schema.specs.StoreLaws.{with-count, with-other, plus-count, plus-other}
+use Rattle.tables.specs.Live.{Live}
+use Rattle.tables.specs.Changed.{ChangedAt}
+
+pub with-changed : (t : Table) (k : ℕ) (new : List ℕ) → k < t .count → ChangedAt k t (withRow t k new)
+with-changed t k new h =
+    let e : withRow t k new .count ≡ t .count = with-count t k new in
+    record { here = omega arith; stays = λ j l. omega arith; old = λ j l d. omega arith; other = λ j d l. with-other t k new j d }
+
+pub plus-changed : (t : Table) (new : List ℕ) → ChangedAt (t .count) t (plusRow t new)
+plus-changed t new =
+    let e : plusRow t new .count ≡ suc (t .count) = plus-count t new in
+    record { here = omega arith; stays = λ j l. omega arith; old = λ j l d. omega arith; other = λ j d l. plus-other t new j l }
+
+-- ---- what stays
+
+module _ {k : ℕ} {t u : Table} (h : ChangedAt k t u) where
+  -- a test of a row by itself: where no row passed it before, only row k can pass it now
+  pub any-changed : (f : List ℕ → Bool) → ((j : ℕ) → j < t .count → f (t .row j) ≡ false) → anyBelow (u .count) (λ j. f (u .row j)) ≡ f (u .row k)
+  any-changed f e = any-one (u .count) k (λ j. f (u .row j)) (h .here) (λ j l d. ap f (h .other j d (h .old j l d)) ∙ e j (h .old j l d))
+
+  -- a live row stays live, unless it is row k, which has become defunct, and the naming row is active
+  pub live-stays : (naming : List ℕ) (n : ℕ)
+      → (n ≡ k → isDefunct (u .row k) ≡ true → (isDefunct (t .row k) ≡ true) ⊎ (isDefunct naming ≡ true)) → Live t naming n → Live u naming n
+  live-stays naming n ok l = (h .stays n (l .0), go (ℕ-discrete n k))
+    where
+      State : Type 0
+      State = (isDefunct naming ≡ true) ⊎ ¬ (isDefunct (u .row n) ≡ true)
+
+      was : n ≡ k → ¬ (isDefunct (t .row n) ≡ true) → (isDefunct (t .row k) ≡ true) ⊎ (isDefunct naming ≡ true) → State
+      was e active (inl q) = absurd (active (rw e q))
+      was e active (inr q) = inl q
+
+      here : n ≡ k → ¬ (isDefunct (t .row n) ≡ true) → ((isDefunct (u .row k) ≡ true) × (isDefunct (u .row k) ≡ true)) ⊎ ((isDefunct (u .row k) ≡ false) × ¬ (isDefunct (u .row k) ≡ true)) → State
+      here e active (inl q) = was e active (ok e (q .0))
+      here e active (inr q) = inr (rw e (q .1))
+
+      go : Dec (n ≡ k) → State
+      go (yes e) = ⊎-elim inl (λ active. here e active (says-split (says-test (isDefunct (u .row k))))) (l .1)
+      go (no d) = rw (h .other n d (l .0)) (l .1)
