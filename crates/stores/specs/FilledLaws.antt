@@ -196,6 +196,15 @@ classes-plus rows row s wide e l =
         ≡ classHeader (length rows) ++ (joined (rows ++ (row ∷ [])) ++ (zeros (classWidth * classLimit - classWidth * length rows - classWidth) ++ drop classesLength s))
     put e l = unfold classStore in (filled-put (classHeader (length rows)) classWidth classLimit rows refl wide (omega arith) s row e l)
 
+-- one row more is counted, whatever the store held
+pub attribute-plus-count : (row s : List ℕ) → attributeTable s .count < attributeLimit → attributeTable (plusAttribute row s) .count ≡ attributeTable s .count + 1
+unfolding plusAttribute splice
+attribute-plus-count row s l = number-of-bytes 2 (attributeTable s .count + 1) [] _ (omega arith)
+
+pub class-plus-count : (row s : List ℕ) → classTable (plusClass row s) .count ≡ classTable s .count + 1
+unfolding plusClass splice
+class-plus-count row s = refl
+
 -- an empty store is zero
 two-zeros : zeros 2 ≡ 0 ∷ 0 ∷ []
 unfolding zeros

@@ -1,0 +1,2 @@
+-- A whole sheet: what reading it comes to, and what is written.
+pub mod Reading

@@ -1,0 +1,2 @@
+// A whole sheet: read into the tables' stores.
+pub mod read;
