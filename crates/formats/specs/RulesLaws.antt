@@ -12,7 +12,7 @@ use Rattle.prelude.specs.SaysLaws.{says-and, says-eq, says-false, says-test}
 use Rattle.prelude.specs.Part.{part, splice, zeros}
 use Rattle.prelude.specs.PartLaws.{zeros-at, zeros-zero, zero-zeros}
 use Rattle.prelude.specs.SpliceLaws.{part-splice-before, part-splice-same, part-splice-after}
-use Rattle.formats.specs.Shapes.{image, room, stored}
+use Rattle.formats.specs.Shapes.{accepts, image, room, stored}
 use Rattle.formats.specs.ShapesLaws.{Bytes, sound, room-small, Accepts, says-accepts, Holds, says-holds, image-length, stored-image, image-holds, accepts-stored, image-stored, stored-short, stored-bytes, skippable, image-nonzero}
 use Rattle.formats.specs.Rules.{lead, mark, required, possible, width, takes, cellOf, cellAt, hasValue, valueOf, wellFormedCell, wellFormedBy}
 use Rattle.formats.specs.declared.shape.Shape.{Shape}
@@ -62,6 +62,9 @@ width-small r s = omega (arith, room-small (r .shape) (s .shape), mark-le (r .pr
 pub takes-accepts : (r : Rule) (v : List ℕ) → takes r v ≡ true → Accepts (r .shape) v
 unfolding takes
 takes-accepts r v h = says-and (says-test (possible (r .presence))) (says-accepts (r .shape) v) .holds h .1
+
+pub takes-bool : (r : Rule) (v : List ℕ) → takes r v ≡ true → accepts (r .shape) v ≡ true
+takes-bool r v h = says-accepts (r .shape) v .passes (takes-accepts r v h)
 
 -- a value that is taken
 pub record TakenCell (r : Rule) (v cell : List ℕ) : Type 0 where

@@ -27,7 +27,7 @@ unfoldable pub accepts : Shape → List ℕ → Bool
 accepts (Plain len test) v = eqb (length v) len && passes test v
 accepts (Number limit) v = eqb (length v) 2 && ltb (bigEndian 2 0 v) limit
 accepts (Counted least most) v = leb least (length v) && leb (length v) most
-accepts (Arcs most) v = eqb (length v % 4) 0 && leb (length v) (most * 4)
+accepts (Arcs most) v = eqb (length v % 4) 0 && leb (length v / 4) most
 accepts (Entries bytes) v = not (eqb (length v) 0) && (eqb (length v % 2) 0 && risesBelow (bytes * 8) 0 (entries v))
 
 -- the bytes that a value is stored as

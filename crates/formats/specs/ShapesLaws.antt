@@ -50,7 +50,7 @@ abbrev pub Accepts : Shape → List ℕ → Type 0
 Accepts (Plain len test) v = (length v ≡ len) × (passes test v ≡ true)
 Accepts (Number limit) v = (length v ≡ 2) × (bigEndian 2 0 v < limit)
 Accepts (Counted least most) v = (least ≤ length v) × (length v ≤ most)
-Accepts (Arcs most) v = (length v % 4 ≡ 0) × (length v ≤ most * 4)
+Accepts (Arcs most) v = (length v % 4 ≡ 0) × (length v / 4 ≤ most)
 Accepts (Entries bytes) v = ¬ (length v ≡ 0) × ((length v % 2 ≡ 0) × RisesBelow (bytes * 8) 0 (entries v))
 
 pub says-accepts : (shape : Shape) (v : List ℕ) → Says (accepts shape v) (Accepts shape v)
@@ -58,7 +58,7 @@ unfolding accepts
 says-accepts (Plain len test) v = says-and (says-eq (length v) len) (says-test (passes test v))
 says-accepts (Number limit) v = says-and (says-eq (length v) 2) (says-lt (bigEndian 2 0 v) limit)
 says-accepts (Counted least most) v = says-and (says-le least (length v)) (says-le (length v) most)
-says-accepts (Arcs most) v = says-and (says-eq (length v % 4) 0) (says-le (length v) (most * 4))
+says-accepts (Arcs most) v = says-and (says-eq (length v % 4) 0) (says-le (length v / 4) most)
 says-accepts (Entries bytes) v = says-and (says-not (says-eq (length v) 0)) (says-and (says-eq (length v % 2) 0) (says-rises (bytes * 8) 0 (entries v)))
 
 -- which bytes can be stored
@@ -108,7 +108,7 @@ unfolding image room
 image-length (Plain len test) v h = h .0
 image-length (Number limit) v h = refl
 image-length (Counted least most) v h = omega (arith, padded-length most v (h .1))
-image-length (Arcs most) v h = omega (arith, padded-length (most * 4) v (h .1))
+image-length (Arcs most) v h = omega (arith, padded-length (most * 4) v (omega arith))
 image-length (Entries bytes) v h = set-length bytes (among (entries v))
 
 -- the cell stands for it

@@ -2,7 +2,7 @@
 ghost use mathlib.Core.Path.{_≡_};
 ghost use Prim.Native.Nat.{_≤_};
 ghost use Rattle.formats.specs.Shapes.{room};
-ghost use Rattle.formats.specs.Rules.{mark, width};
+ghost use Rattle.formats.specs.Rules.{mark, required, possible, width};
 
 // What is asked of bytes that are stored as they are.
 pub enum Test {
@@ -82,4 +82,28 @@ pub fn width_of(rule: Rule) -> usize
     let presence = rule.presence;
     let shape = rule.shape;
     mark_of(presence) + room_of(shape)
+}
+
+// Whether a field that is not there is missing.
+pub fn is_required(presence: Presence) -> bool
+    ensures { λ r. ⌜ r ≡ required presence ⌝ }
+{
+    match presence {
+        Presence::Required => true,
+        Presence::Optional => false,
+        Presence::Marked => false,
+        Presence::Never => false,
+    }
+}
+
+// Whether a field may be there.
+pub fn is_possible(presence: Presence) -> bool
+    ensures { λ r. ⌜ r ≡ possible presence ⌝ }
+{
+    match presence {
+        Presence::Required => true,
+        Presence::Optional => true,
+        Presence::Marked => true,
+        Presence::Never => false,
+    }
 }

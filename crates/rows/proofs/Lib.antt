@@ -1,0 +1,3 @@
+-- Laws that the reader's proofs cite.
+pub mod Entering
+pub mod Storing

@@ -1,0 +1,105 @@
+use mathlib.Core.Path.{_≡_}
+use lib.ListN.{length}
+use Rattle.schema.specs.AttributeRow.{syntaxOf}
+use Rattle.rows.specs.ObjectClassLaws.{cell-long, first-short}
+use mathlib.Core.Path.{refl, sym, ap, _∙_}
+use mathlib.Core.List.{List}
+use Prim.Native.Nat.{ℕ}
+use Rattle.prelude.specs.Part.{splice}
+use Rattle.prelude.specs.LentLaws.{lent-cleared}
+use Rattle.rows.specs.ObjectClass.{firstObjectClass, objectClassCell}
+use Rattle.rows.specs.ObjectClassLaws.{settled-none, settled-first, settled-given}
+use Rattle.rows.proofs.Storing.{cell-copied}
+use native.Mathlib.Omega.{arith}
+use borrow.Author.Needs.{needs}
+use Rattle.rows.proofs.object_class.settle.Statement.{statement}
+use Rattle.rows.proofs.object_class.settle.Tie as tie
+use Rattle.rows.proofs.object_class.settle.Reads as reads
+use Rattle.rows.proofs.object_class.settle.Lts as lts
+use Rattle.bytes.proofs.copy.Reads as copy-reads
+use Rattle.prelude.proofs.part.clear.Reads as clear-reads
+use Rattle.rows.proofs.object_class.first_cell.Reads as first-cell-reads
+use Rattle.schema.proofs.attribute.om_syntax.Reads as om-syntax-reads
+use Rattle.schema.proofs.attribute.syntax.Reads as syntax-reads
+
+om-syntax-requires : tie.Need-om-syntax-requires
+om-syntax-requires c κs = search needs
+
+sub-clear : tie.Need-sub-clear
+sub-clear c = search needs
+
+part-clear-start : tie.Need-part-clear-start
+part-clear-start c = search needs
+
+part-clear-end : tie.Need-part-clear-end
+part-clear-end c = search needs
+
+clear-requires : tie.Need-clear-requires
+clear-requires c κs = search needs
+
+same-length : tie.Need-same-length
+same-length c = search needs
+
+returns : tie.Need-returns
+returns c = lent-cleared 153 17 (c .before .before .before .before .before .before .before .before .args .row .now) _ (omega arith) (c .before .before .clear .ensures) ∙ sym (settled-none (c .before .before .before .before .before .before .before .before .args .row .now) (λ e. c .before .before .before .before .if1 .taken (c .before .before .before .before .before .om-syntax .ensures ∙ e)))
+
+slice-read-if2 : tie.Need-slice-read-if2
+slice-read-if2 c = search needs
+
+syntax-requires : tie.Need-syntax-requires
+syntax-requires c κs = search needs
+
+first-cell-requires : tie.Need-first-cell-requires
+first-cell-requires c κs = search needs
+
+slice-aggregate-copy : tie.Need-slice-aggregate-copy
+slice-aggregate-copy c = search needs
+
+sub-copy : tie.Need-sub-copy
+sub-copy c = search needs
+
+part-copy-start : tie.Need-part-copy-start
+part-copy-start c = search needs
+
+part-copy-end : tie.Need-part-copy-end
+part-copy-end c = search needs
+
+copy-requires : tie.Need-copy-requires
+copy-requires c κs = search needs
+
+same-length-2 : tie.Need-same-length-2
+same-length-2 c = search needs
+
+returns-2 : tie.Need-returns-2
+returns-2 c = let first : c .before .before .before .before .before .first-cell .result ≡ objectClassCell (firstObjectClass (syntaxOf (c .before .before .before .before .before .before .before .before .before .before .before .before .before .before .args .row .now))) = c .before .before .before .before .before .first-cell .ensures ∙ ap (λ (x : ℕ). objectClassCell (firstObjectClass x)) (c .before .before .before .before .before .before .syntax .ensures) in
+    cell-copied 153 17 (c .before .before .before .before .before .first-cell .result) (c .before .before .before .before .before .before .before .before .before .before .before .before .before .before .args .row .now) _ (ap length first ∙ cell-long _ (first-short _)) (omega arith) (c .before .before .copy .ensures .1) ∙ ap (λ (v : List ℕ). splice 153 v (c .before .before .before .before .before .before .before .before .before .before .before .before .before .before .args .row .now)) first ∙ sym (settled-first (c .before .before .before .before .before .before .before .before .before .before .before .before .before .before .args .row .now) (sym (c .before .before .before .before .before .before .before .before .before .before .before .om-syntax .ensures) ∙ c .before .before .before .before .before .before .before .before .before .before .if1 .left) (c .before .before .before .before .before .before .before .before .if2 .taken))
+
+same-length-3 : tie.Need-same-length-3
+same-length-3 c = search needs
+
+returns-3 : tie.Need-returns-3
+returns-3 c = sym (settled-given (c .before .before .before .before .before .before .args .row .now) (sym (c .before .before .before .om-syntax .ensures) ∙ c .before .before .if1 .left) (c .if2 .left))
+
+pub settle-spec : {M : Type 1} → statement M
+settle-spec =
+    tie.close
+    (tie.spec
+    om-syntax-requires
+    sub-clear
+    part-clear-start
+    part-clear-end
+    clear-requires
+    same-length
+    returns
+    slice-read-if2
+    syntax-requires
+    first-cell-requires
+    slice-aggregate-copy
+    sub-copy
+    part-copy-start
+    part-copy-end
+    copy-requires
+    same-length-2
+    returns-2
+    same-length-3
+    returns-3)

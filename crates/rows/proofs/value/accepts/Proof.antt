@@ -1,0 +1,113 @@
+use borrow.Author.Tests.{eq-eqb, ne-eqb, lt-leb, le-leb, leb-true}
+use Rattle.formats.specs.Shapes.{accepts}
+use Rattle.formats.specs.ShapesLaws.{sound}
+use native.Mathlib.Omega.{arith}
+use borrow.Author.Needs.{needs}
+use Rattle.rows.proofs.value.accepts.Statement.{statement}
+use Rattle.rows.proofs.value.accepts.Tie as tie
+use Rattle.rows.proofs.value.accepts.Reads as reads
+use Rattle.rows.proofs.value.accepts.Lts as lts
+use Rattle.prelude.proofs.number.read_u16.Reads as read-u16-reads
+use Rattle.rows.proofs.entries.rises.Reads as rises-reads
+use Rattle.rows.proofs.value.passes.Reads as passes-reads
+
+enum-known-shape : tie.Need-enum-known-shape
+enum-known-shape c = search needs
+
+passes-requires : tie.Need-passes-requires
+passes-requires c κs = search needs
+
+enum-known-shape-2 : tie.Need-enum-known-shape-2
+enum-known-shape-2 c = search needs
+
+read-u16-requires : tie.Need-read-u16-requires
+read-u16-requires c κs = search needs
+
+cast-result : tie.Need-cast-result
+cast-result c = search needs
+
+enum-known-shape-3 : tie.Need-enum-known-shape-3
+enum-known-shape-3 c = search needs
+
+enum-known-shape-4 : tie.Need-enum-known-shape-4
+enum-known-shape-4 c = search needs
+
+enum-known-shape-5 : tie.Need-enum-known-shape-5
+enum-known-shape-5 c = search needs
+
+returns : tie.Need-returns
+unfolding accepts
+returns c = rw (c .before .before .shape5 .given .1, eq-eqb _ _ (c .if5 .taken))
+
+mul-rises : tie.Need-mul-rises
+unfolding sound
+mul-rises c = omega (arith, leb-true (c .before .before .before .shape5 .given .0 .0) 254 (rw (c .before .before .before .shape5 .given .1) at (c .before .before .before .before .before .before .pre)))
+
+rises-requires : tie.Need-rises-requires
+rises-requires c κs = search needs
+
+returns-2 : tie.Need-returns-2
+unfolding accepts
+returns-2 c = rw (c .before .before .before .shape .given .1, eq-eqb _ _ (c .before .if1 .taken)) (c .passes .ensures)
+
+returns-3 : tie.Need-returns-3
+unfolding accepts
+returns-3 c = rw (c .before .before .shape .given .1, ne-eqb _ _ (c .if1 .left))
+
+returns-4 : tie.Need-returns-4
+unfolding accepts
+returns-4 c = rw (c .before .before .before .shape2 .given .1, eq-eqb _ _ (c .before .if2 .taken), c .read-u16 .ensures)
+
+returns-5 : tie.Need-returns-5
+unfolding accepts
+returns-5 c = rw (c .before .before .shape2 .given .1, ne-eqb _ _ (c .if2 .left))
+
+returns-6 : tie.Need-returns-6
+unfolding accepts
+returns-6 c = rw (c .before .before .shape3 .given .1, lt-leb _ _ (c .if3 .taken))
+
+returns-7 : tie.Need-returns-7
+unfolding accepts
+returns-7 c = rw (c .before .before .shape3 .given .1, le-leb _ _ (c .if3 .left))
+
+returns-8 : tie.Need-returns-8
+unfolding accepts
+returns-8 c = rw (c .before .before .shape4 .given .1, eq-eqb _ _ (c .if4 .taken))
+
+returns-9 : tie.Need-returns-9
+unfolding accepts
+returns-9 c = rw (c .before .before .shape4 .given .1, ne-eqb _ _ (c .if4 .left))
+
+returns-10 : tie.Need-returns-10
+unfolding accepts
+returns-10 c = rw (c .before .before .before .before .shape5 .given .1, ne-eqb _ _ (c .before .before .if5 .left), eq-eqb _ _ (c .before .if6 .taken)) (c .rises .ensures)
+
+returns-11 : tie.Need-returns-11
+unfolding accepts
+returns-11 c = rw (c .before .before .before .shape5 .given .1, ne-eqb _ _ (c .before .if5 .left), ne-eqb _ _ (c .if6 .left))
+
+pub accepts-spec : {M : Type 1} → statement M
+accepts-spec =
+    tie.close
+    (tie.spec
+    enum-known-shape
+    passes-requires
+    enum-known-shape-2
+    read-u16-requires
+    cast-result
+    enum-known-shape-3
+    enum-known-shape-4
+    enum-known-shape-5
+    returns
+    mul-rises
+    rises-requires
+    returns-2
+    returns-3
+    returns-4
+    returns-5
+    returns-6
+    returns-7
+    returns-8
+    returns-9
+    returns-10
+    returns-11)

@@ -1,0 +1,113 @@
+use lib.ListN.{length}
+use Rattle.rows.proofs.Storing.{told, plain-long, number-fits, counted-fits, arcs-fit, entries-fit, plain-image, number-image, counted-image, arcs-image, entries-image, one-stored, copied-whole}
+use native.Mathlib.Omega.{arith}
+use borrow.Author.Needs.{needs}
+use Rattle.rows.proofs.value.store_value.Statement.{statement}
+use Rattle.rows.proofs.value.store_value.Tie as tie
+use Rattle.rows.proofs.value.store_value.Reads as reads
+use Rattle.rows.proofs.value.store_value.Lts as lts
+use Rattle.bytes.proofs.copy.Reads as copy-reads
+use Rattle.prelude.proofs.number.read_u16.Reads as read-u16-reads
+use Rattle.rows.proofs.entries.store_entries.Reads as store-entries-reads
+use Rattle.rows.proofs.value.store_counted.Reads as store-counted-reads
+
+enum-told : tie.Need-enum-told
+enum-told c = search needs
+
+copy-requires : tie.Need-copy-requires
+copy-requires c κs = let t = plain-long (told (c .before .before .before .before .before .args .v .now) (length (c .before .before .before .before .before .args .cell .now)) (c .before .enum-told .given .1) (c .before .before .before .before .before .pre)) in omega arith
+
+enum-told-2 : tie.Need-enum-told-2
+enum-told-2 c = search needs
+
+read-u16-requires : tie.Need-read-u16-requires
+read-u16-requires c κs = let t = number-fits (told (c .before .before .before .before .args .v .now) (length (c .before .before .before .before .args .cell .now)) (c .enum-told2 .given .1) (c .before .before .before .before .pre)) in omega arith
+
+cast-cell : tie.Need-cast-cell
+cast-cell c = let t = number-fits (told (c .before .before .before .before .before .args .v .now) (length (c .before .before .before .before .before .args .cell .now)) (c .before .enum-told2 .given .1) (c .before .before .before .before .before .pre)) in omega (arith, c .read-u16 .ensures)
+
+slice-write-cell : tie.Need-slice-write-cell
+slice-write-cell c = let t = number-fits (told (c .before .before .before .before .before .args .v .now) (length (c .before .before .before .before .before .args .cell .now)) (c .before .enum-told2 .given .1) (c .before .before .before .before .before .pre)) in omega arith
+
+enum-told-3 : tie.Need-enum-told-3
+enum-told-3 c = search needs
+
+cast-store-counted : tie.Need-cast-store-counted
+cast-store-counted c = let t = counted-fits (told (c .before .before .before .before .args .v .now) (length (c .before .before .before .before .args .cell .now)) (c .enum-told3 .given .1) (c .before .before .before .before .pre)) in omega arith
+
+store-counted-requires : tie.Need-store-counted-requires
+store-counted-requires c κs = let t = counted-fits (told (c .before .before .before .before .before .args .v .now) (length (c .before .before .before .before .before .args .cell .now)) (c .before .enum-told3 .given .1) (c .before .before .before .before .before .pre)) in omega arith
+
+enum-told-4 : tie.Need-enum-told-4
+enum-told-4 c = search needs
+
+cast-store-counted-2 : tie.Need-cast-store-counted-2
+cast-store-counted-2 c = let t = arcs-fit (told (c .before .before .before .before .args .v .now) (length (c .before .before .before .before .args .cell .now)) (c .enum-told4 .given .1) (c .before .before .before .before .pre)) in omega arith
+
+store-counted-requires-2 : tie.Need-store-counted-requires-2
+store-counted-requires-2 c κs = let t = arcs-fit (told (c .before .before .before .before .before .args .v .now) (length (c .before .before .before .before .before .args .cell .now)) (c .before .enum-told4 .given .1) (c .before .before .before .before .before .pre)) in omega arith
+
+enum-told-5 : tie.Need-enum-told-5
+enum-told-5 c = search needs
+
+store-entries-requires : tie.Need-store-entries-requires
+store-entries-requires c κs = let t = entries-fit (told (c .before .before .before .before .before .args .v .now) (length (c .before .before .before .before .before .args .cell .now)) (c .before .enum-told5 .given .1) (c .before .before .before .before .before .pre)) in (t .0, t .1)
+
+same-length : tie.Need-same-length
+same-length c = search needs
+
+returns : tie.Need-returns
+returns c = let t = told (c .before .before .before .before .before .before .before .before .args .v .now) (length (c .before .before .before .before .before .before .before .before .args .cell .now)) (c .before .before .before .before .enum-told .given .1) (c .before .before .before .before .before .before .before .before .pre) in plain-image (c .before .before .before .before .enum-told .given .1) t (copied-whole (c .before .before .before .before .before .before .before .before .args .v .now) (c .before .before .before .before .before .before .before .before .args .cell .now) _ (plain-long t) (c .before .before .copy .ensures .1))
+
+same-length-2 : tie.Need-same-length-2
+same-length-2 c = search needs
+
+returns-2 : tie.Need-returns-2
+returns-2 c = let t = told (c .before .before .before .before .before .args .v .now) (length (c .before .before .before .before .before .args .cell .now)) (c .before .enum-told2 .given .1) (c .before .before .before .before .before .pre) in number-image (c .before .enum-told2 .given .1) t (one-stored _ _ (c .before .before .before .before .before .args .cell .now) (number-fits t .1) (c .read-u16 .ensures))
+
+same-length-3 : tie.Need-same-length-3
+same-length-3 c = search needs
+
+returns-3 : tie.Need-returns-3
+returns-3 c = counted-image (c .before .before .before .before .enum-told3 .given .1) (told (c .before .before .before .before .before .before .before .before .args .v .now) (length (c .before .before .before .before .before .before .before .before .args .cell .now)) (c .before .before .before .before .enum-told3 .given .1) (c .before .before .before .before .before .before .before .before .pre)) (c .before .before .store-counted .ensures)
+
+same-length-4 : tie.Need-same-length-4
+same-length-4 c = search needs
+
+returns-4 : tie.Need-returns-4
+returns-4 c = arcs-image (c .before .before .before .before .enum-told4 .given .1) (told (c .before .before .before .before .before .before .before .before .args .v .now) (length (c .before .before .before .before .before .before .before .before .args .cell .now)) (c .before .before .before .before .enum-told4 .given .1) (c .before .before .before .before .before .before .before .before .pre)) (c .before .before .store-counted2 .ensures)
+
+same-length-5 : tie.Need-same-length-5
+same-length-5 c = search needs
+
+returns-5 : tie.Need-returns-5
+returns-5 c = entries-image (c .before .before .before .before .enum-told5 .given .1) (told (c .before .before .before .before .before .before .before .before .args .v .now) (length (c .before .before .before .before .before .before .before .before .args .cell .now)) (c .before .before .before .before .enum-told5 .given .1) (c .before .before .before .before .before .before .before .before .pre)) (c .before .before .store-entries .ensures)
+
+pub store-value-spec : {M : Type 1} → statement M
+store-value-spec =
+    tie.close
+    (tie.spec
+    enum-told
+    copy-requires
+    enum-told-2
+    read-u16-requires
+    cast-cell
+    slice-write-cell
+    enum-told-3
+    cast-store-counted
+    store-counted-requires
+    enum-told-4
+    cast-store-counted-2
+    store-counted-requires-2
+    enum-told-5
+    store-entries-requires
+    same-length
+    returns
+    same-length-2
+    returns-2
+    same-length-3
+    returns-3
+    same-length-4
+    returns-4
+    same-length-5
+    returns-5)

@@ -1,0 +1,5 @@
+-- Reading a row by its table, the default of oMObjectClass, and what a reading answers.
+pub mod Reading
+pub mod ReadingLaws
+pub mod ObjectClass
+pub mod ObjectClassLaws

@@ -1,0 +1,73 @@
+-- Laws of the default of oMObjectClass: each case of it, for the code; and that a settled row is left as it is.
+use mathlib.Core.Path.{_≡_, refl, sym, ap, _∙_}
+use mathlib.Core.Bool.{Bool, true, false, cond}
+use mathlib.Core.List.{List, [], _∷_}
+use Prim.Native.Nat.{ℕ, _≤_}
+use native.Mathlib.Omega.{arith}
+use lib.Dec.{eqb}
+use lib.ListN.{length}
+use Rattle.prelude.specs.Part.{splice, zeros, padded}
+use Rattle.prelude.specs.PartLaws.{padded-length}
+use Rattle.schema.specs.Layout.{objectClassAt, objectClassLimit}
+use Rattle.schema.specs.AttributeRow.{syntaxOf, omSyntaxOf, objectClassLength}
+use Rattle.prelude.specs.SaysLaws.{says-eq, says-true, says-false}
+use Rattle.formats.specs.Shapes.{image}
+use Rattle.formats.specs.declared.table.Kind.{Kind}
+use Rattle.formats.specs.Formats.{formatOf}
+use Rattle.rows.specs.declared.read.RowRead.{RowRead}
+use Rattle.rows.specs.declared.read.RowRead.the-variants.{Read, Bad}
+use Rattle.rows.specs.Reading.{Out, readBy}
+use Rattle.rows.specs.ObjectClass.{firstObjectClass, objectClassCell, settled, isSettled, finished, finish, readRow}
+
+-- ---- the three cases
+
+no-cell : objectClassCell [] ≡ zeros 17
+unfolding objectClassCell image padded zeros
+no-cell = refl
+
+pub settled-none : (row : List ℕ) → ¬ (omSyntaxOf row ≡ 127) → settled row ≡ splice objectClassAt (zeros 17) row
+unfolding settled
+settled-none row d = rw (says-false (says-eq (omSyntaxOf row) 127) d, no-cell)
+
+pub settled-first : (row : List ℕ) → omSyntaxOf row ≡ 127 → objectClassLength row ≡ 0
+    → settled row ≡ splice objectClassAt (objectClassCell (firstObjectClass (syntaxOf row))) row
+unfolding settled
+settled-first row e z = rw (says-true (says-eq (omSyntaxOf row) 127) e, says-true (says-eq (objectClassLength row) 0) z)
+
+pub settled-given : (row : List ℕ) → omSyntaxOf row ≡ 127 → ¬ (objectClassLength row ≡ 0) → settled row ≡ row
+unfolding settled
+settled-given row e d = rw (says-true (says-eq (omSyntaxOf row) 127) e, says-false (says-eq (objectClassLength row) 0) d)
+
+-- ---- the cell
+
+either-short : (b : Bool) (x y : List ℕ) → length x ≤ objectClassLimit → length y ≤ objectClassLimit → length (cond b x y) ≤ objectClassLimit
+either-short true x y h k = h
+either-short false x y h k = k
+
+pub first-short : (syntax : ℕ) → length (firstObjectClass syntax) ≤ objectClassLimit
+unfolding firstObjectClass
+first-short syntax =
+    either-short (eqb syntax 1) _ _ (omega arith)
+    (either-short (eqb syntax 7) _ _ (omega arith)
+    (either-short (eqb syntax 13) _ _ (omega arith)
+    (either-short (eqb syntax 14) _ _ (omega arith) (omega arith))))
+
+pub cell-long : (v : List ℕ) → length v ≤ objectClassLimit → length (objectClassCell v) ≡ 17
+unfolding objectClassCell image
+cell-long v h = omega (arith, padded-length 16 v h)
+
+-- ---- what a reading comes to
+
+module _ (kind : Kind) (s : List ℕ) (start end : ℕ) (row : List ℕ) where
+  abbrev fieldsRead : Out
+  fieldsRead = readBy s end (formatOf kind) start false row
+
+  pub finish-bad : {a : RowRead} {p : ℕ} {row′ : List ℕ} → (a ≡ fieldsRead .answer) × (row′ ≡ fieldsRead .row) → a ≡ Bad p
+      → (Bad p ≡ readRow kind s start end row .answer) × (row′ ≡ readRow kind s start end row .row)
+  unfolding readRow finish
+  finish-bad e h = (rw (← (e .0), h), rw (← (e .0), h) (e .1))
+
+  pub finish-read : {a : RowRead} {row′ new : List ℕ} → (a ≡ fieldsRead .answer) × (row′ ≡ fieldsRead .row) → a ≡ Read → new ≡ finished kind row′
+      → (Read ≡ readRow kind s start end row .answer) × (new ≡ readRow kind s start end row .row)
+  unfolding readRow finish
+  finish-read e h q = (rw (← (e .0), h), rw (← (e .0), h, ← (e .1)) q)

@@ -1,0 +1,111 @@
+// oMObjectClass once the fields of an attribute row are read: the bytes given, the first of the syntax, or none.
+use prelude::part::clear;
+use schema::attribute::om_syntax;
+use schema::attribute::syntax;
+use schema::layout::OBJECT_CLASS;
+use schema::layout::SINGLE_VALUED;
+ghost use mathlib.Core.Path.{_≡_};
+ghost use Prim.Native.Nat.{_≤_};
+ghost use lib.ListN.{length};
+ghost use Rattle.schema.specs.Layout.{attributeWidth};
+ghost use Rattle.rows.specs.ObjectClass.{firstObjectClass, objectClassCell, settled};
+
+// The cell of a syntax's first value, zero where it has none.
+fn first_cell(syntax: u8) -> [u8; 17]
+    ensures { λ r. ⌜ r ≡ objectClassCell (firstObjectClass syntax) ⌝ }
+{
+    match syntax {
+        1 => [
+            9,
+            0x2B,
+            0x0C,
+            0x02,
+            0x87,
+            0x73,
+            0x1C,
+            0x00,
+            0x85,
+            0x4A,
+            0,
+            0,
+            0,
+            0,
+            0,
+            0,
+            0,
+        ],
+        7 => [
+            7,
+            0x56,
+            0x06,
+            0x01,
+            0x02,
+            0x05,
+            0x0B,
+            0x1D,
+            0,
+            0,
+            0,
+            0,
+            0,
+            0,
+            0,
+            0,
+            0,
+        ],
+        13 => [
+            9,
+            0x2B,
+            0x0C,
+            0x02,
+            0x87,
+            0x73,
+            0x1C,
+            0x00,
+            0x85,
+            0x5C,
+            0,
+            0,
+            0,
+            0,
+            0,
+            0,
+            0,
+        ],
+        14 => [
+            9,
+            0x2B,
+            0x0C,
+            0x02,
+            0x87,
+            0x73,
+            0x1C,
+            0x00,
+            0x85,
+            0x3E,
+            0,
+            0,
+            0,
+            0,
+            0,
+            0,
+            0,
+        ],
+        _ => [0u8; 17],
+    }
+}
+
+// Settles the oMObjectClass of a row.
+pub fn settle(row: &mut [u8])
+    requires { ⌜ attributeWidth ≤ length (now row) ⌝ }
+    ensures { λ _. ⌜ now (row .exit) ≡ settled (now (row .entry)) ⌝ }
+{
+    if om_syntax(row) != 127 {
+        clear(&mut row[OBJECT_CLASS..SINGLE_VALUED]);
+        return;
+    }
+    if row[OBJECT_CLASS] == 0 {
+        let first = first_cell(syntax(row));
+        bytes::copy(&first, &mut row[OBJECT_CLASS..SINGLE_VALUED]);
+    }
+}
