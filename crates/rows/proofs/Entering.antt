@@ -1,9 +1,8 @@
 -- A turn of each loop over set entries.
-use mathlib.Core.Path.{_≡_, refl, sym, ap, ap₂, _∙_}
-use mathlib.Core.Bool.{Bool, true, false}
-use mathlib.Core.Logic.{inl, inr, ⊎-elim}
+use mathlib.Core.Path.{_≡_, refl, ap, _∙_}
+use mathlib.Core.Bool.{true, false}
 use mathlib.Core.List.{List, [], _∷_, List·Memᴰ, List·Memᴰ·head, List·Memᴰ·tail}
-use Prim.Native.Nat.{ℕ, suc, _+_, _*_, _/_, _≤_, _<_, max}
+use Prim.Native.Nat.{ℕ, _+_, _*_, _≤_, _<_, max}
 use native.Mathlib.Omega.{arith}
 use native.Mathlib.Numerals.{add-one}
 use native.Mathlib.Decide.{ℕ-discrete}
@@ -15,7 +14,7 @@ use Rattle.prelude.specs.Part.{zeros}
 use Rattle.prelude.specs.PartLaws.{zeros-length, zeros-at}
 use Rattle.prelude.specs.BigEndian.{bigEndian}
 use Rattle.sets.specs.Sets.{flag, bit, setOf, withMember}
-use Rattle.sets.specs.SetsLaws.{flag-lt, bit-lt, set-bytes, with-length, bit-with, bit-with-other, bit-zeros, is-set, flag-or}
+use Rattle.sets.specs.SetsLaws.{flag-lt, bit-lt, set-bytes, with-length, bit-with, bit-with-other, bit-zeros, is-set}
 use Rattle.formats.specs.Entries.{entries, risesBelow, among}
 use Rattle.formats.specs.EntriesLaws.{entries-cons, entries-none, says-rises}
 

@@ -1,3 +1,4 @@
 -- Laws that the reader's proofs cite.
 pub mod Entering
 pub mod Storing
+pub mod Vectors

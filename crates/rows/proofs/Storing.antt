@@ -4,10 +4,9 @@ use mathlib.Core.Bool.{true}
 use mathlib.Core.List.{List, [], _∷_, _++_, append-nil}
 use Prim.Native.Nat.{ℕ, suc, _+_, _-_, _*_, _/_, _%_, _≤_, _<_}
 use native.Mathlib.Omega.{arith}
-use lib.ListN.{length, getD, take, drop, set, length-set, length-drop, length-take, length-append}
+use lib.ListN.{length, take, drop, set, length-set, length-drop, length-take, length-append}
 use lib.Seq.{take-length, drop-length}
 use Rattle.prelude.specs.Part.{part, splice, zeros, padded}
-use Rattle.prelude.specs.SpliceLaws.{set-then-splice}
 use Rattle.formats.specs.declared.shape.Presence.{Presence}
 use Rattle.formats.specs.declared.shape.Presence.the-variants.{Required, Optional, Marked, Never}
 use Rattle.formats.specs.declared.shape.Rule.{Rule}

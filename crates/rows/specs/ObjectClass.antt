@@ -12,7 +12,6 @@ use Rattle.formats.specs.declared.table.Kind.{Kind}
 use Rattle.formats.specs.declared.table.Kind.the-variants.{Attribute, Class, NewAttribute, NewClass, Range, Name, Target, Entry}
 use Rattle.formats.specs.Shapes.{image}
 use Rattle.formats.specs.Formats.{formatOf}
-use Rattle.formats.specs.Rules.{wellFormedBy}
 use Rattle.rows.specs.declared.read.RowRead.{RowRead}
 use Rattle.rows.specs.declared.read.RowRead.the-variants.{Read, Bad}
 use Rattle.rows.specs.Reading.{Out, out, readBy}

@@ -1,7 +1,7 @@
 -- Laws of the default of oMObjectClass: each case of it, for the code; and that a settled row is left as it is.
-use mathlib.Core.Path.{_≡_, refl, sym, ap, _∙_}
+use mathlib.Core.Path.{_≡_, refl}
 use mathlib.Core.Bool.{Bool, true, false, cond}
-use mathlib.Core.List.{List, [], _∷_}
+use mathlib.Core.List.{List, []}
 use Prim.Native.Nat.{ℕ, _≤_}
 use native.Mathlib.Omega.{arith}
 use lib.Dec.{eqb}
@@ -17,7 +17,7 @@ use Rattle.formats.specs.Formats.{formatOf}
 use Rattle.rows.specs.declared.read.RowRead.{RowRead}
 use Rattle.rows.specs.declared.read.RowRead.the-variants.{Read, Bad}
 use Rattle.rows.specs.Reading.{Out, readBy}
-use Rattle.rows.specs.ObjectClass.{firstObjectClass, objectClassCell, settled, isSettled, finished, finish, readRow}
+use Rattle.rows.specs.ObjectClass.{firstObjectClass, objectClassCell, settled, finished, finish, readRow}
 
 -- ---- the three cases
 

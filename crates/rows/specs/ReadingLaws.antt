@@ -1,7 +1,7 @@
 -- Laws of reading by a table: what a rule makes of each field in front, and a turn and the end of the way through a table.
-use mathlib.Core.Path.{_≡_, refl, sym, ap, _∙_}
+use mathlib.Core.Path.{_≡_, refl, sym, _∙_}
 use mathlib.Core.Bool.{Bool, true, false, cond, _||_}
-use mathlib.Core.List.{List, [], _∷_}
+use mathlib.Core.List.{List}
 use Prim.Native.Nat.{ℕ, _+_, _-_, _≤_, _<_}
 use native.Mathlib.Omega.{arith}
 use native.Mathlib.Numerals.{add-one}
@@ -20,9 +20,8 @@ use Rattle.rows.specs.declared.field.Turn.{Turn}
 use Rattle.rows.specs.declared.field.Turn.the-variants.{Taken, Passed, Refused}
 use Rattle.rows.specs.declared.field.Took.{Took}
 use Rattle.rows.specs.declared.field.Took.the-variants.{Next, Stop}
-use Rattle.rows.specs.declared.read.RowRead.{RowRead}
 use Rattle.rows.specs.declared.read.RowRead.the-variants.{Read, Bad}
-use Rattle.rows.specs.Reading.{turnOf, tookOf, rowOf, Out, out, onward, readBy}
+use Rattle.rows.specs.Reading.{turnOf, tookOf, rowOf, out, onward, readBy}
 
 -- ---- what a rule makes of the field in front
 

@@ -1,10 +1,7 @@
 use Rattle.formats.specs.Rules.{possible}
-use native.Mathlib.Omega.{arith}
 use borrow.Author.Needs.{needs}
 use Rattle.formats.proofs.shape.is_possible.Statement.{statement}
 use Rattle.formats.proofs.shape.is_possible.Tie as tie
-use Rattle.formats.proofs.shape.is_possible.Reads as reads
-use Rattle.formats.proofs.shape.is_possible.Lts as lts
 
 enum-told : tie.Need-enum-told
 enum-told c = search needs

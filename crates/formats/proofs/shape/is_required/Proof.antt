@@ -1,10 +1,7 @@
 use Rattle.formats.specs.Rules.{required}
-use native.Mathlib.Omega.{arith}
 use borrow.Author.Needs.{needs}
 use Rattle.formats.proofs.shape.is_required.Statement.{statement}
 use Rattle.formats.proofs.shape.is_required.Tie as tie
-use Rattle.formats.proofs.shape.is_required.Reads as reads
-use Rattle.formats.proofs.shape.is_required.Lts as lts
 
 enum-told : tie.Need-enum-told
 enum-told c = search needs

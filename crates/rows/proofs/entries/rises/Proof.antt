@@ -9,9 +9,6 @@ use native.Mathlib.Omega.{arith}
 use borrow.Author.Needs.{needs}
 use Rattle.rows.proofs.entries.rises.Statement.{statement}
 use Rattle.rows.proofs.entries.rises.Tie as tie
-use Rattle.rows.proofs.entries.rises.Reads as reads
-use Rattle.rows.proofs.entries.rises.Lts as lts
-use Rattle.prelude.proofs.number.read_u16.Reads as read-u16-reads
 
 -- what is left of the entries decides as all of them do
 record Going (v : List ℕ) (limit : ℕ) (goal : Bool) (low i : ℕ) : Type 0 where

@@ -1,21 +1,14 @@
-use Prim.Native.Nat.{_+_}
-use Rattle.rows.proofs.Entering.{insert-begin}
+use Prim.Native.Nat.{_+_, ℕ, _-_, _%_, _≤_}
+use Rattle.rows.proofs.Entering.{insert-begin, insertAll, Within, insert-turn, insert-done, within-this, within-rest}
 use mathlib.Core.Path.{_≡_, refl, sym, ap, _∙_}
 use mathlib.Core.List.{List}
-use Prim.Native.Nat.{ℕ, _-_, _%_, _≤_}
 use lib.ListN.{length, drop}
 use Rattle.sets.specs.Sets.{setOf}
 use Rattle.formats.specs.Entries.{entries, among}
-use Rattle.rows.proofs.Entering.{insertAll, Within, insert-all, insert-turn, insert-done, within-this, within-rest, within-all}
 use native.Mathlib.Omega.{arith}
 use borrow.Author.Needs.{needs}
 use Rattle.rows.proofs.entries.store_entries.Statement.{statement}
 use Rattle.rows.proofs.entries.store_entries.Tie as tie
-use Rattle.rows.proofs.entries.store_entries.Reads as reads
-use Rattle.rows.proofs.entries.store_entries.Lts as lts
-use Rattle.prelude.proofs.number.read_u16.Reads as read-u16-reads
-use Rattle.prelude.proofs.part.clear.Reads as clear-reads
-use Rattle.sets.proofs.insert.Reads as insert-reads
 
 -- the set with what is left of the entries is the set of all of them
 record Going (v : List ℕ) (n : ℕ) (goal cell : List ℕ) (i : ℕ) : Type 0 where
@@ -55,14 +48,14 @@ loop-less c = omega arith
 
 loop-again : tie.Need-loop-again Inv-loop μ-loop
 loop-again c = record {
-      whole = c .before .before .before .before .before .before .loop .inv .whole;
-      even = omega arith;
-      within = omega arith;
-      long = c .before .before .insert .kept .0 ∙ c .before .before .before .before .before .before .loop .inv .long;
-      small = within-rest (c .before .before .before .before .before .before .loop .i) (c .before .before .before .before .read-u16 .result) (c .before .before .before .before .before .before .before .before .before .before .before .before .before .args .v .now) (c .before .before .before .before .before .before .loop .cell) (omega arith) (c .before .before .before .before .read-u16 .ensures) _ (c .before .before .before .before .before .before .loop .inv .small);
-      same = ap (λ (x : List ℕ). insertAll x (entries (drop (c .before .before .before .before .before .before .loop .i + 2) (c .before .before .before .before .before .before .before .before .before .before .before .before .before .args .v .now)))) (c .before .before .insert .ensures)
-          ∙ sym (insert-turn (c .before .before .before .before .before .before .loop .i) (c .before .before .before .before .read-u16 .result) (c .before .before .before .before .before .before .before .before .before .before .before .before .before .args .v .now) (c .before .before .before .before .before .before .loop .cell) (omega arith) (c .before .before .before .before .read-u16 .ensures)) ∙ c .before .before .before .before .before .before .loop .inv .same;
-    }
+  whole = c .before .before .before .before .before .before .loop .inv .whole;
+  even = omega arith;
+  within = omega arith;
+  long = c .before .before .insert .kept .0 ∙ c .before .before .before .before .before .before .loop .inv .long;
+  small = within-rest (c .before .before .before .before .before .before .loop .i) (c .before .before .before .before .read-u16 .result) (c .before .before .before .before .before .before .before .before .before .before .before .before .before .args .v .now) (c .before .before .before .before .before .before .loop .cell) (omega arith) (c .before .before .before .before .read-u16 .ensures) _ (c .before .before .before .before .before .before .loop .inv .small);
+  same = ap (λ (x : List ℕ). insertAll x (entries (drop (c .before .before .before .before .before .before .loop .i + 2) (c .before .before .before .before .before .before .before .before .before .before .before .before .before .args .v .now)))) (c .before .before .insert .ensures)
+      ∙ sym (insert-turn (c .before .before .before .before .before .before .loop .i) (c .before .before .before .before .read-u16 .result) (c .before .before .before .before .before .before .before .before .before .before .before .before .before .args .v .now) (c .before .before .before .before .before .before .loop .cell) (omega arith) (c .before .before .before .before .read-u16 .ensures)) ∙ c .before .before .before .before .before .before .loop .inv .same;
+}
 
 same-length : tie.Need-same-length Inv-loop μ-loop
 same-length c = c .before .loop .inv .long ∙ c .before .before .before .before .clear .kept .0

@@ -1,13 +1,8 @@
 use Rattle.rows.proofs.Storing.{cell-cleared}
 use Rattle.formats.specs.RulesLaws.{width-small}
-use native.Mathlib.Omega.{arith}
 use borrow.Author.Needs.{needs}
 use Rattle.rows.proofs.field.clear_cell.Statement.{statement}
 use Rattle.rows.proofs.field.clear_cell.Tie as tie
-use Rattle.rows.proofs.field.clear_cell.Reads as reads
-use Rattle.rows.proofs.field.clear_cell.Lts as lts
-use Rattle.formats.proofs.shape.width_of.Reads as width-of-reads
-use Rattle.prelude.proofs.part.clear.Reads as clear-reads
 
 width-of-requires : tie.Need-width-of-requires
 width-of-requires c κs = width-small _ (c .before .pre .sound)

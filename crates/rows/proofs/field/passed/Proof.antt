@@ -1,11 +1,7 @@
 use mathlib.Core.Path.{sym, _∙_}
-use native.Mathlib.Omega.{arith}
 use borrow.Author.Needs.{needs}
 use Rattle.rows.proofs.field.passed.Statement.{statement}
 use Rattle.rows.proofs.field.passed.Tie as tie
-use Rattle.rows.proofs.field.passed.Reads as reads
-use Rattle.rows.proofs.field.passed.Lts as lts
-use Rattle.formats.proofs.shape.is_required.Reads as is-required-reads
 
 is-required-requires : tie.Need-is-required-requires
 is-required-requires c κs = search needs

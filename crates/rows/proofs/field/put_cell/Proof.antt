@@ -1,14 +1,9 @@
 use mathlib.Core.Path.{sym, _∙_}
 use Rattle.formats.specs.RulesLaws.{width-small, cell-length, takes-accepts}
 use Rattle.rows.proofs.Storing.{cell-stored}
-use native.Mathlib.Omega.{arith}
 use borrow.Author.Needs.{needs}
 use Rattle.rows.proofs.field.put_cell.Statement.{statement}
 use Rattle.rows.proofs.field.put_cell.Tie as tie
-use Rattle.rows.proofs.field.put_cell.Reads as reads
-use Rattle.rows.proofs.field.put_cell.Lts as lts
-use Rattle.formats.proofs.shape.width_of.Reads as width-of-reads
-use Rattle.rows.proofs.field.store_cell.Reads as store-cell-reads
 
 width-of-requires : tie.Need-width-of-requires
 width-of-requires c κs = width-small _ (c .before .before .pre .0 .sound)

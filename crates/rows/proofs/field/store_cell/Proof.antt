@@ -8,10 +8,6 @@ use native.Mathlib.Omega.{arith}
 use borrow.Author.Needs.{needs}
 use Rattle.rows.proofs.field.store_cell.Statement.{statement}
 use Rattle.rows.proofs.field.store_cell.Tie as tie
-use Rattle.rows.proofs.field.store_cell.Reads as reads
-use Rattle.rows.proofs.field.store_cell.Lts as lts
-use Rattle.formats.proofs.shape.mark_of.Reads as mark-of-reads
-use Rattle.rows.proofs.value.store_value.Reads as store-value-reads
 
 mark-of-requires : tie.Need-mark-of-requires
 mark-of-requires c κs = search needs

@@ -8,13 +8,6 @@ use native.Mathlib.Omega.{arith}
 use borrow.Author.Needs.{needs}
 use Rattle.rows.proofs.field.take_field.Statement.{statement}
 use Rattle.rows.proofs.field.take_field.Tie as tie
-use Rattle.rows.proofs.field.take_field.Reads as reads
-use Rattle.rows.proofs.field.take_field.Lts as lts
-use Rattle.rows.proofs.field.clear_cell.Reads as clear-cell-reads
-use Rattle.rows.proofs.field.passed.Reads as passed-reads
-use Rattle.rows.proofs.field.put_cell.Reads as put-cell-reads
-use Rattle.rows.proofs.field.turn_of.Reads as turn-of-reads
-use Rattle.wire.proofs.value_of.Reads as value-of-reads
 
 turn-of-requires : tie.Need-turn-of-requires
 turn-of-requires c κs = search needs

@@ -1,13 +1,8 @@
 use mathlib.Core.Path.{sym, _∙_}
 use Rattle.formats.specs.Rules.{takes}
-use native.Mathlib.Omega.{arith}
 use borrow.Author.Needs.{needs}
 use Rattle.rows.proofs.field.takes.Statement.{statement}
 use Rattle.rows.proofs.field.takes.Tie as tie
-use Rattle.rows.proofs.field.takes.Reads as reads
-use Rattle.rows.proofs.field.takes.Lts as lts
-use Rattle.formats.proofs.shape.is_possible.Reads as is-possible-reads
-use Rattle.rows.proofs.value.accepts.Reads as accepts-reads
 
 is-possible-requires : tie.Need-is-possible-requires
 is-possible-requires c κs = search needs

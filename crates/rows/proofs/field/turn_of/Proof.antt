@@ -6,11 +6,6 @@ use native.Mathlib.Omega.{arith}
 use borrow.Author.Needs.{needs}
 use Rattle.rows.proofs.field.turn_of.Statement.{statement}
 use Rattle.rows.proofs.field.turn_of.Tie as tie
-use Rattle.rows.proofs.field.turn_of.Reads as reads
-use Rattle.rows.proofs.field.turn_of.Lts as lts
-use Rattle.rows.proofs.field.takes.Reads as takes-reads
-use Rattle.wire.proofs.field_at.Reads as field-at-reads
-use Rattle.wire.proofs.value_of.Reads as value-of-reads
 
 field-at-requires : tie.Need-field-at-requires
 field-at-requires c κs = search needs

@@ -2,12 +2,8 @@ use Rattle.prelude.specs.Part.{padded, zeros}
 use Rattle.prelude.specs.SaysLaws.{says-eq, says-false}
 use Rattle.formats.specs.Shapes.{image}
 use Rattle.rows.specs.ObjectClass.{firstObjectClass, objectClassCell}
-use native.Mathlib.Omega.{arith}
-use borrow.Author.Needs.{needs}
 use Rattle.rows.proofs.object_class.first_cell.Statement.{statement}
 use Rattle.rows.proofs.object_class.first_cell.Tie as tie
-use Rattle.rows.proofs.object_class.first_cell.Reads as reads
-use Rattle.rows.proofs.object_class.first_cell.Lts as lts
 
 returns : tie.Need-returns
 unfolding firstObjectClass objectClassCell image padded zeros

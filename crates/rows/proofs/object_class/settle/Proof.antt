@@ -1,26 +1,17 @@
-use mathlib.Core.Path.{_≡_}
+use mathlib.Core.Path.{_≡_, sym, ap, _∙_}
 use lib.ListN.{length}
 use Rattle.schema.specs.AttributeRow.{syntaxOf}
-use Rattle.rows.specs.ObjectClassLaws.{cell-long, first-short}
-use mathlib.Core.Path.{refl, sym, ap, _∙_}
+use Rattle.rows.specs.ObjectClassLaws.{cell-long, first-short, settled-none, settled-first, settled-given}
 use mathlib.Core.List.{List}
 use Prim.Native.Nat.{ℕ}
 use Rattle.prelude.specs.Part.{splice}
 use Rattle.prelude.specs.LentLaws.{lent-cleared}
 use Rattle.rows.specs.ObjectClass.{firstObjectClass, objectClassCell}
-use Rattle.rows.specs.ObjectClassLaws.{settled-none, settled-first, settled-given}
 use Rattle.rows.proofs.Storing.{cell-copied}
 use native.Mathlib.Omega.{arith}
 use borrow.Author.Needs.{needs}
 use Rattle.rows.proofs.object_class.settle.Statement.{statement}
 use Rattle.rows.proofs.object_class.settle.Tie as tie
-use Rattle.rows.proofs.object_class.settle.Reads as reads
-use Rattle.rows.proofs.object_class.settle.Lts as lts
-use Rattle.bytes.proofs.copy.Reads as copy-reads
-use Rattle.prelude.proofs.part.clear.Reads as clear-reads
-use Rattle.rows.proofs.object_class.first_cell.Reads as first-cell-reads
-use Rattle.schema.proofs.attribute.om_syntax.Reads as om-syntax-reads
-use Rattle.schema.proofs.attribute.syntax.Reads as syntax-reads
 
 om-syntax-requires : tie.Need-om-syntax-requires
 om-syntax-requires c κs = search needs

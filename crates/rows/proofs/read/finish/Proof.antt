@@ -5,9 +5,6 @@ use native.Mathlib.Omega.{arith}
 use borrow.Author.Needs.{needs}
 use Rattle.rows.proofs.read.finish.Statement.{statement}
 use Rattle.rows.proofs.read.finish.Tie as tie
-use Rattle.rows.proofs.read.finish.Reads as reads
-use Rattle.rows.proofs.read.finish.Lts as lts
-use Rattle.rows.proofs.object_class.settle.Reads as settle-reads
 
 enum-told : tie.Need-enum-told
 enum-told c = search needs

@@ -14,11 +14,6 @@ use native.Mathlib.Omega.{arith}
 use borrow.Author.Needs.{needs}
 use Rattle.rows.proofs.read.read_fields.Statement.{statement}
 use Rattle.rows.proofs.read.read_fields.Tie as tie
-use Rattle.rows.proofs.read.read_fields.Reads as reads
-use Rattle.rows.proofs.read.read_fields.Lts as lts
-use Rattle.formats.proofs.table.rule_count.Reads as rule-count-reads
-use Rattle.formats.proofs.table.rule_of.Reads as rule-of-reads
-use Rattle.rows.proofs.field.take_field.Reads as take-field-reads
 
 -- what the rules that are left make of the state is what the whole table makes of the start
 record Going (s : List ℕ) (end count : ℕ) (table : List Rule) (n : ℕ) (goal : Out) (row : List ℕ) (at : ℕ) (missing : Bool) (i : ℕ) : Type 0 where

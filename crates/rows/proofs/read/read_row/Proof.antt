@@ -1,12 +1,7 @@
 use Rattle.rows.specs.ObjectClassLaws.{finish-bad, finish-read}
-use native.Mathlib.Omega.{arith}
 use borrow.Author.Needs.{needs}
 use Rattle.rows.proofs.read.read_row.Statement.{statement}
 use Rattle.rows.proofs.read.read_row.Tie as tie
-use Rattle.rows.proofs.read.read_row.Reads as reads
-use Rattle.rows.proofs.read.read_row.Lts as lts
-use Rattle.rows.proofs.read.finish.Reads as finish-reads
-use Rattle.rows.proofs.read.read_fields.Reads as read-fields-reads
 
 read-fields-requires : tie.Need-read-fields-requires
 read-fields-requires c κs = search needs

@@ -5,11 +5,6 @@ use native.Mathlib.Omega.{arith}
 use borrow.Author.Needs.{needs}
 use Rattle.rows.proofs.value.accepts.Statement.{statement}
 use Rattle.rows.proofs.value.accepts.Tie as tie
-use Rattle.rows.proofs.value.accepts.Reads as reads
-use Rattle.rows.proofs.value.accepts.Lts as lts
-use Rattle.prelude.proofs.number.read_u16.Reads as read-u16-reads
-use Rattle.rows.proofs.entries.rises.Reads as rises-reads
-use Rattle.rows.proofs.value.passes.Reads as passes-reads
 
 enum-known-shape : tie.Need-enum-known-shape
 enum-known-shape c = search needs

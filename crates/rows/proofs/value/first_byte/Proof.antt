@@ -1,11 +1,8 @@
 use mathlib.Core.Path.{sym}
 use lib.ListN.{List·getD-eq-default}
-use native.Mathlib.Omega.{arith}
 use borrow.Author.Needs.{needs}
 use Rattle.rows.proofs.value.first_byte.Statement.{statement}
 use Rattle.rows.proofs.value.first_byte.Tie as tie
-use Rattle.rows.proofs.value.first_byte.Reads as reads
-use Rattle.rows.proofs.value.first_byte.Lts as lts
 
 shared-slice-read-result : tie.Need-shared-slice-read-result
 shared-slice-read-result c = search needs

@@ -1,10 +1,6 @@
 use borrow.Author.Tests.{eq-eqb, ne-eqb}
-use native.Mathlib.Omega.{arith}
-use borrow.Author.Needs.{needs}
 use Rattle.rows.proofs.value.is_open_list.Statement.{statement}
 use Rattle.rows.proofs.value.is_open_list.Tie as tie
-use Rattle.rows.proofs.value.is_open_list.Reads as reads
-use Rattle.rows.proofs.value.is_open_list.Lts as lts
 
 returns : tie.Need-returns
 returns c = rw (eq-eqb _ _ (c .if1 .taken))

@@ -1,13 +1,7 @@
 use Rattle.formats.specs.Shapes.{passes}
-use native.Mathlib.Omega.{arith}
 use borrow.Author.Needs.{needs}
 use Rattle.rows.proofs.value.passes.Statement.{statement}
 use Rattle.rows.proofs.value.passes.Tie as tie
-use Rattle.rows.proofs.value.passes.Reads as reads
-use Rattle.rows.proofs.value.passes.Lts as lts
-use Rattle.prelude.proofs.part.is_zero.Reads as is-zero-reads
-use Rattle.rows.proofs.value.first_byte.Reads as first-byte-reads
-use Rattle.rows.proofs.value.is_open_list.Reads as is-open-list-reads
 
 enum-told : tie.Need-enum-told
 enum-told c = search needs

@@ -1,13 +1,9 @@
-use Rattle.rows.proofs.Storing.{rest-long, rest-back}
+use Rattle.rows.proofs.Storing.{rest-long, rest-back, counted-stored}
 use lib.ListN.{length-set}
-use Rattle.rows.proofs.Storing.{counted-stored}
 use native.Mathlib.Omega.{arith}
 use borrow.Author.Needs.{needs}
 use Rattle.rows.proofs.value.store_counted.Statement.{statement}
 use Rattle.rows.proofs.value.store_counted.Tie as tie
-use Rattle.rows.proofs.value.store_counted.Reads as reads
-use Rattle.rows.proofs.value.store_counted.Lts as lts
-use Rattle.prelude.proofs.part.copy_padded.Reads as copy-padded-reads
 
 slice-write-cell : tie.Need-slice-write-cell
 slice-write-cell c = search needs

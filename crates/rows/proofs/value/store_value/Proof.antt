@@ -4,12 +4,6 @@ use native.Mathlib.Omega.{arith}
 use borrow.Author.Needs.{needs}
 use Rattle.rows.proofs.value.store_value.Statement.{statement}
 use Rattle.rows.proofs.value.store_value.Tie as tie
-use Rattle.rows.proofs.value.store_value.Reads as reads
-use Rattle.rows.proofs.value.store_value.Lts as lts
-use Rattle.bytes.proofs.copy.Reads as copy-reads
-use Rattle.prelude.proofs.number.read_u16.Reads as read-u16-reads
-use Rattle.rows.proofs.entries.store_entries.Reads as store-entries-reads
-use Rattle.rows.proofs.value.store_counted.Reads as store-counted-reads
 
 enum-told : tie.Need-enum-told
 enum-told c = search needs
