@@ -5,6 +5,7 @@ use Prim.Native.Nat.{ℕ, _+_}
 use lib.Dec.{eqb}
 use lib.ListN.{getD, drop}
 use Rattle.prelude.specs.Part.{part, isZero}
+use Rattle.wire.specs.Wire.{fieldBytes}
 use Rattle.formats.specs.Shapes.{accepts, image, room, stored, holds}
 use Rattle.formats.specs.declared.shape.Presence.{Presence}
 use Rattle.formats.specs.declared.shape.Presence.the-variants.{Required, Optional, Marked, Never}
@@ -73,3 +74,12 @@ wellFormedCell r cell = cond (hasValue (r .presence) cell) (holds (r .shape) (dr
 unfoldable pub wellFormedBy : List Rule → List ℕ → Bool
 wellFormedBy [] row = true
 wellFormedBy (r ∷ rs) row = wellFormedCell r (cellAt r row) && wellFormedBy rs row
+
+-- the field of a rule, written: nothing where its cell has no value
+unfoldable pub fieldOf : Rule → List ℕ → List ℕ
+fieldOf r row = cond (hasValue (r .presence) (cellAt r row)) (fieldBytes (r .tag) (valueOf r (cellAt r row))) []
+
+-- the fields of a row, in the order of the table
+unfoldable pub writeBy : List Rule → List ℕ → List ℕ
+writeBy [] row = []
+writeBy (r ∷ rs) row = fieldOf r row ++ writeBy rs row

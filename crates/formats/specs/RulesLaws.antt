@@ -14,7 +14,8 @@ use Rattle.prelude.specs.PartLaws.{zeros-at, zeros-zero, zero-zeros}
 use Rattle.prelude.specs.SpliceLaws.{part-splice-before, part-splice-same, part-splice-after}
 use Rattle.formats.specs.Shapes.{accepts, image, room, stored}
 use Rattle.formats.specs.ShapesLaws.{Bytes, sound, room-small, Accepts, says-accepts, Holds, says-holds, image-length, stored-image, image-holds, accepts-stored, image-stored, stored-short, stored-bytes, skippable, image-nonzero}
-use Rattle.formats.specs.Rules.{lead, mark, required, possible, width, takes, cellOf, cellAt, hasValue, valueOf, wellFormedCell, wellFormedBy}
+use Rattle.wire.specs.Wire.{fieldBytes}
+use Rattle.formats.specs.Rules.{lead, mark, required, possible, width, takes, cellOf, cellAt, hasValue, valueOf, wellFormedCell, wellFormedBy, fieldOf}
 use Rattle.formats.specs.declared.shape.Shape.{Shape}
 use Rattle.formats.specs.declared.shape.Presence.{Presence}
 use Rattle.formats.specs.declared.shape.Presence.the-variants.{Required, Optional, Marked, Never}
@@ -105,7 +106,7 @@ taken-cell r v s b h =
     }
 
 -- the cell of an absent field
-absent-value : (p : Presence) (n : ℕ) → required p ≡ false → hasValue p (zeros n) ≡ false
+pub absent-value : (p : Presence) (n : ℕ) → required p ≡ false → hasValue p (zeros n) ≡ false
 unfolding hasValue required
 absent-value Required n h = absurd (true≢false h)
 absent-value Optional n h = ap not (zeros-zero n)
@@ -115,6 +116,16 @@ absent-value Never n h = refl
 pub absent-formed : (r : Rule) (n : ℕ) → required (r .presence) ≡ false → wellFormedCell r (zeros n) ≡ true
 unfolding wellFormedCell
 absent-formed r n h = rw (absent-value (r .presence) n h) (zeros-zero n)
+
+-- ---- a field that is written
+
+pub field-none : (r : Rule) (row : List ℕ) → hasValue (r .presence) (cellAt r row) ≡ false → fieldOf r row ≡ []
+unfolding fieldOf
+field-none r row h = rw h
+
+pub field-some : (r : Rule) (row : List ℕ) → hasValue (r .presence) (cellAt r row) ≡ true → fieldOf r row ≡ fieldBytes (r .tag) (valueOf r (cellAt r row))
+unfolding fieldOf
+field-some r row h = rw h
 
 -- a well-formed cell with a value
 pub record ValueCell (r : Rule) (cell : List ℕ) : Type 0 where

@@ -3,3 +3,4 @@ pub mod Reading
 pub mod ReadingLaws
 pub mod ObjectClass
 pub mod ObjectClassLaws
+pub mod ReadBackLaws
