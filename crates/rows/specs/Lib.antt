@@ -4,3 +4,4 @@ pub mod ReadingLaws
 pub mod ObjectClass
 pub mod ObjectClassLaws
 pub mod ReadBackLaws
+pub mod WriteReadLaws
