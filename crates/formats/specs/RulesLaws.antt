@@ -93,17 +93,19 @@ pub cell-length : (r : Rule) (v : List ℕ) → Accepts (r .shape) v → length 
 unfolding cellOf width
 cell-length r v a = length-append (lead (r .presence)) (image (r .shape) v) ∙ omega (arith, mark-lead (r .presence), image-length (r .shape) v a)
 
-pub taken-cell : (r : Rule) (v : List ℕ) → Sound r → Bytes v → takes r v ≡ true → TakenCell r v (cellOf r v)
-unfolding takes wellFormedCell valueOf width
-taken-cell r v s b h =
+pub taken-formed : (r : Rule) (v : List ℕ) → Sound r → takes r v ≡ true → (hasValue (r .presence) (cellOf r v) ≡ true) × (wellFormedCell r (cellOf r v) ≡ true)
+unfolding takes wellFormedCell
+taken-formed r v s h =
     let t = says-and (says-test (possible (r .presence))) (says-accepts (r .shape) v) .holds h in
     let has : hasValue (r .presence) (cellOf r v) ≡ true = cell-has r v (t .0) (s .absent) (t .1) in
-    record {
-      long = cell-length r v (t .1);
-      has = has;
-      value = rw (behind-lead r v) (stored-image (r .shape) v b (t .1));
-      formed = rw (has, behind-lead r v) (says-holds (r .shape) (image (r .shape) v) .passes (image-holds (r .shape) v (t .1)));
-    }
+    (has, rw (has, behind-lead r v) (says-holds (r .shape) (image (r .shape) v) .passes (image-holds (r .shape) v (t .1))))
+
+pub taken-cell : (r : Rule) (v : List ℕ) → Sound r → Bytes v → takes r v ≡ true → TakenCell r v (cellOf r v)
+unfolding valueOf
+taken-cell r v s b h =
+    let a : Accepts (r .shape) v = takes-accepts r v h in
+    let f = taken-formed r v s h in
+    record { long = cell-length r v a; has = f .0; value = rw (behind-lead r v) (stored-image (r .shape) v b a); formed = f .1 }
 
 -- the cell of an absent field
 pub absent-value : (p : Presence) (n : ℕ) → required p ≡ false → hasValue p (zeros n) ≡ false

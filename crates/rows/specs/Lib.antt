@@ -5,3 +5,5 @@ pub mod ObjectClass
 pub mod ObjectClassLaws
 pub mod ReadBackLaws
 pub mod WriteReadLaws
+pub mod WellFormed
+pub mod WellFormedLaws

@@ -21,7 +21,7 @@ use Rattle.rows.specs.ObjectClass.{firstObjectClass, objectClassCell, se
 
 -- ---- the three cases
 
-no-cell : objectClassCell [] ≡ zeros 17
+pub no-cell : objectClassCell [] ≡ zeros 17
 unfolding objectClassCell image padded zeros
 no-cell = refl
 
