@@ -2,7 +2,8 @@
 use mathlib.Core.Path.{_≡_, refl}
 use mathlib.Core.Bool.{Bool, true, not, _&&_}
 use mathlib.Core.List.{List, [], _∷_}
-use Prim.Native.Nat.{ℕ, _<_}
+use Prim.Native.Nat.{ℕ, _≤_, _<_}
+use native.Mathlib.Omega.{arith}
 use lib.Dec.{eqb}
 use lib.ListN.{length, getD}
 use Rattle.formats.specs.Shapes.{room}
@@ -28,6 +29,10 @@ kind-laid Entry = refl
 
 pub kind-fits : (kind : Kind) (i : ℕ) → i < length (formatOf kind) → Fits (widthOf kind) (getD (formatOf kind) i noRule)
 kind-fits kind i l = laid-at (formatOf kind) noRule 0 (widthOf kind) i (kind-laid kind) l
+
+-- a rule of a kind's table, in a row that is long enough
+pub fits-in : (kind : Kind) (i : ℕ) {r : Rule} {n : ℕ} → r ≡ getD (formatOf kind) i noRule → i < length (formatOf kind) → widthOf kind ≤ n → Fits n r
+fits-in kind i e l w = let f = kind-fits kind i l in rw e (record { within = omega (arith, f .within); sound = f .sound })
 
 -- no rule has the tag
 unfoldable pub without : ℕ → List Rule → Bool

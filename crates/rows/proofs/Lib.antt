@@ -2,3 +2,4 @@
 pub mod Entering
 pub mod Storing
 pub mod Vectors
+pub mod Checking

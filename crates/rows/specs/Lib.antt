@@ -7,3 +7,4 @@ pub mod ReadBackLaws
 pub mod WriteReadLaws
 pub mod WellFormed
 pub mod WellFormedLaws
+pub mod FormedLaws

@@ -1,26 +1,24 @@
 -- What the reader accepts is well-formed, and is written as the bytes that were read: by one way through the table, for any table.
-use mathlib.Core.Path.{_≡_, refl, sym, ap, ap₂, _∙_}
+use mathlib.Core.Path.{_≡_, refl, sym, ap, _∙_}
 use mathlib.Core.Bool.{Bool, true, false, cond, _||_}
-use mathlib.Core.List.{List, [], _∷_, _++_}
+use mathlib.Core.List.{List, [], _∷_}
 use Prim.Native.Nat.{ℕ, _+_, _-_, _≤_}
 use native.Mathlib.Omega.{arith}
 use lib.Dec.{eqb}
-use lib.ListN.{length, take, drop}
-use lib.Seq.{take-take, take-add}
+use lib.ListN.{length, take}
+use lib.Seq.{take-take}
 use borrow.Author.Tests.{eqb-true}
 use Rattle.prelude.specs.Part.{part, splice, zeros}
 use Rattle.prelude.specs.PartLaws.{part-none, part-part, part-add, part-bytes, zeros-length}
 use Rattle.prelude.specs.SpliceLaws.{splice-length, splice-before, part-splice-same}
-use Rattle.wire.specs.Wire.{fieldAt, fieldBytes}
+use Rattle.wire.specs.Wire.{fieldAt}
 use Rattle.wire.specs.WireLaws.{field-back}
 use Rattle.formats.specs.declared.shape.Rule.{Rule}
 use Rattle.formats.specs.ShapesLaws.{Bytes}
-use Rattle.formats.specs.Rules.{required, width, takes, cellOf, cellAt, hasValue, valueOf, wellFormedCell, wellFormedBy, fieldOf, writeBy}
-use Rattle.formats.specs.RulesLaws.{Sound, Laid, laid, laid-cons, laid-end, laid-le, takes-accepts, cell-length, TakenCell, taken-cell, absent-value, absent-formed, formed-both, field-none, field-some}
+use Rattle.formats.specs.Rules.{required, width, cellOf, cellAt, hasValue, valueOf, wellFormedCell, wellFormedBy, writeBy}
+use Rattle.formats.specs.RulesLaws.{Laid, laid, laid-cons, laid-le, takes-accepts, cell-length, taken-cell, absent-value, absent-formed, formed-both, field-none, field-some}
 use Rattle.rows.specs.declared.field.Turn.{Turn}
 use Rattle.rows.specs.declared.field.Turn.the-variants.{Taken, Passed, Refused}
-use Rattle.rows.specs.declared.field.Took.the-variants.{Next, Stop}
-use Rattle.rows.specs.declared.read.RowRead.{RowRead}
 use Rattle.rows.specs.declared.read.RowRead.the-variants.{Read, Bad}
 use Rattle.rows.specs.Reading.{turnOf, tookOf, rowOf, Out, out, onward, readBy}
 use Rattle.rows.specs.ReadingLaws.{is-taken}
@@ -73,10 +71,9 @@ module _ (s : List ℕ) (end : ℕ) (r : Rule) (rs : List Rule) (o n at : ℕ) (
   cell-stays cell k b ln =
       let inside : r .at + length cell ≤ length row = omega (arith, l .place, laid-le rs (o + width r) n (l .rest)) in
       let grown : o ≤ o + width r = omega arith in
-      let shorter : take o new ≡ take o (splice (r .at) cell row) = sym (take-take o (o + width r) new grown) ∙ ap (take o) b ∙ take-take o (o + width r) (splice (r .at) cell row) grown in
-      (
+      let shorter : take o new ≡ take o (splice (r .at) cell row) = sym (take-take o (o + width r) new grown) ∙ ap (take o) b ∙ take-take o (o + width r) (splice (r .at) cell row) grown in (
         front-part (o + width r) (r .at) (width r) new (splice (r .at) cell row) (omega (arith, l .place)) b ∙ part-splice-same (r .at) cell row inside (width r) (sym k),
-        (shorter ∙ splice-before (r .at) cell row inside o (omega (arith, l .place)), ln ∙ splice-length (r .at) cell row inside)
+        (shorter ∙ splice-before (r .at) cell row inside o (omega (arith, l .place)), ln ∙ splice-length (r .at) cell row inside),
       )
 
   -- a rule that took nothing

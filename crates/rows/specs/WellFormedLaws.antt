@@ -1,40 +1,36 @@
 -- Laws of well-formed rows: what the reader accepts is one, one that is written is read back, and what one has.
 use mathlib.Core.Path.{_≡_, refl, sym, ap, _∙_}
-use mathlib.Core.Bool.{Bool, true, false, not, cond, _&&_, _||_, false≢true}
-use mathlib.Core.Logic.{_⊎_, inl, inr, ⊎-elim}
+use mathlib.Core.Bool.{Bool, true, false, not, _||_, false≢true}
+use mathlib.Core.Logic.{_⊎_, inl, inr}
 use mathlib.Core.List.{List, [], _∷_, _++_}
-use Prim.Native.Nat.{ℕ, zero, suc, _+_, _-_, _≤_, _<_}
+use Prim.Native.Nat.{ℕ, zero, _+_, _-_, _≤_, _<_}
 use native.Mathlib.Omega.{arith}
 use native.Mathlib.Decide.{ℕ-discrete}
 use lib.Dec.{eqb}
-use lib.ListN.{length, getD, take}
-use Rattle.prelude.specs.Below.{allBelow}
-use Rattle.prelude.specs.SaysLaws.{says-and, says-eq, says-le, says-lt, says-test, says-true, says-false, says-split}
-use Rattle.prelude.specs.Part.{part, splice, zeros, padded, isZero}
-use Rattle.prelude.specs.PartLaws.{part-at, part-length, zero-zeros, padded-length, zeros-length, zeros-at}
-use Rattle.prelude.specs.SpliceLaws.{splice-length, splice-part, splice-at-before, splice-at-same, splice-at-after}
-use Rattle.schema.specs.Layout.{nameLimit, arcLimit, objectClassLimit, nameAt, identifierAt, syntaxAt, omSyntaxAt, objectClassAt, singleValuedAt, attributeWidth, classWidth}
-use Rattle.schema.specs.Row.{nameLength, arcCount}
+use lib.ListN.{length, getD}
+use Rattle.prelude.specs.SaysLaws.{says-and, says-eq, says-test, says-true, says-false, says-split}
+use Rattle.prelude.specs.Part.{part, splice, zeros, isZero}
+use Rattle.prelude.specs.PartLaws.{part-at, part-length, zero-zeros}
+use Rattle.prelude.specs.SpliceLaws.{splice-part, splice-at-before, splice-at-same, splice-at-after}
+use Rattle.schema.specs.Layout.{objectClassLimit, syntaxAt, omSyntaxAt, objectClassAt, singleValuedAt, attributeWidth, classWidth}
 use Rattle.schema.specs.AttributeRow.{syntaxOf, omSyntaxOf, objectClassLength}
-use Rattle.schema.specs.ClassRow.{categoryOf, superclassOf}
-use Rattle.schema.specs.Numbers.{classLimit}
 use Rattle.formats.specs.declared.shape.Rule.{Rule}
-use Rattle.formats.specs.declared.shape.Shape.the-variants.{Plain, Number, Counted, Arcs, Entries}
-use Rattle.formats.specs.declared.shape.Presence.the-variants.{Required, Optional, Marked, Never}
+use Rattle.formats.specs.declared.shape.Shape.the-variants.{Counted}
+use Rattle.formats.specs.declared.shape.Presence.the-variants.{Optional}
 use Rattle.formats.specs.declared.table.Kind.{Kind}
-use Rattle.formats.specs.declared.table.Kind.the-variants.{Attribute, Class, NewAttribute, NewClass, Range, Name, Target, Entry}
-use Rattle.formats.specs.Shapes.{image, room, holds}
-use Rattle.formats.specs.ShapesLaws.{Bytes, sound, skippable, Accepts, says-accepts, Holds, says-holds}
+use Rattle.formats.specs.declared.table.Kind.the-variants.{Attribute, Class}
+use Rattle.formats.specs.Shapes.{image, room}
+use Rattle.formats.specs.ShapesLaws.{Bytes, sound, skippable, says-accepts, says-holds}
 use Rattle.formats.specs.Rules.{lead, mark, required, possible, width, takes, cellOf, cellAt, hasValue, wellFormedCell, wellFormedBy, writeBy}
 use Rattle.formats.specs.RulesLaws.{formed-at, cell-replaced, absent-formed, taken-formed, sound-rule, soundRule, clear}
-use Rattle.formats.specs.Formats.{rule, commonFields, attributeFields, classFields, formatOf, widthOf, noRule}
+use Rattle.formats.specs.Formats.{rule, commonFields, attributeFields, formatOf, widthOf, noRule}
 use Rattle.formats.specs.FormatsLaws.{kind-laid, kind-distinct}
 use Rattle.rows.specs.declared.read.RowRead.{RowRead}
 use Rattle.rows.specs.declared.read.RowRead.the-variants.{Read, Bad}
 use Rattle.rows.specs.Reading.{Out, out, readBy}
-use Rattle.rows.specs.ReadBackLaws.{Back, read-back}
+use Rattle.rows.specs.ReadBackLaws.{read-back}
 use Rattle.rows.specs.WriteReadLaws.{write-read}
-use Rattle.rows.specs.ObjectClass.{firstObjectClass, objectClassCell, isObject, settled, isSettled, finished, finish, readRow}
+use Rattle.rows.specs.ObjectClass.{firstObjectClass, objectClassCell, settled, isSettled, finished, finish, readRow}
 use Rattle.rows.specs.ObjectClassLaws.{settled-none, settled-first, settled-given, first-short, cell-long, no-cell}
 use Rattle.rows.specs.WellFormed.{wellFormedAttribute, wellFormedClass, standsExactly}
 

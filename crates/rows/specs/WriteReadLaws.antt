@@ -1,32 +1,29 @@
 -- A well-formed row that is written is read back, whatever stands before and after it and whatever the row read into held: by one way through the
 -- table, for any table whose tags differ.
 use mathlib.Core.Path.{_≡_, refl, sym, ap, _∙_}
-use mathlib.Core.Bool.{Bool, true, false, not, cond, _&&_, _||_}
-use mathlib.Core.Logic.{_⊎_, inl, inr, ⊎-elim}
+use mathlib.Core.Bool.{Bool, true, false}
+use mathlib.Core.Logic.{_⊎_, inl, inr}
 use mathlib.Core.List.{List, [], _∷_, _++_, append-assoc}
 use Prim.Native.Nat.{ℕ, _+_, _-_, _≤_, _<_}
 use native.Mathlib.Omega.{arith}
 use native.Mathlib.Nat.{add-zero}
-use lib.Dec.{eqb}
 use lib.ListN.{length, take, drop, length-append}
 use lib.Seq.{take-add, take-all, take-at, length-take-le}
 use borrow.Author.Tests.{eq-eqb}
 use Rattle.prelude.specs.SaysLaws.{says-and, says-not, says-eq, says-test, says-split}
-use Rattle.prelude.specs.Part.{part, splice, zeros}
+use Rattle.prelude.specs.Part.{part, splice}
 use Rattle.prelude.specs.PartLaws.{part-length, part-bytes}
 use Rattle.prelude.specs.SpliceLaws.{splice-length}
 use Rattle.wire.specs.Wire.{fieldAt, fieldBytes}
 use Rattle.wire.specs.WireLaws.{field-end, field-length, field-read, value-read}
 use Rattle.formats.specs.declared.shape.Rule.{Rule}
 use Rattle.formats.specs.ShapesLaws.{Bytes}
-use Rattle.formats.specs.Rules.{required, width, takes, cellOf, cellAt, hasValue, valueOf, wellFormedCell, wellFormedBy, fieldOf, writeBy}
-use Rattle.formats.specs.RulesLaws.{Sound, Laid, laid, laid-cons, laid-end, laid-le, ValueCell, value-cell, blank-cell, formed-cons, field-none, field-some}
+use Rattle.formats.specs.Rules.{width, cellAt, hasValue, valueOf, wellFormedCell, wellFormedBy, fieldOf, writeBy}
+use Rattle.formats.specs.RulesLaws.{Laid, laid, laid-cons, laid-end, laid-le, value-cell, blank-cell, formed-cons, field-none, field-some}
 use Rattle.formats.specs.FormatsLaws.{without, distinct}
-use Rattle.rows.specs.declared.field.Turn.{Turn}
-use Rattle.rows.specs.declared.field.Turn.the-variants.{Taken, Passed, Refused}
-use Rattle.rows.specs.declared.field.Took.the-variants.{Next, Stop}
-use Rattle.rows.specs.declared.read.RowRead.the-variants.{Read, Bad}
-use Rattle.rows.specs.Reading.{turnOf, tookOf, rowOf, Out, out, onward, readBy}
+use Rattle.rows.specs.declared.field.Turn.the-variants.{Taken, Passed}
+use Rattle.rows.specs.declared.read.RowRead.the-variants.{Read}
+use Rattle.rows.specs.Reading.{turnOf, tookOf, rowOf, out, onward, readBy}
 use Rattle.rows.specs.ReadingLaws.{turn-end, turn-other, turn-taken}
 
 -- ---- cells

@@ -4,3 +4,4 @@ pub mod field;
 pub mod object_class;
 pub mod read;
 pub mod value;
+pub mod wellformed;

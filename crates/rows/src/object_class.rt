@@ -8,7 +8,7 @@ ghost use mathlib.Core.Path.{_≡_};
 ghost use Prim.Native.Nat.{_≤_};
 ghost use lib.ListN.{length};
 ghost use Rattle.schema.specs.Layout.{attributeWidth};
-ghost use Rattle.rows.specs.ObjectClass.{firstObjectClass, objectClassCell, settled};
+ghost use Rattle.rows.specs.ObjectClass.{firstObjectClass, objectClassCell, settled, isSettled};
 
 // The cell of a syntax's first value, zero where it has none.
 fn first_cell(syntax: u8) -> [u8; 17]
@@ -108,4 +108,20 @@ pub fn settle(row: &mut [u8])
         let first = first_cell(syntax(row));
         bytes::copy(&first, &mut row[OBJECT_CLASS..SINGLE_VALUED]);
     }
+}
+
+// Whether the oMObjectClass of a row is as settling leaves it.
+pub fn is_settled(row: &[u8]) -> bool
+    requires { ⌜ attributeWidth ≤ length (now row) ⌝ }
+    ensures { λ r. ⌜ r ≡ isSettled (now (row .entry)) ⌝ }
+{
+    let n = row[OBJECT_CLASS];
+    if om_syntax(row) != 127 {
+        return n == 0;
+    }
+    if n != 0 {
+        return true;
+    }
+    let first = first_cell(syntax(row));
+    first[0] == 0
 }

@@ -2,12 +2,10 @@ use mathlib.Core.Path.{_≡_, refl, sym, ap, _∙_}
 use mathlib.Core.Bool.{Bool, false}
 use mathlib.Core.List.{List}
 use Prim.Native.Nat.{ℕ, _-_, _≤_, _<_}
-use lib.ListN.{length, drop, getD}
+use lib.ListN.{length, drop}
 use Rattle.formats.specs.declared.shape.Rule.{Rule}
-use Rattle.formats.specs.declared.table.Kind.{Kind}
-use Rattle.formats.specs.Formats.{formatOf, widthOf, noRule}
-use Rattle.formats.specs.RulesLaws.{Fits}
-use Rattle.formats.specs.FormatsLaws.{kind-fits}
+use Rattle.formats.specs.Formats.{formatOf, noRule}
+use Rattle.formats.specs.FormatsLaws.{fits-in}
 use Rattle.rows.specs.Reading.{Out, readBy}
 use Rattle.rows.specs.ReadingLaws.{took-within, read-next, read-stop, read-leftover, read-missing, read-whole}
 use native.Mathlib.Omega.{arith}
@@ -21,10 +19,6 @@ record Going (s : List ℕ) (end count : ℕ) (table : List Rule) (n : ℕ) (goa
   within : at ≤ end
   long : length row ≡ n
   same : readBy s end (drop i table) at missing row ≡ goal
-
--- a rule of a kind's table, in a row that is long enough
-fits-in : (kind : Kind) (i : ℕ) {r : Rule} {n : ℕ} → r ≡ getD (formatOf kind) i noRule → i < length (formatOf kind) → widthOf kind ≤ n → Fits n r
-fits-in kind i e l w = let f = kind-fits kind i l in rw e (record { within = omega (arith, f .within); sound = f .sound })
 
 abbrev Inv-loop : tie.InvT-loop
 Inv-loop kind s start end row₀ count at₀ missing₀ i₀ row at missing i = Going s end count (formatOf kind) (length row₀) (readBy s end (formatOf kind) start false row₀) row at missing i

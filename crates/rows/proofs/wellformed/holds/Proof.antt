@@ -1,0 +1,126 @@
+use mathlib.Core.Path.{ap}
+use borrow.Author.Tests.{lt-leb, le-leb}
+use Rattle.formats.specs.Shapes.{holds, room}
+use native.Mathlib.Omega.{arith}
+use borrow.Author.Needs.{needs}
+use Rattle.rows.proofs.wellformed.holds.Statement.{statement}
+use Rattle.rows.proofs.wellformed.holds.Tie as tie
+
+enum-known-shape : tie.Need-enum-known-shape
+enum-known-shape c = search needs
+
+passes-requires : tie.Need-passes-requires
+passes-requires c κs = search needs
+
+enum-known-shape-2 : tie.Need-enum-known-shape-2
+enum-known-shape-2 c = search needs
+
+first-byte-requires : tie.Need-first-byte-requires
+first-byte-requires c κs = search needs
+
+cast-result : tie.Need-cast-result
+cast-result c = search needs
+
+enum-known-shape-3 : tie.Need-enum-known-shape-3
+enum-known-shape-3 c = search needs
+
+first-byte-requires-2 : tie.Need-first-byte-requires-2
+first-byte-requires-2 c κs = search needs
+
+cast-n : tie.Need-cast-n
+cast-n c = search needs
+
+returns : tie.Need-returns
+unfolding holds
+returns c = rw (c .before .before .before .shape3 .given .1, ← (c .before .first-byte2 .ensures), lt-leb _ _ (c .if1 .taken))
+
+add-is-zero-from : tie.Need-add-is-zero-from
+add-is-zero-from c = search needs
+
+is-zero-from-requires : tie.Need-is-zero-from-requires
+unfolding room
+is-zero-from-requires c κs = omega (arith, ap room (c .before .before .before .before .shape3 .given .1), c .before .before .before .before .before .before .before .pre .1)
+
+enum-known-shape-4 : tie.Need-enum-known-shape-4
+enum-known-shape-4 c = search needs
+
+first-byte-requires-3 : tie.Need-first-byte-requires-3
+first-byte-requires-3 c κs = search needs
+
+cast-n-2 : tie.Need-cast-n-2
+cast-n-2 c = search needs
+
+mul-is-zero-from : tie.Need-mul-is-zero-from
+mul-is-zero-from c = search needs
+
+add-is-zero-from-2 : tie.Need-add-is-zero-from-2
+add-is-zero-from-2 c = search needs
+
+is-zero-from-requires-2 : tie.Need-is-zero-from-requires-2
+unfolding room
+is-zero-from-requires-2 c κs = omega (arith, ap room (c .before .before .before .shape4 .given .1), c .before .before .before .before .before .before .pre .1)
+
+enum-told : tie.Need-enum-told
+enum-told c = search needs
+
+is-empty-requires : tie.Need-is-empty-requires
+is-empty-requires c κs = search needs
+
+returns-2 : tie.Need-returns-2
+unfolding holds
+returns-2 c = rw (c .before .before .shape .given .1) (c .passes .ensures)
+
+returns-3 : tie.Need-returns-3
+unfolding holds
+returns-3 c = rw (c .before .before .shape2 .given .1, c .first-byte .ensures)
+
+returns-4 : tie.Need-returns-4
+unfolding holds
+returns-4 c = rw (c .before .before .before .before .before .shape3 .given .1, ← (c .before .before .before .first-byte2 .ensures), le-leb _ _ (c .before .before .if1 .left), le-leb _ _ (c .before .if2 .taken)) (c .is-zero-from .ensures)
+
+returns-5 : tie.Need-returns-5
+unfolding holds
+returns-5 c = rw (c .before .before .before .before .shape3 .given .1, ← (c .before .before .first-byte2 .ensures), le-leb _ _ (c .before .if1 .left), lt-leb _ _ (c .if2 .left))
+
+returns-6 : tie.Need-returns-6
+unfolding holds
+returns-6 c = rw (c .before .before .before .before .shape4 .given .1, ← (c .before .before .first-byte3 .ensures), le-leb _ _ (c .before .if3 .taken)) (c .is-zero-from2 .ensures)
+
+returns-7 : tie.Need-returns-7
+unfolding holds
+returns-7 c = rw (c .before .before .before .shape4 .given .1, ← (c .before .first-byte3 .ensures), lt-leb _ _ (c .if3 .left))
+
+returns-8 : tie.Need-returns-8
+unfolding holds
+returns-8 c = rw (c .before .enum-told .given .1, c .is-empty .ensures)
+
+pub holds-spec : {M : Type 1} → statement M
+holds-spec =
+    tie.close
+    (tie.spec
+    enum-known-shape
+    passes-requires
+    enum-known-shape-2
+    first-byte-requires
+    cast-result
+    enum-known-shape-3
+    first-byte-requires-2
+    cast-n
+    returns
+    add-is-zero-from
+    is-zero-from-requires
+    enum-known-shape-4
+    first-byte-requires-3
+    cast-n-2
+    mul-is-zero-from
+    add-is-zero-from-2
+    is-zero-from-requires-2
+    enum-told
+    is-empty-requires
+    returns-2
+    returns-3
+    returns-4
+    returns-5
+    returns-6
+    returns-7
+    returns-8)
