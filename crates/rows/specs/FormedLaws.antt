@@ -26,7 +26,7 @@ use Rattle.formats.specs.ShapesLaws.{says-holds}
 use Rattle.formats.specs.Rules.{mark, width, cellAt, hasValue, wellFormedCell, wellFormedBy}
 use Rattle.formats.specs.RulesLaws.{formed-cons, formed-both, formed-at}
 use Rattle.formats.specs.Formats.{rule, mayBeDefunct, neverDefunct, commonFields, attributeFields, classFields, formatOf, noRule}
-use Rattle.rows.specs.ObjectClass.{isSettled}
+use Rattle.rows.specs.ObjectClass.{objectClassWidth, isSettled}
 use Rattle.rows.specs.WellFormed.{wellFormedAttribute, wellFormedClass}
 use Rattle.rows.specs.WellFormedLaws.{attribute-parts, class-parts}
 
@@ -48,21 +48,21 @@ pub record AttributeLimits (row : List ℕ) : Type 0 where
   pub objectClass : objectClassLength row ≤ objectClassLimit
 
 -- an optional count is within its limit, or 0
-counted-within : (at : ℕ) (row : List ℕ) → wellFormedCell (rule Optional 8 (Counted 1 objectClassLimit) at) (part at 17 row) ≡ true → at + 17 ≤ length row → getD row at 0 ≤ objectClassLimit
+counted-within : (at : ℕ) (row : List ℕ) → wellFormedCell (rule Optional 8 (Counted 1 objectClassLimit) at) (part at objectClassWidth row) ≡ true → at + objectClassWidth ≤ length row → getD row at 0 ≤ objectClassLimit
 unfolding wellFormedCell hasValue mark
 counted-within at row f fits = go (says-split (says-test (isZero cell)))
   where
     cell : List ℕ
-    cell = part at 17 row
+    cell = part at objectClassWidth row
 
     first : getD cell 0 0 ≡ getD row at 0
-    first = part-at at 17 row 0 (omega arith) ∙ ap (λ (n : ℕ). getD row n 0) (add-zero at)
+    first = part-at at objectClassWidth row 0 (omega arith) ∙ ap (λ (n : ℕ). getD row n 0) (add-zero at)
 
     go : ((isZero cell ≡ true) × (isZero cell ≡ true)) ⊎ ((isZero cell ≡ false) × ¬ (isZero cell ≡ true)) → getD row at 0 ≤ objectClassLimit
-    go (inl q) = omega (arith, first, ap (λ (x : List ℕ). getD x 0 0) (zero-zeros 17 cell (part-length at 17 row fits) (q .0)), zeros-at 17 0)
+    go (inl q) = omega (arith, first, ap (λ (x : List ℕ). getD x 0 0) (zero-zeros objectClassWidth cell (part-length at objectClassWidth row fits) (q .0)), zeros-at objectClassWidth 0)
     go (inr q) = omega (arith, first, says-holds (Counted 1 objectClassLimit) cell .holds (rw (q .0) at f) .1 .0)
 
-eighth : (row : List ℕ) → wellFormedBy (formatOf Attribute) row ≡ true → wellFormedCell (rule Optional 8 (Counted 1 objectClassLimit) objectClassAt) (part objectClassAt 17 row) ≡ true
+eighth : (row : List ℕ) → wellFormedBy (formatOf Attribute) row ≡ true → wellFormedCell (rule Optional 8 (Counted 1 objectClassLimit) objectClassAt) (part objectClassAt objectClassWidth row) ≡ true
 unfolding formatOf commonFields attributeFields cellAt width mark room
 eighth row f = formed-at (formatOf Attribute) noRule row 7 f (omega arith)
 

@@ -30,7 +30,7 @@ use Rattle.rows.specs.declared.read.RowRead.the-variants.{Read, Bad}
 use Rattle.rows.specs.Reading.{Out, out, readBy}
 use Rattle.rows.specs.ReadBackLaws.{read-back}
 use Rattle.rows.specs.WriteReadLaws.{write-read}
-use Rattle.rows.specs.ObjectClass.{firstObjectClass, objectClassCell, settled, isSettled, finished, finish, readRow}
+use Rattle.rows.specs.ObjectClass.{objectClassWidth, firstObjectClass, objectClassCell, settled, isSettled, finished, finish, readRow}
 use Rattle.rows.specs.ObjectClassLaws.{settled-none, settled-first, settled-given, first-short, cell-long, no-cell}
 use Rattle.rows.specs.WellFormed.{wellFormedAttribute, wellFormedClass, standsExactly}
 
@@ -86,17 +86,17 @@ class-rule : ruleAt Attribute 7 ≡ rule Optional 8 (Counted 1 objectClassLimit)
 unfolding formatOf commonFields attributeFields
 class-rule = refl
 
-class-zero : (cell : List ℕ) → length cell ≡ 17 → getD cell 0 0 ≡ 0 → wellFormedCell (rule Optional 8 (Counted 1 objectClassLimit) objectClassAt) cell ≡ true → cell ≡ zeros 17
+class-zero : (cell : List ℕ) → length cell ≡ objectClassWidth → getD cell 0 0 ≡ 0 → wellFormedCell (rule Optional 8 (Counted 1 objectClassLimit) objectClassAt) cell ≡ true → cell ≡ zeros objectClassWidth
 unfolding wellFormedCell hasValue mark
 class-zero cell l z f = go (says-split (says-test (isZero cell)))
   where
-    go : ((isZero cell ≡ true) × (isZero cell ≡ true)) ⊎ ((isZero cell ≡ false) × ¬ (isZero cell ≡ true)) → cell ≡ zeros 17
-    go (inl q) = zero-zeros 17 cell l (q .0)
+    go : ((isZero cell ≡ true) × (isZero cell ≡ true)) ⊎ ((isZero cell ≡ false) × ¬ (isZero cell ≡ true)) → cell ≡ zeros objectClassWidth
+    go (inl q) = zero-zeros objectClassWidth cell l (q .0)
     go (inr q) = absurd (omega (arith, says-holds (Counted 1 objectClassLimit) cell .holds (rw (q .0) at f) .0))
 
 -- the cell of given bytes is well-formed
 class-formed : (v : List ℕ) → length v ≤ objectClassLimit → wellFormedCell (rule Optional 8 (Counted 1 objectClassLimit) objectClassAt) (objectClassCell v) ≡ true
-class-formed [] h = rw no-cell (absent-formed (rule Optional 8 (Counted 1 objectClassLimit) objectClassAt) 17 (unfold required in refl))
+class-formed [] h = rw no-cell (absent-formed (rule Optional 8 (Counted 1 objectClassLimit) objectClassAt) objectClassWidth (unfold required in refl))
 class-formed (x ∷ v) h =
     unfold cellOf lead objectClassCell in
     taken-formed (rule Optional 8 (Counted 1 objectClassLimit) objectClassAt) (x ∷ v) (sound-rule (rule Optional 8 (Counted 1 objectClassLimit) objectClassAt) (unfold soundRule sound clear skippable in refl))
@@ -154,14 +154,14 @@ put-first row fits e =
     one-or-other false = refl
 
 -- no bytes counted: the cell is zero
-no-class : (row : List ℕ) → attributeWidth ≤ length row → wellFormedBy (formatOf Attribute) row ≡ true → objectClassLength row ≡ 0 → splice objectClassAt (zeros 17) row ≡ row
+no-class : (row : List ℕ) → attributeWidth ≤ length row → wellFormedBy (formatOf Attribute) row ≡ true → objectClassLength row ≡ 0 → splice objectClassAt (zeros objectClassWidth) row ≡ row
 no-class row fits f z =
-    let cell : List ℕ = part objectClassAt 17 row in
-    let inside : objectClassAt + 17 ≤ length row = omega arith in
-    let first : getD cell 0 0 ≡ 0 = part-at objectClassAt 17 row 0 (omega arith) ∙ z in
+    let cell : List ℕ = part objectClassAt objectClassWidth row in
+    let inside : objectClassAt + objectClassWidth ≤ length row = omega arith in
+    let first : getD cell 0 0 ≡ 0 = part-at objectClassAt objectClassWidth row 0 (omega arith) ∙ z in
     let formed = rw class-rule at (formed-at (formatOf Attribute) noRule row 7 f table-long) in
-    ap (λ (x : List ℕ). splice objectClassAt x row) (sym (class-zero cell (part-length objectClassAt 17 row inside) first (unfold cellAt width mark room in formed)))
-    ∙ splice-part objectClassAt 17 row inside
+    ap (λ (x : List ℕ). splice objectClassAt x row) (sym (class-zero cell (part-length objectClassAt objectClassWidth row inside) first (unfold cellAt width mark room in formed)))
+    ∙ splice-part objectClassAt objectClassWidth row inside
   where
     table-long : 7 < length (formatOf Attribute)
     table-long = unfold formatOf commonFields attributeFields in omega arith
