@@ -20,7 +20,7 @@ use Rattle.schema.specs.Numbers.{classLimit}
 use Rattle.formats.specs.declared.shape.Rule.{Rule}
 use Rattle.formats.specs.declared.shape.Shape.the-variants.{Counted, Arcs}
 use Rattle.formats.specs.declared.shape.Presence.the-variants.{Optional}
-use Rattle.formats.specs.declared.table.Kind.the-variants.{Attribute, Class}
+use Rattle.formats.specs.declared.table.Kind.the-variants.{Attribute, Class, NewAttribute, NewClass}
 use Rattle.formats.specs.Shapes.{passes, room, holds}
 use Rattle.formats.specs.ShapesLaws.{says-holds}
 use Rattle.formats.specs.Rules.{mark, width, cellAt, hasValue, wellFormedCell, wellFormedBy}
@@ -110,7 +110,7 @@ never-marked cell f =
     let z : eqb (getD cell 0 0) 1 ≡ false = says-false (says-eq (getD cell 0 0) 1) (λ e. omega (arith, ap (λ (x : List ℕ). getD x 0 0) (zero-zeros (length cell) cell refl f), zeros-at (length cell) 0)) in
     (rw z f, f)
 
-pub added-formed : (row : List ℕ) (rest : List Rule) → wellFormedBy (commonFields neverDefunct ++ rest) row ≡ true → wellFormedBy (commonFields mayBeDefunct ++ rest) row ≡ true
+added-formed : (row : List ℕ) (rest : List Rule) → wellFormedBy (commonFields neverDefunct ++ rest) row ≡ true → wellFormedBy (commonFields mayBeDefunct ++ rest) row ≡ true
 unfolding commonFields cellAt width mark room
 added-formed row rest f =
     let a = formed-cons _ _ row f in
@@ -119,3 +119,11 @@ added-formed row rest f =
     let d = formed-cons _ _ row (c .1) in
     let e = formed-cons neverDefunct rest row (d .1) in
     formed-both _ _ row (a .0) (formed-both _ _ row (b .0) (formed-both _ _ row (c .0) (formed-both _ _ row (d .0) (formed-both mayBeDefunct rest row (never-marked (part defunctAt 1 row) (e .0) .0) (e .1)))))
+
+pub added-attribute : (row : List ℕ) → wellFormedBy (formatOf NewAttribute) row ≡ true → wellFormedBy (formatOf Attribute) row ≡ true
+unfolding formatOf
+added-attribute row f = added-formed row attributeFields f
+
+pub added-class : (row : List ℕ) → wellFormedBy (formatOf NewClass) row ≡ true → wellFormedBy (formatOf Class) row ≡ true
+unfolding formatOf
+added-class row f = added-formed row classFields f
