@@ -34,6 +34,18 @@ kind-fits kind i l = laid-at (formatOf kind) noRule 0 (widthOf kind) i (kind-lai
 pub fits-in : (kind : Kind) (i : ℕ) {r : Rule} {n : ℕ} → r ≡ getD (formatOf kind) i noRule → i < length (formatOf kind) → widthOf kind ≤ n → Fits n r
 fits-in kind i e l w = let f = kind-fits kind i l in rw e (record { within = omega (arith, f .within); sound = f .sound })
 
+-- no table is long
+pub kind-few : (kind : Kind) → length (formatOf kind) ≤ 64
+unfolding formatOf commonFields attributeFields classFields rangeFields nameFields targetFields entryFields
+kind-few Attribute = omega arith
+kind-few Class = omega arith
+kind-few NewAttribute = omega arith
+kind-few NewClass = omega arith
+kind-few Range = omega arith
+kind-few Name = omega arith
+kind-few Target = omega arith
+kind-few Entry = omega arith
+
 -- no rule has the tag
 unfoldable pub without : ℕ → List Rule → Bool
 without tag [] = true

@@ -39,6 +39,7 @@ use schema::number::ClassNumber;
 ghost use mathlib.Core.Path.{_≡_};
 ghost use mathlib.Core.List.{_++_};
 ghost use lib.ListN.{length, getD};
+ghost use Rattle.schema.specs.Layout.{classSet, attributeSet};
 ghost use Rattle.formats.specs.Formats.{rule, bytes, nonzero, noRule, commonFields, mayBeDefunct, neverDefunct, attributeFields, classFields, rangeFields, nameFields, targetFields, entryFields, formatOf, widthOf};
 
 // What a value is read as: a row of a sheet, a row that a change adds, or the fields inside another change.
@@ -213,6 +214,25 @@ fn attribute_field(i: usize) -> Rule
     }
 }
 
+// A set of attributes, and one of classes.
+fn attribute_set(tag: u8, at: usize) -> Rule
+    ensures { λ r. ⌜ r ≡ rule Presence.Optional tag (Shape.Entries attributeSet) at ⌝ }
+{
+    optional(
+        tag,
+        Shape::Entries {
+            bytes: ATTRIBUTE_SET,
+        },
+        at,
+    )
+}
+
+fn class_set(tag: u8, at: usize) -> Rule
+    ensures { λ r. ⌜ r ≡ rule Presence.Optional tag (Shape.Entries classSet) at ⌝ }
+{
+    optional(tag, Shape::Entries { bytes: CLASS_SET }, at)
+}
+
 fn class_field(i: usize) -> Rule
     ensures { λ r. ⌜ r ≡ getD classFields i noRule ⌝ }
 {
@@ -239,31 +259,13 @@ fn class_field(i: usize) -> Rule
             },
             NAMING,
         ),
-        3 => optional(
-            19,
-            Shape::Entries {
-                bytes: ATTRIBUTE_SET,
-            },
-            MANDATORY,
-        ),
-        4 => optional(
-            20,
-            Shape::Entries {
-                bytes: ATTRIBUTE_SET,
-            },
-            FIXED_OPTIONAL,
-        ),
-        5 => optional(
-            21,
-            Shape::Entries {
-                bytes: ATTRIBUTE_SET,
-            },
-            OPEN_OPTIONAL,
-        ),
-        6 => optional(22, Shape::Entries { bytes: CLASS_SET }, FIXED_AUXILIARY),
-        7 => optional(23, Shape::Entries { bytes: CLASS_SET }, OPEN_AUXILIARY),
-        8 => optional(24, Shape::Entries { bytes: CLASS_SET }, FIXED_SUPERIOR),
-        9 => optional(25, Shape::Entries { bytes: CLASS_SET }, OPEN_SUPERIOR),
+        3 => attribute_set(19, MANDATORY),
+        4 => attribute_set(20, FIXED_OPTIONAL),
+        5 => attribute_set(21, OPEN_OPTIONAL),
+        6 => class_set(22, FIXED_AUXILIARY),
+        7 => class_set(23, OPEN_AUXILIARY),
+        8 => class_set(24, FIXED_SUPERIOR),
+        9 => class_set(25, OPEN_SUPERIOR),
         _ => no_rule(),
     }
 }

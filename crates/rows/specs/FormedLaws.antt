@@ -20,13 +20,13 @@ use Rattle.schema.specs.Numbers.{classLimit}
 use Rattle.formats.specs.declared.shape.Rule.{Rule}
 use Rattle.formats.specs.declared.shape.Shape.the-variants.{Counted, Arcs}
 use Rattle.formats.specs.declared.shape.Presence.the-variants.{Optional}
-use Rattle.formats.specs.declared.table.Kind.the-variants.{Attribute, Class}
+use Rattle.formats.specs.declared.table.Kind.the-variants.{Attribute, Class, NewAttribute, NewClass}
 use Rattle.formats.specs.Shapes.{passes, room, holds}
 use Rattle.formats.specs.ShapesLaws.{says-holds}
 use Rattle.formats.specs.Rules.{mark, width, cellAt, hasValue, wellFormedCell, wellFormedBy}
 use Rattle.formats.specs.RulesLaws.{formed-cons, formed-both, formed-at}
 use Rattle.formats.specs.Formats.{rule, mayBeDefunct, neverDefunct, commonFields, attributeFields, classFields, formatOf, noRule}
-use Rattle.rows.specs.ObjectClass.{isSettled}
+use Rattle.rows.specs.ObjectClass.{objectClassWidth, isSettled}
 use Rattle.rows.specs.WellFormed.{wellFormedAttribute, wellFormedClass}
 use Rattle.rows.specs.WellFormedLaws.{attribute-parts, class-parts}
 
@@ -48,21 +48,21 @@ pub record AttributeLimits (row : List ℕ) : Type 0 where
   pub objectClass : objectClassLength row ≤ objectClassLimit
 
 -- an optional count is within its limit, or 0
-counted-within : (at : ℕ) (row : List ℕ) → wellFormedCell (rule Optional 8 (Counted 1 objectClassLimit) at) (part at 17 row) ≡ true → at + 17 ≤ length row → getD row at 0 ≤ objectClassLimit
+counted-within : (at : ℕ) (row : List ℕ) → wellFormedCell (rule Optional 8 (Counted 1 objectClassLimit) at) (part at objectClassWidth row) ≡ true → at + objectClassWidth ≤ length row → getD row at 0 ≤ objectClassLimit
 unfolding wellFormedCell hasValue mark
 counted-within at row f fits = go (says-split (says-test (isZero cell)))
   where
     cell : List ℕ
-    cell = part at 17 row
+    cell = part at objectClassWidth row
 
     first : getD cell 0 0 ≡ getD row at 0
-    first = part-at at 17 row 0 (omega arith) ∙ ap (λ (n : ℕ). getD row n 0) (add-zero at)
+    first = part-at at objectClassWidth row 0 (omega arith) ∙ ap (λ (n : ℕ). getD row n 0) (add-zero at)
 
     go : ((isZero cell ≡ true) × (isZero cell ≡ true)) ⊎ ((isZero cell ≡ false) × ¬ (isZero cell ≡ true)) → getD row at 0 ≤ objectClassLimit
-    go (inl q) = omega (arith, first, ap (λ (x : List ℕ). getD x 0 0) (zero-zeros 17 cell (part-length at 17 row fits) (q .0)), zeros-at 17 0)
+    go (inl q) = omega (arith, first, ap (λ (x : List ℕ). getD x 0 0) (zero-zeros objectClassWidth cell (part-length at objectClassWidth row fits) (q .0)), zeros-at objectClassWidth 0)
     go (inr q) = omega (arith, first, says-holds (Counted 1 objectClassLimit) cell .holds (rw (q .0) at f) .1 .0)
 
-eighth : (row : List ℕ) → wellFormedBy (formatOf Attribute) row ≡ true → wellFormedCell (rule Optional 8 (Counted 1 objectClassLimit) objectClassAt) (part objectClassAt 17 row) ≡ true
+eighth : (row : List ℕ) → wellFormedBy (formatOf Attribute) row ≡ true → wellFormedCell (rule Optional 8 (Counted 1 objectClassLimit) objectClassAt) (part objectClassAt objectClassWidth row) ≡ true
 unfolding formatOf commonFields attributeFields cellAt width mark room
 eighth row f = formed-at (formatOf Attribute) noRule row 7 f (omega arith)
 
@@ -110,7 +110,7 @@ never-marked cell f =
     let z : eqb (getD cell 0 0) 1 ≡ false = says-false (says-eq (getD cell 0 0) 1) (λ e. omega (arith, ap (λ (x : List ℕ). getD x 0 0) (zero-zeros (length cell) cell refl f), zeros-at (length cell) 0)) in
     (rw z f, f)
 
-pub added-formed : (row : List ℕ) (rest : List Rule) → wellFormedBy (commonFields neverDefunct ++ rest) row ≡ true → wellFormedBy (commonFields mayBeDefunct ++ rest) row ≡ true
+added-formed : (row : List ℕ) (rest : List Rule) → wellFormedBy (commonFields neverDefunct ++ rest) row ≡ true → wellFormedBy (commonFields mayBeDefunct ++ rest) row ≡ true
 unfolding commonFields cellAt width mark room
 added-formed row rest f =
     let a = formed-cons _ _ row f in
@@ -119,3 +119,11 @@ added-formed row rest f =
     let d = formed-cons _ _ row (c .1) in
     let e = formed-cons neverDefunct rest row (d .1) in
     formed-both _ _ row (a .0) (formed-both _ _ row (b .0) (formed-both _ _ row (c .0) (formed-both _ _ row (d .0) (formed-both mayBeDefunct rest row (never-marked (part defunctAt 1 row) (e .0) .0) (e .1)))))
+
+pub added-attribute : (row : List ℕ) → wellFormedBy (formatOf NewAttribute) row ≡ true → wellFormedBy (formatOf Attribute) row ≡ true
+unfolding formatOf
+added-attribute row f = added-formed row attributeFields f
+
+pub added-class : (row : List ℕ) → wellFormedBy (formatOf NewClass) row ≡ true → wellFormedBy (formatOf Class) row ≡ true
+unfolding formatOf
+added-class row f = added-formed row classFields f

@@ -1,4 +1,4 @@
--- Reading a row by its table, the default of oMObjectClass, and what a reading answers.
+-- Reading a row by its table, the default of oMObjectClass, the shape of a row, and the round trips.
 pub mod Reading
 pub mod ReadingLaws
 pub mod ObjectClass
@@ -8,3 +8,4 @@ pub mod WriteReadLaws
 pub mod WellFormed
 pub mod WellFormedLaws
 pub mod FormedLaws
+pub mod RoundTripLaws

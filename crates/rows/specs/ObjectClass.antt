@@ -1,7 +1,7 @@
 -- oMObjectClass. Document 01, rule 27: "Absent, the first is stored. With any other oMSyntax it is read and dropped."
 use mathlib.Core.Bool.{Bool, false, cond, not, _||_}
 use mathlib.Core.List.{List, [], _∷_}
-use Prim.Native.Nat.{ℕ}
+use Prim.Native.Nat.{ℕ, _+_}
 use lib.Dec.{eqb}
 use lib.ListN.{length}
 use Rattle.prelude.specs.Part.{splice}
@@ -32,6 +32,10 @@ firstObjectClass syntax =
 -- oMSyntax 127
 abbrev pub isObject : List ℕ → Bool
 isObject row = eqb (omSyntaxOf row) 127
+
+-- how wide its cell is: a count and the bytes
+abbrev pub objectClassWidth : ℕ
+objectClassWidth = objectClassLimit + 1
 
 -- the cell of an oMObjectClass of given bytes
 unfoldable pub objectClassCell : List ℕ → List ℕ

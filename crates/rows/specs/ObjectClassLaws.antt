@@ -17,15 +17,15 @@ use Rattle.formats.specs.Formats.{formatOf}
 use Rattle.rows.specs.declared.read.RowRead.{RowRead}
 use Rattle.rows.specs.declared.read.RowRead.the-variants.{Read, Bad}
 use Rattle.rows.specs.Reading.{Out, readBy}
-use Rattle.rows.specs.ObjectClass.{firstObjectClass, objectClassCell, settled, finished, finish, readRow}
+use Rattle.rows.specs.ObjectClass.{objectClassWidth, firstObjectClass, objectClassCell, settled, finished, finish, readRow}
 
 -- ---- the three cases
 
-pub no-cell : objectClassCell [] ≡ zeros 17
+pub no-cell : objectClassCell [] ≡ zeros objectClassWidth
 unfolding objectClassCell image padded zeros
 no-cell = refl
 
-pub settled-none : (row : List ℕ) → ¬ (omSyntaxOf row ≡ 127) → settled row ≡ splice objectClassAt (zeros 17) row
+pub settled-none : (row : List ℕ) → ¬ (omSyntaxOf row ≡ 127) → settled row ≡ splice objectClassAt (zeros objectClassWidth) row
 unfolding settled
 settled-none row d = rw (says-false (says-eq (omSyntaxOf row) 127) d, no-cell)
 
@@ -52,7 +52,7 @@ first-short syntax =
     (either-short (eqb syntax 13) _ _ (omega arith)
     (either-short (eqb syntax 14) _ _ (omega arith) (omega arith))))
 
-pub cell-long : (v : List ℕ) → length v ≤ objectClassLimit → length (objectClassCell v) ≡ 17
+pub cell-long : (v : List ℕ) → length v ≤ objectClassLimit → length (objectClassCell v) ≡ objectClassWidth
 unfolding objectClassCell image
 cell-long v h = omega (arith, padded-length 16 v h)
 

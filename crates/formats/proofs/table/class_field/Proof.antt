@@ -16,26 +16,26 @@ required-requires-2 c κs = search needs
 marked-requires : tie.Need-marked-requires
 marked-requires c κs = search needs
 
-optional-requires : tie.Need-optional-requires
-optional-requires c κs = search needs
+attribute-set-requires : tie.Need-attribute-set-requires
+attribute-set-requires c κs = search needs
 
-optional-requires-2 : tie.Need-optional-requires-2
-optional-requires-2 c κs = search needs
+attribute-set-requires-2 : tie.Need-attribute-set-requires-2
+attribute-set-requires-2 c κs = search needs
 
-optional-requires-3 : tie.Need-optional-requires-3
-optional-requires-3 c κs = search needs
+attribute-set-requires-3 : tie.Need-attribute-set-requires-3
+attribute-set-requires-3 c κs = search needs
 
-optional-requires-4 : tie.Need-optional-requires-4
-optional-requires-4 c κs = search needs
+class-set-requires : tie.Need-class-set-requires
+class-set-requires c κs = search needs
 
-optional-requires-5 : tie.Need-optional-requires-5
-optional-requires-5 c κs = search needs
+class-set-requires-2 : tie.Need-class-set-requires-2
+class-set-requires-2 c κs = search needs
 
-optional-requires-6 : tie.Need-optional-requires-6
-optional-requires-6 c κs = search needs
+class-set-requires-3 : tie.Need-class-set-requires-3
+class-set-requires-3 c κs = search needs
 
-optional-requires-7 : tie.Need-optional-requires-7
-optional-requires-7 c κs = search needs
+class-set-requires-4 : tie.Need-class-set-requires-4
+class-set-requires-4 c κs = search needs
 
 no-rule-requires : tie.Need-no-rule-requires
 no-rule-requires c κs = search needs
@@ -54,31 +54,31 @@ returns-3 c = rw (c .before .match .keys3) (c .marked .ensures)
 
 returns-4 : tie.Need-returns-4
 unfolding classFields
-returns-4 c = rw (c .before .match .keys4) (c .optional .ensures)
+returns-4 c = rw (c .before .match .keys4) (c .attribute-set .ensures)
 
 returns-5 : tie.Need-returns-5
 unfolding classFields
-returns-5 c = rw (c .before .match .keys5) (c .optional2 .ensures)
+returns-5 c = rw (c .before .match .keys5) (c .attribute-set2 .ensures)
 
 returns-6 : tie.Need-returns-6
 unfolding classFields
-returns-6 c = rw (c .before .match .keys6) (c .optional3 .ensures)
+returns-6 c = rw (c .before .match .keys6) (c .attribute-set3 .ensures)
 
 returns-7 : tie.Need-returns-7
 unfolding classFields
-returns-7 c = rw (c .before .match .keys7) (c .optional4 .ensures)
+returns-7 c = rw (c .before .match .keys7) (c .class-set .ensures)
 
 returns-8 : tie.Need-returns-8
 unfolding classFields
-returns-8 c = rw (c .before .match .keys8) (c .optional5 .ensures)
+returns-8 c = rw (c .before .match .keys8) (c .class-set2 .ensures)
 
 returns-9 : tie.Need-returns-9
 unfolding classFields
-returns-9 c = rw (c .before .match .keys9) (c .optional6 .ensures)
+returns-9 c = rw (c .before .match .keys9) (c .class-set3 .ensures)
 
 returns-10 : tie.Need-returns-10
 unfolding classFields
-returns-10 c = rw (c .before .match .keys10) (c .optional7 .ensures)
+returns-10 c = rw (c .before .match .keys10) (c .class-set4 .ensures)
 
 returns-11 : tie.Need-returns-11
 unfolding classFields
@@ -91,13 +91,13 @@ class-field-spec =
     required-requires
     required-requires-2
     marked-requires
-    optional-requires
-    optional-requires-2
-    optional-requires-3
-    optional-requires-4
-    optional-requires-5
-    optional-requires-6
-    optional-requires-7
+    attribute-set-requires
+    attribute-set-requires-2
+    attribute-set-requires-3
+    class-set-requires
+    class-set-requires-2
+    class-set-requires-3
+    class-set-requires-4
     no-rule-requires
     returns
     returns-2

@@ -1,0 +1,3 @@
+-- Laws that the writer's proofs cite.
+pub mod Writing
+pub mod Listing

@@ -1,0 +1,27 @@
+use Rattle.rows_write.proofs.Writing.{put-back}
+use native.Mathlib.Omega.{arith}
+use borrow.Author.Needs.{needs}
+use Rattle.rows_write.proofs.value.put.Statement.{statement}
+use Rattle.rows_write.proofs.value.put.Tie as tie
+
+sub-copy : tie.Need-sub-copy
+sub-copy c = search needs
+
+part-copy-start : tie.Need-part-copy-start
+part-copy-start c = search needs
+
+part-copy-end : tie.Need-part-copy-end
+part-copy-end c = search needs
+
+copy-requires : tie.Need-copy-requires
+copy-requires c κs = search needs
+
+same-length : tie.Need-same-length
+same-length c = search needs
+
+returns : tie.Need-returns
+returns c = put-back (c .before .before .before .before .before .before .args .at) (c .before .before .before .before .before .before .args .v .now) (c .before .before .before .before .before .before .args .out .now) _ (omega arith) (c .before .before .copy .ensures .1)
+
+pub put-spec : {M : Type 1} → statement M
+put-spec =
+    tie.close (tie.spec sub-copy part-copy-start part-copy-end copy-requires same-length returns)

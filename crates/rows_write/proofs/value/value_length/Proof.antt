@@ -1,0 +1,79 @@
+use Rattle.formats.specs.EntriesLaws.{members-few, members-count}
+use Rattle.rows_write.proofs.Writing.{entries-small, plain-count, number-count, counted-count, arcs-count, entries-count}
+use native.Mathlib.Omega.{arith}
+use borrow.Author.Needs.{needs}
+use Rattle.rows_write.proofs.value.value_length.Statement.{statement}
+use Rattle.rows_write.proofs.value.value_length.Tie as tie
+
+enum-told : tie.Need-enum-told
+enum-told c = search needs
+
+enum-told-2 : tie.Need-enum-told-2
+enum-told-2 c = search needs
+
+enum-told-3 : tie.Need-enum-told-3
+enum-told-3 c = search needs
+
+first-byte-requires : tie.Need-first-byte-requires
+first-byte-requires c κs = search needs
+
+cast-result : tie.Need-cast-result
+cast-result c = search needs
+
+enum-told-4 : tie.Need-enum-told-4
+enum-told-4 c = search needs
+
+first-byte-requires-2 : tie.Need-first-byte-requires-2
+first-byte-requires-2 c κs = search needs
+
+cast-result-2 : tie.Need-cast-result-2
+cast-result-2 c = search needs
+
+mul-result : tie.Need-mul-result
+mul-result c = search needs
+
+enum-told-5 : tie.Need-enum-told-5
+enum-told-5 c = search needs
+
+count-requires : tie.Need-count-requires
+count-requires c κs = let s = entries-small (c .before .before .before .args .cell .now) (c .enum-told5 .given .1) (c .before .before .before .pre) in omega arith
+
+mul-result-2 : tie.Need-mul-result-2
+mul-result-2 c = let s = entries-small (c .before .before .before .before .args .cell .now) (c .before .enum-told5 .given .1) (c .before .before .before .before .pre) in omega (arith, c .count .ensures, members-few (c .before .before .before .before .args .cell .now), members-count (c .before .before .before .before .args .cell .now))
+
+returns : tie.Need-returns
+returns c = plain-count (c .before .before .before .args .cell .now) (c .enum-told .given .1)
+
+returns-2 : tie.Need-returns-2
+returns-2 c = number-count (c .before .before .before .args .cell .now) (c .enum-told2 .given .1)
+
+returns-3 : tie.Need-returns-3
+returns-3 c = counted-count (c .before .before .before .before .args .cell .now) (c .before .enum-told3 .given .1) (c .before .before .before .before .pre) (c .first-byte .ensures)
+
+returns-4 : tie.Need-returns-4
+returns-4 c = arcs-count (c .before .before .before .before .args .cell .now) (c .before .enum-told4 .given .1) (c .before .before .before .before .pre) (c .first-byte2 .ensures)
+
+returns-5 : tie.Need-returns-5
+returns-5 c = entries-count (c .before .before .before .before .args .cell .now) (c .before .enum-told5 .given .1) (c .count .ensures)
+
+pub value-length-spec : {M : Type 1} → statement M
+value-length-spec =
+    tie.close
+    (tie.spec
+    enum-told
+    enum-told-2
+    enum-told-3
+    first-byte-requires
+    cast-result
+    enum-told-4
+    first-byte-requires-2
+    cast-result-2
+    mul-result
+    enum-told-5
+    count-requires
+    mul-result-2
+    returns
+    returns-2
+    returns-3
+    returns-4
+    returns-5)

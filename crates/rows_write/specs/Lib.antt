@@ -1,0 +1,2 @@
+-- Laws of writing that other crates cite.
+pub mod WritingLaws
