@@ -151,48 +151,32 @@ pub record HeldBoth (a₀ c₀ a c : List ℕ) : Type 0 where
 abbrev Kept : List ℕ → List ℕ → Step → Type 0
 Kept a₀ c₀ x = HeldBoth a₀ c₀ (x .attributes) (x .classes)
 
+-- a row that was read is put into its store, one that was refused is not: a fact of the store as it was, and of it with any row that can be read, is one of
+-- the store after the step
+row-held : (P : List ℕ → Type 0) (plus : List ℕ → List ℕ → List ℕ) (phase : Phase) (stop : ℕ) (missing : Bool) (store : List ℕ) (o : Out)
+    → P store → (o ≡ out rows.Read (o .row) → P (plus (o .row) store)) → P (rowStep plus phase stop missing store (o .row) (o .answer) .store)
+unfolding rowStep
+row-held P plus phase stop missing store o h more = go (o .answer) refl
+  where
+    go : (r : RowRead) → o .answer ≡ r → P (rowStep plus phase stop missing store (o .row) r .store)
+    go rows.Read e = unfold rowStep in (more (λ i. record { answer = e i; row = o .row }))
+    go (rows.Bad place) e = unfold rowStep in h
+
 module _ (s : List ℕ) (bytes : Bytes s) where
   module _ (start stop : ℕ) (missing : Bool) (within : stop ≤ length s) where
-    -- a row that was read is put into its store; one that was refused is not
     attribute-held : {a₀ : List ℕ} (a : List ℕ) → HeldAttributes a₀ a → attributeTable a .count < attributeLimit → HeldAttributes a₀ (attributeStep s start stop missing a .store)
     unfolding attributeStep widthOf
-    attribute-held {a₀} a h l = go (o .answer) refl
-      where
-        o : Out
-        o = rowOut Attribute s start stop
-
-        whole : o .answer ≡ rows.Read → o ≡ out rows.Read (o .row)
-        whole e = λ i. record { answer = e i; row = o .row }
-
-        wide : attributeWidth ≤ length (zeros attributeWidth)
-        wide = omega (arith, zeros-length attributeWidth)
-
-        go : (r : RowRead) → o .answer ≡ r → HeldAttributes a₀ (rowStep plusAttribute Attributes stop missing a (o .row) r .store)
-        go rows.Read e =
-            unfold rowStep in
-            (held-attribute h (o .row) l (attribute-length s start stop (zeros attributeWidth) (o .row) bytes within wide (whole e) ∙ zeros-length attributeWidth)
-            (attribute-read s start stop (zeros attributeWidth) (o .row) bytes within wide (whole e)))
-        go (rows.Bad place) e = unfold rowStep in h
+    attribute-held {a₀} a h l =
+        row-held (HeldAttributes a₀) plusAttribute Attributes stop missing a (rowOut Attribute s start stop) h
+        (λ e. held-attribute h _ l (attribute-length s start stop (zeros attributeWidth) _ bytes within (omega (arith, zeros-length attributeWidth)) e ∙ zeros-length attributeWidth)
+        (attribute-read s start stop (zeros attributeWidth) _ bytes within (omega (arith, zeros-length attributeWidth)) e))
 
     class-held : {c₀ : List ℕ} (c : List ℕ) → HeldClasses c₀ c → classTable c .count < classLimit → HeldClasses c₀ (classStep s start stop missing c .store)
     unfolding classStep widthOf
-    class-held {c₀} c h l = go (o .answer) refl
-      where
-        o : Out
-        o = rowOut Class s start stop
-
-        whole : o .answer ≡ rows.Read → o ≡ out rows.Read (o .row)
-        whole e = λ i. record { answer = e i; row = o .row }
-
-        wide : classWidth ≤ length (zeros classWidth)
-        wide = omega (arith, zeros-length classWidth)
-
-        go : (r : RowRead) → o .answer ≡ r → HeldClasses c₀ (rowStep plusClass Classes stop missing c (o .row) r .store)
-        go rows.Read e =
-            unfold rowStep in
-            (held-class h (o .row) l (class-length s start stop (zeros classWidth) (o .row) bytes within wide (whole e) ∙ zeros-length classWidth)
-            (class-read s start stop (zeros classWidth) (o .row) bytes within wide (whole e)))
-        go (rows.Bad place) e = unfold rowStep in h
+    class-held {c₀} c h l =
+        row-held (HeldClasses c₀) plusClass Classes stop missing c (rowOut Class s start stop) h
+        (λ e. held-class h _ l (class-length s start stop (zeros classWidth) _ bytes within (omega (arith, zeros-length classWidth)) e ∙ zeros-length classWidth)
+        (class-read s start stop (zeros classWidth) _ bytes within (omega (arith, zeros-length classWidth)) e))
 
   module _ {a₀ c₀ : List ℕ} (at : ℕ) (phase : Phase) (missing : Bool) (a c : List ℕ) (h : HeldBoth a₀ c₀ a c) where
     tagged-held : (tag start stop : ℕ) → stop ≤ length s → HasRoom tag a c → Kept a₀ c₀ (taggedStep s at phase missing a c tag start stop)
