@@ -2,12 +2,13 @@
 use mathlib.Core.Path.{_≡_, refl}
 use mathlib.Core.Bool.{Bool, true, false, cond}
 use mathlib.Core.List.{List, []}
-use Prim.Native.Nat.{ℕ, _≤_}
+use Prim.Native.Nat.{ℕ, _+_, _≤_}
 use native.Mathlib.Omega.{arith}
 use lib.Dec.{eqb}
 use lib.ListN.{length}
 use Rattle.prelude.specs.Part.{splice, zeros, padded}
 use Rattle.prelude.specs.PartLaws.{padded-length}
+use Rattle.prelude.specs.SpliceLaws.{splice-length}
 use Rattle.schema.specs.Layout.{objectClassAt, objectClassLimit}
 use Rattle.schema.specs.AttributeRow.{syntaxOf, omSyntaxOf, objectClassLength}
 use Rattle.prelude.specs.SaysLaws.{says-eq, says-true, says-false}
@@ -17,7 +18,7 @@ use Rattle.formats.specs.Formats.{formatOf}
 use Rattle.rows.specs.declared.read.RowRead.{RowRead}
 use Rattle.rows.specs.declared.read.RowRead.the-variants.{Read, Bad}
 use Rattle.rows.specs.Reading.{Out, readBy}
-use Rattle.rows.specs.ObjectClass.{objectClassWidth, firstObjectClass, objectClassCell, settled, finished, finish, readRow}
+use Rattle.rows.specs.ObjectClass.{objectClassWidth, isObject, firstObjectClass, objectClassCell, settled, finished, finish, readRow}
 
 -- ---- the three cases
 
@@ -55,6 +56,19 @@ first-short syntax =
 pub cell-long : (v : List ℕ) → length v ≤ objectClassLimit → length (objectClassCell v) ≡ objectClassWidth
 unfolding objectClassCell image
 cell-long v h = omega (arith, padded-length 16 v h)
+
+pub settled-length : (row : List ℕ) → objectClassAt + objectClassWidth ≤ length row → length (settled row) ≡ length row
+unfolding settled
+settled-length row h = go (isObject row) (eqb (objectClassLength row) 0)
+  where
+    put : (v : List ℕ) → length v ≤ objectClassLimit → length (splice objectClassAt (objectClassCell v) row) ≡ length row
+    put v l = splice-length objectClassAt (objectClassCell v) row (omega (arith, h, cell-long v l))
+
+    go : (b z : Bool)
+        → length (cond b (cond z (splice objectClassAt (objectClassCell (firstObjectClass (syntaxOf row))) row) row) (splice objectClassAt (objectClassCell []) row)) ≡ length row
+    go true true = put (firstObjectClass (syntaxOf row)) (first-short (syntaxOf row))
+    go true false = refl
+    go false z = put [] (omega arith)
 
 -- ---- what a reading comes to
 

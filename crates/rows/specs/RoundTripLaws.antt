@@ -20,6 +20,7 @@ use Rattle.rows.specs.Reading.{Out, out, readBy}
 use Rattle.rows.specs.ReadBackLaws.{read-back}
 use Rattle.rows.specs.WriteReadLaws.{write-read}
 use Rattle.rows.specs.ObjectClass.{finished, finish, readRow}
+use Rattle.rows.specs.ObjectClassLaws.{settled-length}
 use Rattle.rows.specs.WellFormed.{wellFormedAttribute, wellFormedClass, standsExactly}
 use Rattle.rows.specs.WellFormedLaws.{attribute-parts, class-parts, settled-same, settled-formed, exact-settled}
 use Rattle.rows.specs.FormedLaws.{added-attribute, added-class}
@@ -50,6 +51,20 @@ row-read kind s start end row new e = go (o .answer) refl e
 module _ (s : List ℕ) (start end : ℕ) (row new : List ℕ) (bytes : Bytes s) (le : end ≤ length s) where
   abbrev attributeRaw : List ℕ
   attributeRaw = readBy s end (formatOf Attribute) start false row .row
+
+  -- a row that was read is as long as the one lent for it
+  pub attribute-length : attributeWidth ≤ length row → readRow Attribute s start end row ≡ out Read new → length new ≡ length row
+  unfolding finished widthOf
+  attribute-length fits e =
+      let r = row-read Attribute s start end row new e in
+      let b = fields-back Attribute s start end row attributeRaw bytes le fits (r .0) in
+      ap length (r .1) ∙ settled-length attributeRaw (omega (arith, b .0)) ∙ b .0
+
+  pub class-length : classWidth ≤ length row → readRow Class s start end row ≡ out Read new → length new ≡ length row
+  unfolding finished widthOf
+  class-length fits e =
+      let r = row-read Class s start end row new e in
+      ap length (r .1) ∙ fields-back Class s start end row (readBy s end (formatOf Class) start false row .row) bytes le fits (r .0) .0
 
   pub attribute-read : attributeWidth ≤ length row → readRow Attribute s start end row ≡ out Read new → wellFormedAttribute new ≡ true
   unfolding finished widthOf

@@ -2,12 +2,10 @@
 use mathlib.Core.Path.{_≡_, sym, ap, _∙_}
 use mathlib.Core.Bool.{Bool, true, false}
 use mathlib.Core.List.{List}
-use Prim.Native.Nat.{ℕ, _≤_, _<_}
-use native.Mathlib.Omega.{arith}
-use lib.ListN.{length, getD}
+use Prim.Native.Nat.{ℕ}
+use lib.ListN.{length}
 use borrow.Author.Tests.{eq-eqb, ne-eqb}
 use Rattle.schema.specs.Numbers.{attributeLimit, classLimit}
-use Rattle.schema.specs.Store.{attributeTable, classTable}
 use Rattle.wire.specs.declared.FieldRead.{FieldRead}
 use Rattle.wire.specs.declared.FieldRead.the-variants as fields
 use Rattle.wire.specs.Wire.{fieldAt}
@@ -18,7 +16,7 @@ use Rattle.sheet.specs.declared.read.SheetRead.the-variants.{Bad, Full}
 use Rattle.sheet.specs.declared.read.Phase.{Phase}
 use Rattle.sheet.specs.declared.read.Phase.the-variants.{Attributes}
 use Rattle.sheet.specs.declared.read.Turn.the-variants.{On, Stop}
-use Rattle.sheet.specs.Reading.{Open, HasRoom, headingOpen, attributesOpen, isHeading, headingTurn, storeStep, rowStep, attributeStep, classStep, step, taggedStep, fieldStep, fullTable, stepAt}
+use Rattle.sheet.specs.Reading.{headingOpen, attributesOpen, isHeading, headingTurn, storeStep, rowStep, attributeStep, classStep, step, taggedStep, fieldStep, fullTable, stepAt}
 
 -- ---- a row
 
@@ -70,39 +68,6 @@ module _ (s : List ℕ) (at : ℕ) (phase : Phase) (missing : Bool) (a c : List 
   pub tagged-other : ¬ (tag ≡ 1) → ¬ (tag ≡ 32) → ¬ (tag ≡ 48) → step (Stop (Bad at)) a c ≡ taggedStep s at phase missing a c tag start stop
   unfolding taggedStep
   tagged-other d e o = rw (ne-eqb tag 1 d, ne-eqb tag 32 e, ne-eqb tag 48 o)
-
--- ---- no free row
-
-module _ (s : List ℕ) (at : ℕ) (a c : List ℕ) (tag : ℕ) (is : tag ≡ getD s at 0) where
-  pub full-attributes : tag ≡ 32 → attributeTable a .count ≡ attributeLimit → 1 ≡ fullTable s at a c
-  unfolding fullTable
-  full-attributes e f = rw (← is, eq-eqb tag 32 e, eq-eqb (attributeTable a .count) attributeLimit f)
-
-  pub room-attributes : tag ≡ 32 → ¬ (attributeTable a .count ≡ attributeLimit) → 0 ≡ fullTable s at a c
-  unfolding fullTable
-  room-attributes e f = rw (← is, eq-eqb tag 32 e, ne-eqb (attributeTable a .count) attributeLimit f, ne-eqb tag 48 (λ g. omega arith))
-
-  pub full-classes : ¬ (tag ≡ 32) → tag ≡ 48 → classTable c .count ≡ classLimit → 2 ≡ fullTable s at a c
-  unfolding fullTable
-  full-classes d e f = rw (← is, ne-eqb tag 32 d, eq-eqb tag 48 e, eq-eqb (classTable c .count) classLimit f)
-
-  pub room-classes : ¬ (tag ≡ 32) → tag ≡ 48 → ¬ (classTable c .count ≡ classLimit) → 0 ≡ fullTable s at a c
-  unfolding fullTable
-  room-classes d e f = rw (← is, ne-eqb tag 32 d, eq-eqb tag 48 e, ne-eqb (classTable c .count) classLimit f)
-
-  pub room-other : ¬ (tag ≡ 32) → ¬ (tag ≡ 48) → 0 ≡ fullTable s at a c
-  unfolding fullTable
-  room-other d e = rw (← is, ne-eqb tag 32 d, ne-eqb tag 48 e)
-
--- where neither table is full, the row at hand has room
-pub has-room : (s : List ℕ) (at : ℕ) (a c : List ℕ) (full tag : ℕ) → full ≡ fullTable s at a c → ¬ (full ≡ 1) → ¬ (full ≡ 2) → tag ≡ getD s at 0 → Open a c → HasRoom tag a c
-has-room s at a c full tag e d f is o = record {
-  attribute = λ q. below (o .attributesFew) (λ z. d (e ∙ sym (full-attributes s at a c tag is q z)));
-  class = λ q. below (o .classesFew) (λ z. f (e ∙ sym (full-classes s at a c tag is (λ w. omega arith) q z)));
-}
-  where
-    below : {x y : ℕ} → x ≤ y → ¬ (x ≡ y) → x < y
-    below h n = omega (arith, n)
 
 -- ---- a field of the sheet
 

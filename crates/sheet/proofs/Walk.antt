@@ -26,12 +26,7 @@ use Rattle.sheet.specs.declared.read.Phase.the-variants.{Heading, Attrib
 use Rattle.sheet.specs.declared.read.Turn.{Turn}
 use Rattle.sheet.specs.declared.read.Turn.the-variants.{On, Stop}
 use Rattle.sheet.specs.Reading.{Open, HasRoom, headingOpen, attributesOpen, isHeading, headingTurn, rowStep, attributeStep, classStep, Step, step, taggedStep, fieldStep, fullTable, stepAt, stoppedAt, sheetOut, onward, readFrom, readSheet}
-use Rattle.sheet.proofs.Steps.{has-room}
-
--- a fact of both branches is one of the choice
-choose : {A : Type 0} (P : A → Type 0) (b : Bool) {x y : A} → (b ≡ true → P x) → (b ≡ false → P y) → P (cond b x y)
-choose P true t f = t refl
-choose P false t f = f refl
+use Rattle.sheet.specs.ReadingLaws.{choose, has-room}
 
 -- ---- one turn
 
@@ -89,7 +84,7 @@ module _ (s : List ℕ) (at : ℕ) (phase : Phase) (missing : Bool) (a c : List 
   field-sound d f (fields.Bad place) e = stop-sound (Bad place)
   field-sound d f (fields.Field tag start stop) e =
       let w = field-is s at (length s) tag start stop e in
-      tagged-sound tag start stop (omega (arith, w .stop-is)) (w .within) (has-room s at a c (fullTable s at a c) tag refl d f (w .tag-is) o)
+      tagged-sound tag start stop (omega (arith, w .stop-is)) (w .within) (has-room s at a c (fullTable s at a c) tag refl d f (w .tag-is) (o .attributesFew) (o .classesFew))
 
   step-sound : Sound s at (stepAt s at phase missing a c)
   unfolding stepAt

@@ -1,5 +1,5 @@
 use mathlib.Core.Path.{sym, _∙_}
-use Rattle.sheet.proofs.Steps.{full-attributes, room-attributes, full-classes, room-classes, room-other}
+use Rattle.sheet.specs.ReadingLaws.{full-attributes, room-attributes, full-classes, room-classes, room-other}
 use borrow.Author.Needs.{needs}
 use Rattle.sheet.proofs.read.full_table.Statement.{statement}
 use Rattle.sheet.proofs.read.full_table.Tie as tie

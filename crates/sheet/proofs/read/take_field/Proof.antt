@@ -2,7 +2,8 @@ use lib.ListN.{length}
 use Rattle.wire.specs.WireLaws.{field-is}
 use mathlib.Core.Path.{sym, ap, _∙_}
 use Rattle.sheet.specs.Reading.{Step}
-use Rattle.sheet.proofs.Steps.{step-attributes, step-classes, step-end, step-whole, step-cut, has-room}
+use Rattle.sheet.proofs.Steps.{step-attributes, step-classes, step-end, step-whole, step-cut}
+use Rattle.sheet.specs.ReadingLaws.{has-room}
 use native.Mathlib.Omega.{arith}
 use borrow.Author.Needs.{needs}
 use Rattle.sheet.proofs.read.take_field.Statement.{statement}
@@ -42,7 +43,7 @@ enum-known-tag : tie.Need-enum-known-tag
 enum-known-tag c = search needs
 
 take-tagged-requires : tie.Need-take-tagged-requires
-take-tagged-requires c κs = let w = field-is (c .before .before .before .before .before .before .before .before .before .before .before .before .before .before .args .s .now) (c .before .before .before .before .before .before .before .before .before .before .before .before .before .before .args .at) (length (c .before .before .before .before .before .before .before .before .before .before .before .before .before .before .args .s .now)) _ _ _ (sym (c .before .before .before .before .before .field-at .ensures) ∙ c .before .before .before .tag .given .1) in (omega (arith, w .start-is, w .stop-is, w .within), ((c .before .before .before .before .before .before .before .before .before .before .before .before .before .before) .pre .1, has-room (c .before .before .before .before .before .before .before .before .before .before .before .before .before .before .args .s .now) (c .before .before .before .before .before .before .before .before .before .before .before .before .before .before .args .at) (c .before .before .before .before .before .before .before .before .before .before .before .before .before .before .args .attributes .now) (c .before .before .before .before .before .before .before .before .before .before .before .before .before .before .args .classes .now) _ _ (c .before .before .before .before .before .before .before .before .full-table .ensures) (c .before .before .before .before .before .before .before .if1 .left) (c .before .before .before .before .before .before .if2 .left) (w .tag-is) ((c .before .before .before .before .before .before .before .before .before .before .before .before .before .before) .pre .1)))
+take-tagged-requires c κs = let w = field-is (c .before .before .before .before .before .before .before .before .before .before .before .before .before .before .args .s .now) (c .before .before .before .before .before .before .before .before .before .before .before .before .before .before .args .at) (length (c .before .before .before .before .before .before .before .before .before .before .before .before .before .before .args .s .now)) _ _ _ (sym (c .before .before .before .before .before .field-at .ensures) ∙ c .before .before .before .tag .given .1) in (omega (arith, w .start-is, w .stop-is, w .within), ((c .before .before .before .before .before .before .before .before .before .before .before .before .before .before) .pre .1, has-room (c .before .before .before .before .before .before .before .before .before .before .before .before .before .before .args .s .now) (c .before .before .before .before .before .before .before .before .before .before .before .before .before .before .args .at) (c .before .before .before .before .before .before .before .before .before .before .before .before .before .before .args .attributes .now) (c .before .before .before .before .before .before .before .before .before .before .before .before .before .before .args .classes .now) _ _ (c .before .before .before .before .before .before .before .before .full-table .ensures) (c .before .before .before .before .before .before .before .if1 .left) (c .before .before .before .before .before .before .if2 .left) (w .tag-is) ((c .before .before .before .before .before .before .before .before .before .before .before .before .before .before) .pre .1 .attributesFew) ((c .before .before .before .before .before .before .before .before .before .before .before .before .before .before) .pre .1 .classesFew)))
 
 same-length-5 : tie.Need-same-length-5
 same-length-5 c = search needs
