@@ -44,7 +44,7 @@ joined-row w (r ∷ rows) q (suc k) h l =
 
 -- ---- a store with a header of two bytes
 
-zeros-add : (m n : ℕ) → zeros (m + n) ≡ zeros m ++ zeros n
+pub zeros-add : (m n : ℕ) → zeros (m + n) ≡ zeros m ++ zeros n
 unfolding zeros
 zeros-add m n = sym (replicate-append-replicate m n 0)
 
