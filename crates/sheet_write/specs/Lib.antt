@@ -1,0 +1,2 @@
+-- The bytes of a sheet, written from the two tables.
+pub mod Writing
