@@ -1,3 +1,3 @@
--- A whole sheet: what reading it comes to, and what is written.
+-- A whole sheet: what reading it comes to, and what it leaves in the stores.
 pub mod Reading
 pub mod ReadingLaws
