@@ -1,0 +1,3 @@
+-- The round trips of whole sheets.
+pub mod HeldLaws
+pub mod TurnLaws
