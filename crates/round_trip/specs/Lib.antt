@@ -1,3 +1,6 @@
--- The round trips of whole sheets.
+-- The round trips of whole sheets: `SheetLaws` has the two laws, the files before it what they rest on.
 pub mod HeldLaws
 pub mod TurnLaws
+pub mod WalkLaws
+pub mod WrittenLaws
+pub mod SheetLaws

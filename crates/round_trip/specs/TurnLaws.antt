@@ -1,7 +1,7 @@
 -- One turn of reading a sheet, where the field in front is the heading or a row that can be read.
 use mathlib.Core.Path.{_≡_, refl, sym, ap, _∙_}
 use mathlib.Core.Bool.{Bool, true, false}
-use mathlib.Core.List.{List, [], _∷_, _++_}
+use mathlib.Core.List.{List, [], _∷_}
 use Prim.Native.Nat.{ℕ, _+_, _*_, _≤_, _<_}
 use native.Mathlib.Omega.{arith}
 use lib.ListN.{length}
@@ -22,7 +22,7 @@ use Rattle.stores.specs.Filled.{attributeHeader, plusAttribute, plusClass}
 use Rattle.sheet.specs.declared.read.Phase.{Phase}
 use Rattle.sheet.specs.declared.read.Phase.the-variants.{Attributes, Classes}
 use Rattle.sheet.specs.declared.read.Turn.the-variants.{On}
-use Rattle.sheet.specs.Reading.{headingOpen, attributesOpen, isHeading, StoreStep, storeStep, rowOut, attributeStep, classStep, Step, step, fullTable, stepAt}
+use Rattle.sheet.specs.Reading.{headingOpen, attributesOpen, isHeading, StoreStep, storeStep, rowOut, attributeStep, classStep, step, fullTable, stepAt}
 use Rattle.sheet.specs.ReadingLaws.{room-attributes, room-classes, room-other}
 use Rattle.sheet.proofs.Steps.{row-read, heading-yes, tagged-heading, tagged-attribute, tagged-class, step-whole}
 
