@@ -19,8 +19,11 @@ use Rattle.sheet.specs.Reading.{Open, sheetOut, readSheet}
 use Rattle.sheet_write.specs.Writing.{sheetBytes}
 use Rattle.shape.specs.Shape.{attributesFormed, classesFormed, formed}
 use Rattle.shape.specs.ShapeLaws.{says-formed}
+use Rattle.round_trip.specs.Exact.{exactSheet}
+use Rattle.round_trip.specs.ExactLaws.{says-exact}
 use Rattle.round_trip.specs.HeldLaws.{rowsBelow, attributes-held, classes-held}
 use Rattle.round_trip.specs.WrittenLaws.{attributesTo, classesTo, all-read}
+use Rattle.round_trip.specs.AcceptedLaws.{accepted-same}
 
 -- ---- emptied stores
 
@@ -39,13 +42,17 @@ unfolding rowsBelow
 no-classes-yet c c₂ = ap (λ (x : List ℕ). splice 0 x c₂) no-classes
 
 module _ (a c : List ℕ) (la : attributesLength ≤ length a) (lc : classesLength ≤ length c) where
+  no-rows : (attributeTable (emptyAttributes a) .count ≡ 0) × (classTable (emptyClasses c) .count ≡ 0)
+  no-rows = (
+    ap (λ (x : List ℕ). attributeTable (splice 0 x a) .count) (sym no-attributes) ∙ attributes-count [] a tt (omega arith),
+    ap (λ (x : List ℕ). classTable (splice 0 x c) .count) (sym no-classes) ∙ classes-count [] c tt (omega arith),
+  )
+
   empty-open : Open (emptyAttributes a) (emptyClasses c)
   empty-open =
       let long : length (emptyAttributes a) ≡ length a = splice-length 0 (zeros attributesLength) a (omega (arith, zeros-length attributesLength)) in
       let broad : length (emptyClasses c) ≡ length c = splice-length 0 (zeros classesLength) c (omega (arith, zeros-length classesLength)) in
-      let none : attributeTable (emptyAttributes a) .count ≡ 0 = ap (λ (x : List ℕ). attributeTable (splice 0 x a) .count) (sym no-attributes) ∙ attributes-count [] a tt (omega arith) in
-      let bare : classTable (emptyClasses c) .count ≡ 0 = ap (λ (x : List ℕ). classTable (splice 0 x c) .count) (sym no-classes) ∙ classes-count [] c tt (omega arith) in
-      record { attributesLong = omega arith; classesLong = omega arith; attributesFew = omega arith; classesFew = omega arith }
+      record { attributesLong = omega arith; classesLong = omega arith; attributesFew = omega (arith, no-rows .0); classesFew = omega (arith, no-rows .1) }
 
 -- ---- tables, sheet, tables
 
@@ -69,3 +76,11 @@ module _ (a c : List ℕ) (ba : Bytes a) (bc : Bytes c) (la : attributesLength �
   -- read back into the stores themselves, it leaves every byte as it was
   pub written-same : readSheet (sheetBytes (attributeTable a) (classTable c)) (emptyAttributes a) (emptyClasses c) ≡ sheetOut Read a c
   written-same = written-read a c la lc ∙ ap₂ (sheetOut Read) (splice-part 0 attributesLength a la) (splice-part 0 classesLength c lc)
+
+-- ---- sheet, tables, sheet
+
+-- a sheet that is accepted, with 08 exactly where oMSyntax is 127, is what the stores are written as after it was read into them
+pub read-written : (s a c : List ℕ) → Bytes s → attributesLength ≤ length a → classesLength ≤ length c → exactSheet s ≡ true → readSheet s (emptyAttributes a) (emptyClasses c) .answer ≡ Read
+    → sheetBytes (attributeTable (readSheet s (emptyAttributes a) (emptyClasses c) .attributes)) (classTable (readSheet s (emptyAttributes a) (emptyClasses c) .classes)) ≡ s
+read-written s a c bytes la lc exact =
+    accepted-same s bytes (says-exact s .holds exact) (emptyAttributes a) (emptyClasses c) (empty-open a c la lc) (no-rows a c la lc .0) (no-rows a c la lc .1)

@@ -1,32 +1,25 @@
 -- One turn of reading a sheet, where the field in front is the heading or a row that can be read.
 use mathlib.Core.Path.{_≡_, refl, sym, ap, _∙_}
 use mathlib.Core.Bool.{Bool, true, false}
-use mathlib.Core.List.{List, [], _∷_}
-use Prim.Native.Nat.{ℕ, _+_, _*_, _≤_, _<_}
+use mathlib.Core.List.{List}
+use Prim.Native.Nat.{ℕ, _<_}
 use native.Mathlib.Omega.{arith}
 use lib.ListN.{length}
-use Rattle.prelude.specs.Part.{splice}
-use Rattle.prelude.specs.PartLaws.{row-fits}
-use Rattle.prelude.specs.SpliceLaws.{splice-length}
-use Rattle.prelude.specs.BigEndianLaws.{bytes-length}
 use Rattle.wire.specs.declared.FieldRead.the-variants as fields
 use Rattle.wire.specs.Wire.{fieldAt}
 use Rattle.wire.specs.WireLaws.{field-is}
 use Rattle.schema.specs.Numbers.{attributeLimit, classLimit}
-use Rattle.schema.specs.Layout.{rowsAt, attributeWidth, classWidth, attributesLength, classesLength}
 use Rattle.schema.specs.Store.{attributeTable, classTable}
 use Rattle.formats.specs.declared.table.Kind.the-variants.{Attribute, Class}
 use Rattle.rows.specs.declared.read.RowRead.the-variants as rows
 use Rattle.rows.specs.Reading.{Out, out}
-use Rattle.stores.specs.Filled.{attributeHeader, plusAttribute, plusClass}
+use Rattle.stores.specs.Filled.{plusAttribute, plusClass}
 use Rattle.sheet.specs.declared.read.Phase.{Phase}
 use Rattle.sheet.specs.declared.read.Phase.the-variants.{Attributes, Classes}
 use Rattle.sheet.specs.declared.read.Turn.the-variants.{On}
 use Rattle.sheet.specs.Reading.{headingOpen, attributesOpen, isHeading, StoreStep, storeStep, rowOut, attributeStep, classStep, step, fullTable, stepAt}
 use Rattle.sheet.specs.ReadingLaws.{room-attributes, room-classes, room-other}
 use Rattle.sheet.proofs.Steps.{row-read, heading-yes, tagged-heading, tagged-attribute, tagged-class, step-whole}
-
--- ---- the turn
 
 module _ (s : List ℕ) (at : ℕ) (phase : Phase) (missing : Bool) (a c : List ℕ) (start stop : ℕ) where
   pub heading-turn : fieldAt s at (length s) ≡ fields.Field 1 start stop → headingOpen phase ≡ true → isHeading s start stop ≡ true
@@ -59,19 +52,3 @@ module _ (s : List ℕ) (at : ℕ) (phase : Phase) (missing : Bool) (a c : List 
       where
         stored : out rows.Read row ≡ rowOut Class s start stop → storeStep (On stop Classes missing) (plusClass row c) ≡ classStep s start stop missing c
         stored e = unfold classStep in (row-read plusClass Classes stop missing c row (rowOut Class s start stop) rows.Read (ap (λ (x : Out). x .answer) e) (ap (λ (x : Out). x .row) e) refl)
-
--- ---- a row put last leaves a store as long as it was
-
-put-length : (w limit n : ℕ) (h row s : List ℕ) → rowsAt + w * limit ≤ length s → n < limit → length h ≤ rowsAt → length row ≡ w → length (splice 0 h (splice (rowsAt + w * n) row s)) ≡ length s
-put-length w limit n h row s long l two wide =
-    let inner : length (splice (rowsAt + w * n) row s) ≡ length s = splice-length (rowsAt + w * n) row s (omega (arith, row-fits rowsAt w limit n (length s) long l)) in
-    splice-length 0 h (splice (rowsAt + w * n) row s) (omega arith) ∙ inner
-
-pub attribute-plus-length : (row s : List ℕ) → attributesLength ≤ length s → attributeTable s .count < attributeLimit → length row ≡ attributeWidth → length (plusAttribute row s) ≡ length s
-unfolding plusAttribute
-attribute-plus-length row s long l wide =
-    put-length attributeWidth attributeLimit (attributeTable s .count) (attributeHeader (attributeTable s .count + 1)) row s long l (omega (arith, bytes-length 2 (attributeTable s .count + 1))) wide
-
-pub class-plus-length : (row s : List ℕ) → classesLength ≤ length s → classTable s .count < classLimit → length row ≡ classWidth → length (plusClass row s) ≡ length s
-unfolding plusClass
-class-plus-length row s long l wide = put-length classWidth classLimit (classTable s .count) ((classTable s .count + 1) ∷ []) row s long l (omega arith) wide

@@ -32,7 +32,8 @@ use Rattle.sheet.proofs.Walk.{Reading, reading-start, reading-on, reading-end}
 use Rattle.sheet_write.specs.Writing.{heading, rowFields, sheetBytes}
 use Rattle.sheet_write.proofs.Rows.{heading-length, sheet-size}
 use Rattle.round_trip.specs.HeldLaws.{rowsBelow, below-length, below-wide}
-use Rattle.round_trip.specs.TurnLaws.{heading-turn, attribute-turn, class-turn, attribute-plus-length, class-plus-length}
+use Rattle.round_trip.specs.TurnLaws.{heading-turn, attribute-turn, class-turn}
+use Rattle.round_trip.specs.PlusLaws.{attribute-plus-length, class-plus-length}
 use Rattle.round_trip.specs.WalkLaws.{ReadBack, Walked, Come, rows-come}
 
 -- ---- the heading
