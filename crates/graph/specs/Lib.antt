@@ -12,4 +12,5 @@ pub mod Depth
 pub mod DepthLaws
 pub mod Changes
 pub mod ClosureLaws
+pub mod FreshLaws
 pub mod Pieces
