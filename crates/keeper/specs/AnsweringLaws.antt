@@ -7,7 +7,7 @@ use Prim.Native.Nat.{ℕ, _<_}
 use native.Mathlib.Omega.{arith}
 use Rattle.prelude.specs.SaysLaws.{says-eq, says-true, says-false, says-split}
 use Rattle.schema.specs.Store.{Stores, LongEnough, anyShort}
-use Rattle.schema.specs.StoreLaws.{long-enough}
+use Rattle.schema.specs.StoreLaws.{says-short, long-enough}
 use Rattle.schema.specs.declared.answer.Answer.{Answer}
 use Rattle.schema.specs.Answers.{done, refused}
 use Rattle.shape.specs.Shape.{formed}
@@ -80,7 +80,7 @@ pub record InShape (s : Stores) : Type 0 where
   pub long : LongEnough s
   pub formed : formed (s .attributes) (s .classes) ≡ true
 
-not-false : (b : Bool) → not b ≡ false → b ≡ true
+pub not-false : (b : Bool) → not b ≡ false → b ≡ true
 not-false true e = refl
 not-false false e = absurd (let no : _≡_ {A = ℕ} 0 1 = cc in omega arith)
 
@@ -90,3 +90,14 @@ shape-passed s h =
       long = long-enough s (if-passed (anyShort s) (refused 1) (omega arith) (h .0));
       formed = not-false (formed (s .attributes) (s .classes)) (if-passed (not (formed (s .attributes) (s .classes))) (refused 2) (omega arith) (h .1 .0));
     }
+
+-- and the converse: stores in shape pass
+pub not-short : (s : Stores) → LongEnough s → anyShort s ≡ false
+not-short s h =
+    says-false (says-short s) (⊎-elim (λ l. omega (arith, h .attributes)) (⊎-elim (λ l. omega (arith, h .classes)) (λ l. omega (arith, h .closure))))
+
+pub passed-shape : (s : Stores) → InShape s → AllPass (shapeAnswers s)
+passed-shape s h = (
+  ap (λ (x : Answer). x .number) (if-fails (anyShort s) (refused 1) (not-short s (h .long))),
+  (ap (λ (x : Answer). x .number) (if-fails (not (formed (s .attributes) (s .classes))) (refused 2) (ap not (h .formed))), tt),
+)

@@ -169,3 +169,13 @@ judged-zero a c =
       λ e. none-kept rs (a .count) (c .count) (zero-iff-none (brokenCases rs (a .count) (c .count)) (omega arith) .0 (sym (judge-number rs (a .count) (c .count)) ∙ e)),
       λ h. judge-number rs (a .count) (c .count) ∙ zero-iff-none (brokenCases rs (a .count) (c .count)) (omega arith) .1 (kept-none rs (a .count) (c .count) h),
     )
+
+-- and then no table and no place is named
+kept-done : (rs : List RowRule) (n m : ℕ) → AllKept rs n m → judgeRules rs n m ≡ done 0 0
+kept-done [] n m h = judge-none n m
+kept-done (r ∷ rs) n m h =
+    judge-more r rs n m ∙ judge-neither r n m (judgeRules rs n m) (any-false (r .attribute) n (h .0 .attributes)) (any-false (r .class) m (h .0 .classes)) ∙ kept-done rs n m (h .1)
+
+pub judged-done : (a c : Table) → AllKept (schemaRules a c) (a .count) (c .count) → judged a c ≡ done 0 0
+unfolding judged
+judged-done a c = kept-done (schemaRules a c) (a .count) (c .count)
