@@ -45,6 +45,14 @@ first-last last = refl
 refuses-or-not : (a : Answer) → ¬ (a .number ≡ 0) ⊎ (a .number ≡ 0)
 refuses-or-not a = ⊎-elim (λ q. inr (q .1)) (λ q. inl (q .1)) (says-split (says-eq (a .number) 0))
 
+-- a condition that was tested
+module _ {b : Bool} (a : Answer) (answers : List Answer) (last : Answer) where
+  pub tested-holds : ¬ (a .number ≡ 0) → b ≡ true → firstAnswer (answerIf b a ∷ answers) last ≡ a
+  tested-holds d e = ap (λ (x : Answer). firstAnswer (x ∷ answers) last) (if-holds b a e) ∙ first-refused a answers last d
+
+  pub tested-fails : b ≡ false → firstAnswer (answerIf b a ∷ answers) last ≡ firstAnswer answers last
+  tested-fails e = ap (λ (x : Answer). firstAnswer (x ∷ answers) last) (if-fails b a e) ∙ first-passed (done 0 0) answers last refl
+
 -- ---- what the answer is
 
 pub passed-last : (answers : List Answer) (last : Answer) → AllPass answers → firstAnswer answers last ≡ last
@@ -101,3 +109,13 @@ passed-shape s h = (
   ap (λ (x : Answer). x .number) (if-fails (anyShort s) (refused 1) (not-short s (h .long))),
   (ap (λ (x : Answer). x .number) (if-fails (not (formed (s .attributes) (s .classes))) (refused 2) (ap not (h .formed))), tt),
 )
+
+module _ (s : Stores) where
+  pub short-stores : anyShort s ≡ true → refused 1 ≡ firstAnswer (shapeAnswers s) (done 0 0)
+  short-stores e = sym (tested-holds (refused 1) _ (done 0 0) (λ z. omega arith) e)
+
+  pub broken-stores : anyShort s ≡ false → formed (s .attributes) (s .classes) ≡ false → refused 2 ≡ firstAnswer (shapeAnswers s) (done 0 0)
+  broken-stores e f = sym (tested-fails (refused 1) _ (done 0 0) e ∙ tested-holds (refused 2) [] (done 0 0) (λ z. omega arith) (ap not f))
+
+  pub formed-stores : anyShort s ≡ false → formed (s .attributes) (s .classes) ≡ true → done 0 0 ≡ firstAnswer (shapeAnswers s) (done 0 0)
+  formed-stores e f = sym (tested-fails (refused 1) _ (done 0 0) e ∙ tested-fails (refused 2) [] (done 0 0) (ap not f) ∙ first-last (done 0 0))
