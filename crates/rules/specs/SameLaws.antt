@@ -1,5 +1,5 @@
 -- Tables with the same rows are judged the same: every rule looks only at rows that are there.
-use mathlib.Core.Path.{_≡_, refl, ap, ap₂, _∙_}
+use mathlib.Core.Path.{_≡_, refl, sym, ap, ap₂, _∙_}
 use mathlib.Core.Bool.{Bool, _&&_}
 use mathlib.Core.List.{List, [], _∷_, _++_}
 use Prim.Native.Nat.{ℕ, zero, suc, _<_}
@@ -25,7 +25,8 @@ use Rattle.class_rules.specs.Named.{attributeNotLive, namingWrong}
 use Rattle.class_rules.specs.Category.{categoryWrong}
 use Rattle.class_rules.specs.SameLaws.{attribute-not-live-same, class-wrong-same, lists-itself-same, category-wrong-same, inheritance-wrong-same, chain-wrong-same, naming-wrong-same}
 use Rattle.rules.specs.Rules.{RowRule, rule, never, firstRules, laterRules, schemaRules, ownListRule, additionRules, attributeCases, classCases}
-use Rattle.rules.specs.Judge.{judgeRule, judgeRules, judged}
+use Rattle.rules.specs.Judge.{judgeRule, judgeRules, judged, AllKept}
+use Rattle.rules.specs.JudgeLaws.{judged-zero}
 
 -- ---- two rules, and two lists of rules, that agree on n attributes and m classes
 
@@ -130,6 +131,10 @@ module _ {a b c d : Table} (s : Same a b) (z : Same c d) where
   pub judged-same : judged a c ≡ judged b d
   unfolding judged
   judged-same = judge-rules-same schema-rules-same ∙ ap₂ (judgeRules (schemaRules b d)) (s .count) (z .count)
+
+  -- so no row of the ones breaks a rule where none of the others does
+  pub kept-same : AllKept (schemaRules a c) (a .count) (c .count) → AllKept (schemaRules b d) (b .count) (d .count)
+  kept-same h = judged-zero b d .0 (ap (λ (x : Answer). x .number) (sym judged-same) ∙ judged-zero a c .1 h)
 
   -- one changed attribute, one changed class, an added class
   module _ (k : ℕ) where
