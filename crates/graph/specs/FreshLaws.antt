@@ -25,7 +25,7 @@ unfolding concatBelow
 rows-of w s zero = let z : w * 0 ≡ 0 = omega arith in rw z (part-none 0 s)
 rows-of w s (suc n) = let e : w * suc n ≡ w * n + w = omega arith in rw e (part-add 0 (w * n) w s ∙ ap (λ (x : List ℕ). x ++ rowAt 0 w s n) (rows-of w s n))
 
-concat-same : (n : ℕ) (f g : ℕ → List ℕ) → ((k : ℕ) → k < n → f k ≡ g k) → concatBelow n f ≡ concatBelow n g
+pub concat-same : (n : ℕ) (f g : ℕ → List ℕ) → ((k : ℕ) → k < n → f k ≡ g k) → concatBelow n f ≡ concatBelow n g
 unfolding concatBelow
 concat-same zero f g h = refl
 concat-same (suc n) f g h = ap₂ (λ (x y : List ℕ). x ++ y) (concat-same n f g (λ k l. h k (omega arith))) (h n (omega arith))

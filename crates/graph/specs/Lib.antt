@@ -13,4 +13,5 @@ pub mod DepthLaws
 pub mod Changes
 pub mod ClosureLaws
 pub mod FreshLaws
+pub mod SameLaws
 pub mod Pieces
