@@ -1,8 +1,10 @@
 -- Stores in order. Document 01: "*In order*: shape, rules 12 to 29, and kept sets equal to those worked out afresh, zero for unused rows."
 use mathlib.Core.Path.{_≡_}
 use Prim.Native.Nat.{ℕ, _<_}
+use Rattle.prelude.specs.Part.{part, splice}
+use Rattle.schema.specs.Layout.{attributesLength, classesLength, closureLength}
 use Rattle.schema.specs.Numbers.{classLimit}
-use Rattle.schema.specs.Store.{Stores, LongEnough, Table, attributeTable, classTable, closureAt}
+use Rattle.schema.specs.Store.{Stores, stores, LongEnough, Table, attributeTable, classTable, closureAt}
 use Rattle.graph.specs.Graph.{closureRow}
 use Rattle.formats.specs.ShapesLaws.{Bytes}
 use Rattle.shape.specs.ShapeLaws.{AttributesFormed, ClassesFormed}
@@ -24,3 +26,8 @@ pub record InOrder (s : Stores) : Type 0 where
 pub record OfBytes (s : Stores) : Type 0 where
   pub attributes : Bytes (s .attributes)
   pub classes : Bytes (s .classes)
+
+-- the bytes of some stores, put into others of their length or longer. What stands past the lengths stays
+unfoldable pub moved : Stores → Stores → Stores
+moved s t =
+    stores (splice 0 (part 0 attributesLength (s .attributes)) (t .attributes)) (splice 0 (part 0 classesLength (s .classes)) (t .classes)) (splice 0 (part 0 closureLength (s .closure)) (t .closure))
