@@ -1,3 +1,4 @@
 -- Laws that the proofs of this crate cite.
 pub mod Each
 pub mod Lines
+pub mod Room

@@ -1,20 +1,23 @@
 -- The line of a class, piece by piece.
-use mathlib.Core.Path.{_≡_, refl, ap, _∙_}
+use mathlib.Core.Path.{_≡_, refl, sym, ap, _∙_}
+use mathlib.Core.Bool.{Bool, true, false, cond}
 use mathlib.Core.List.{List, [], _∷_, _++_}
 use Prim.Native.Nat.{ℕ, _+_, _≤_}
 use native.Mathlib.Omega.{arith}
+use lib.Dec.{eqb}
 use lib.ListN.{length, length-append}
 use borrow.Author.Tests.{eq-eqb}
 use Rattle.prelude.specs.SaysLaws.{says-eq, says-false}
 use Rattle.prelude.specs.Part.{part}
 use Rattle.prelude.specs.PartLaws.{part-length}
+use Rattle.schema.specs.declared.answer.Answer.{Answer}
 use Rattle.schema.specs.Layout.{commonWidth, nameLimit, arcLimit}
 use Rattle.schema.specs.Row.{nameLength, nameOf, arcCount, arcOf}
 use Rattle.schema.specs.Store.{Table, classTable}
 use Rattle.schema.specs.StoreLaws.{class-wide}
-use Rattle.listing.specs.Text.{decimal, word, textLine, Written}
+use Rattle.listing.specs.Text.{ascii, decimal, word, textLine, Written}
 use Rattle.listing.specs.TextLaws.{word-length, written-as, written-then, written-length}
-use Rattle.listing.specs.Listing.{mustCount, mayCount, arcText, identifierText, classLine, ListedClass}
+use Rattle.listing.specs.Listing.{mustCount, mayCount, arcText, identifierText, classLine, refusedLine, ListedClass}
 
 -- ---- counts
 
@@ -31,6 +34,14 @@ first-arc row k z e = rw (eq-eqb k 0 z, e)
 pub later-arc : (row : List ℕ) (k : ℕ) {n : ℕ} → ¬ (k ≡ 0) → n ≡ arcOf row k → arcText row k ≡ (46 ∷ []) ++ decimal n
 unfolding arcText
 later-arc row k z e = rw (says-false (says-eq k 0) z, e)
+
+pub dot-short : (row : List ℕ) (k : ℕ) → length (arcText row k) ≤ 1 + length (decimal (arcOf row k))
+unfolding arcText
+dot-short row k = go (eqb k 0)
+  where
+    go : (b : Bool) → length (cond b [] (46 ∷ []) ++ decimal (arcOf row k)) ≤ 1 + length (decimal (arcOf row k))
+    go true = omega arith
+    go false = omega arith
 
 -- ---- a line of five words, of which three are numbers
 
@@ -88,3 +99,25 @@ module _ (t : Table) (closure : List ℕ) (c : ℕ) where
   pub class-read : {row v : List ℕ} {m y : ℕ} → row ≡ t .row c → v ≡ nameOf row → m ≡ mustCount closure c → y ≡ mayCount closure c → classLine t closure c ≡ five c v (identifierText row) m y
   unfolding classLine
   class-read e f g h = rw (g, h, f, e)
+
+-- ---- the line of a refusal
+
+module _ (a : Answer) where
+  refused-words : refusedLine a ≡ word (ascii "refused") 32 ++ (word (decimal (a .number)) 32 ++ (word (decimal (a .table)) 32 ++ word (decimal (a .place)) 10))
+  unfolding refusedLine textLine
+  refused-words = refl
+
+  pub refused-length : length (refusedLine a) ≡ 8 + (length (decimal (a .number)) + 1) + (length (decimal (a .table)) + 1) + (length (decimal (a .place)) + 1)
+  refused-length = ap length refused-words ∙ simp (length-append, word-length) (unfold ascii in omega arith)
+
+  pub refused-written : {at p q r next : ℕ} {o e f g h v : List ℕ} → at + length (refusedLine a) ≤ length o → ascii "refused" ≡ v
+      → Written (word v 32) at p o e → Written (word (decimal (a .number)) 32) p q e f → Written (word (decimal (a .table)) 32) q r f g → Written (word (decimal (a .place)) 10) r next g h
+      → Written (refusedLine a) at next o h
+  refused-written {o = o} {e = e} {f = f} {v = v} k s w₁ w₂ w₃ w₄ =
+      let seven : length v ≡ 7 = sym (ap length s) ∙ (unfold ascii in refl) in
+      let l₁ : length e ≡ length o = written-length (omega (arith, refused-length, word-length v 32)) w₁ in
+      let l₂ : length f ≡ length e = written-length (omega (arith, refused-length, w₁ .place, word-length v 32, word-length (decimal (a .number)) 32)) w₂ in
+      written-as (refused-words ∙ ap (λ (x : List ℕ). word x 32 ++ (word (decimal (a .number)) 32 ++ (word (decimal (a .table)) 32 ++ word (decimal (a .place)) 10))) s)
+      (written-then (omega (arith, refused-length, word-length v 32)) w₁
+      (written-then (omega (arith, refused-length, w₁ .place, word-length v 32, word-length (decimal (a .number)) 32)) w₂
+      (written-then (omega (arith, refused-length, w₁ .place, w₂ .place, word-length v 32, word-length (decimal (a .number)) 32, word-length (decimal (a .table)) 32)) w₃ w₄)))

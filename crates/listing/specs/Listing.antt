@@ -5,7 +5,7 @@
 -- A refused sheet prints one line, single spaces: `refused`, number, table, place."
 use mathlib.Core.Bool.{cond}
 use mathlib.Core.List.{List, [], _∷_, _++_}
-use Prim.Native.Nat.{ℕ, _≤_, _<_}
+use Prim.Native.Nat.{ℕ, _+_, _*_, _≤_, _<_}
 use lib.Dec.{eqb}
 use lib.ListN.{length}
 use Rattle.prelude.specs.Part.{part}
@@ -13,7 +13,7 @@ use Rattle.sets.specs.Sets.{memberCount}
 use Rattle.schema.specs.declared.answer.Answer.{Answer}
 use Rattle.schema.specs.Answers.{refused}
 use Rattle.schema.specs.Numbers.{classLimit}
-use Rattle.schema.specs.Layout.{attributeSet, demandedAt, allowedAt, classesLength, closureLength}
+use Rattle.schema.specs.Layout.{nameLimit, arcLimit, attributeSet, demandedAt, allowedAt, classesLength, closureLength}
 use Rattle.schema.specs.Row.{nameOf, arcCount, arcOf}
 use Rattle.schema.specs.Store.{Table, classTable, closureAt, Stores, anyShort}
 use Rattle.graph.specs.Graph.{concatBelow}
@@ -73,6 +73,17 @@ report a s =
     (refusedLine a)
 
 -- ---- what the code asks
+
+-- the head line; the longest line of a class: 3 digits, the longest name, arcs of at most 10 digits and a dot, 3 and 3 digits, a byte behind each of the five
+abbrev pub headLength : ℕ
+headLength = 21
+
+abbrev pub lineLength : ℕ
+lineLength = 3 + nameLimit + 11 * arcLimit + 3 + 3 + 5
+
+-- room for the longest text
+abbrev pub reportLength : ℕ
+reportLength = headLength + lineLength * classLimit
 
 -- class c can be read: its rows lie within the stores, and its name and identifier within its row
 pub record ListedClass (classes closure : List ℕ) (c : ℕ) : Type 0 where
