@@ -2,3 +2,4 @@
 pub mod Each
 pub mod Lines
 pub mod Room
+pub mod Loaded

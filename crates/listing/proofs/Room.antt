@@ -18,7 +18,7 @@ use Rattle.tables.specs.Shaped.{Bounded, ClassesShaped}
 use Rattle.formats.specs.ShapesLaws.{Bytes}
 use Rattle.listing.specs.Text.{ascii, decimal}
 use Rattle.listing.specs.TextLaws.{decimal-short}
-use Rattle.listing.specs.Listing.{mustCount, mayCount, arcText, identifierText, classLine, classLines, headLine, headLength, lineLength, refusedLine, reportLength}
+use Rattle.listing.specs.Listing.{mustCount, mayCount, arcText, identifierText, classLine, classLines, headLine, headLength, lineLength, refusedLine, textLength}
 use Rattle.listing.proofs.Each.{each-short}
 use Rattle.listing.proofs.Lines.{dot-short, class-length, refused-length}
 
@@ -74,5 +74,5 @@ pub head-length : length headLine ≡ headLength
 unfolding headLine ascii
 head-length = refl
 
-pub refused-short : (a : Answer) → a .number < 256 → a .table < 256 → a .place < 2 ^ 64 → length (refusedLine a) ≤ reportLength
+pub refused-short : (a : Answer) → a .number < 256 → a .table < 256 → a .place < 2 ^ 64 → length (refusedLine a) ≤ textLength
 refused-short a n t p = omega (arith, refused-length a, decimal-short 2 (a .number) (omega arith), decimal-short 2 (a .table) (omega arith), decimal-short 19 (a .place) (omega arith))

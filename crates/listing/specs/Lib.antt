@@ -3,3 +3,4 @@ pub mod Text
 pub mod Listing
 pub mod TextLaws
 pub mod ListingLaws
+pub mod CountsLaws

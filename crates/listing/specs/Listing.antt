@@ -6,19 +6,18 @@
 use mathlib.Core.Bool.{cond}
 use mathlib.Core.List.{List, [], _∷_, _++_}
 use Prim.Native.Nat.{ℕ, _+_, _*_, _≤_, _<_}
-use lib.Dec.{eqb}
+use lib.Dec.{eqb, ltb}
 use lib.ListN.{length}
-use Rattle.prelude.specs.Part.{part}
-use Rattle.sets.specs.Sets.{memberCount}
+use Rattle.prelude.specs.Part.{part, zeros}
+use Rattle.sets.specs.Sets.{memberCount, countBelow}
 use Rattle.schema.specs.declared.answer.Answer.{Answer}
-use Rattle.schema.specs.Answers.{refused}
-use Rattle.schema.specs.Numbers.{classLimit}
-use Rattle.schema.specs.Layout.{nameLimit, arcLimit, attributeSet, demandedAt, allowedAt, classesLength, closureLength}
+use Rattle.schema.specs.Numbers.{classLimit, attributeLimit}
+use Rattle.schema.specs.Layout.{nameLimit, arcLimit, attributeSet, demandedAt, allowedAt, attributesLength, classesLength, closureLength}
 use Rattle.schema.specs.Row.{nameOf, arcCount, arcOf}
-use Rattle.schema.specs.Store.{Table, classTable, closureAt, Stores, anyShort}
-use Rattle.graph.specs.Graph.{concatBelow}
+use Rattle.schema.specs.Store.{Table, classTable, closureAt, Stores, stores, Result}
+use Rattle.graph.specs.Graph.{demands, allows, concatBelow}
 use Rattle.tables.specs.Shaped.{Bounded}
-use Rattle.shape.specs.Shape.{formed}
+use Rattle.keeper.specs.Load.{load}
 use Rattle.listing.specs.Text.{ascii, decimal, textLine}
 
 -- ---- one class
@@ -64,13 +63,36 @@ refusedLine a = textLine (ascii "refused" ∷ decimal (a .number) ∷ decimal (a
 unfoldable pub tooLong : List ℕ
 tooLong = ascii "too long\n"
 
--- the text for the answer of a load and the stores as it leaves them. Stores that a load accepts have their length and are in shape (numbers 1 and 2
--- are for stores from elsewhere)
-unfoldable pub report : Answer → Stores → List ℕ
-report a s =
-    cond (eqb (a .number) 0)
-    (cond (anyShort s) (refusedLine (refused 1)) (cond (formed (s .attributes) (s .classes)) (listing (classTable (s .classes)) (s .closure)) (refusedLine (refused 2))))
-    (refusedLine a)
+abbrev pub sheetLimit : ℕ
+sheetLimit = 32768
+
+-- the listing of what a load left in the stores, or the line for its refusal
+unfoldable pub loadedText : Result → List ℕ
+loadedText r = cond (eqb (r .answer .number) 0) (listing (classTable (r .left .classes)) (r .left .closure)) (refusedLine (r .answer))
+
+-- the stores of the program: "Load never looks at what stood in the stores"
+unfoldable pub blank : Stores
+blank = stores (zeros attributesLength) (zeros classesLength) (zeros closureLength)
+
+-- the text for a sheet
+unfoldable pub listed : List ℕ → List ℕ
+listed sheet = cond (ltb sheetLimit (length sheet)) tooLong (loadedText (load sheet blank))
+
+-- ---- the same, from the rows alone: the counts are those of the sets as they are defined
+
+unfoldable pub definedLine : Table → ℕ → List ℕ
+definedLine t c =
+    textLine (
+    decimal c ∷
+    nameOf (t .row c) ∷
+    identifierText (t .row c) ∷
+    decimal (countBelow attributeLimit (demands t c)) ∷
+    decimal (countBelow attributeLimit (allows t c)) ∷
+    []
+    )
+
+unfoldable pub definedListing : Table → List ℕ
+definedListing t = headLine ++ concatBelow (t .count) (definedLine t)
 
 -- ---- what the code asks
 
@@ -82,8 +104,8 @@ abbrev pub lineLength : ℕ
 lineLength = 3 + nameLimit + 11 * arcLimit + 3 + 3 + 5
 
 -- room for the longest text
-abbrev pub reportLength : ℕ
-reportLength = headLength + lineLength * classLimit
+abbrev pub textLength : ℕ
+textLength = headLength + lineLength * classLimit
 
 -- class c can be read: its rows lie within the stores, and its name and identifier within its row
 pub record ListedClass (classes closure : List ℕ) (c : ℕ) : Type 0 where

@@ -1,4 +1,4 @@
-// The listing: classes as lines of text, or the line for a refused sheet.
+// The listing: a sheet's classes as lines of text, or the one line for a sheet that is refused or too long.
 pub mod class;
-pub mod report;
+pub mod list;
 pub mod text;

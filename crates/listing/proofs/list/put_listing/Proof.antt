@@ -4,8 +4,8 @@ use Rattle.listing.specs.Listing.{headLine, listing}
 use Rattle.listing.proofs.Room.{head-length, lines-short}
 use native.Mathlib.Omega.{arith}
 use borrow.Author.Needs.{needs}
-use Rattle.listing.proofs.report.put_listing.Statement.{statement}
-use Rattle.listing.proofs.report.put_listing.Tie as tie
+use Rattle.listing.proofs.list.put_listing.Statement.{statement}
+use Rattle.listing.proofs.list.put_listing.Tie as tie
 
 slice-aggregate-put-bytes : tie.Need-slice-aggregate-put-bytes
 slice-aggregate-put-bytes c = search needs

@@ -5,8 +5,8 @@ use Rattle.listing.proofs.Lines.{refused-length, refused-written}
 use Rattle.listing.proofs.Room.{refused-short}
 use native.Mathlib.Omega.{arith}
 use borrow.Author.Needs.{needs}
-use Rattle.listing.proofs.report.put_refused.Statement.{statement}
-use Rattle.listing.proofs.report.put_refused.Tie as tie
+use Rattle.listing.proofs.list.put_refused.Statement.{statement}
+use Rattle.listing.proofs.list.put_refused.Tie as tie
 
 slice-aggregate-put-word : tie.Need-slice-aggregate-put-word
 slice-aggregate-put-word c = search needs
