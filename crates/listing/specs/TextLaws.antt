@@ -5,9 +5,10 @@ use Prim.Native.Nat.{ℕ, zero, suc, _+_, _-_, _*_, _/_, _%_, _^_, _≤_, _<_}
 use native.Mathlib.Omega.{arith}
 use native.Mathlib.Nat.{add-zero, pow-suc, zero-lt-suc, div-lt-iff-lt-mul}
 use native.Mathlib.Decide.{decLt}
-use lib.ListN.{length, getD, length-append, List·getD-append}
+use lib.ListN.{length, getD, drop, length-append, List·getD-append}
 use lib.Seq.{getD-at}
 use borrow.Author.Tests.{lt-ltb, le-ltb}
+use Rattle.prelude.specs.Part.{splice}
 use Rattle.prelude.specs.SpliceLaws.{splice-length}
 use Rattle.rows_write.specs.WritingLaws.{splice-none, write-turn}
 use Rattle.listing.specs.Text.{digitsWithin, decimal, value, word, Written}
@@ -162,3 +163,8 @@ module _ {at : ℕ} {before : List ℕ} where
     place = omega (arith, p .place, q .place, length-append u v);
     bytes = q .bytes ∙ write-turn at _ u v before _ h (p .place) (p .bytes);
   }
+
+-- text at the front lies within what was left
+pub written-within : {text before after : List ℕ} {next : ℕ} → Written text 0 next before after → next ≤ length after
+unfolding splice
+written-within {text = text} {before = before} w = omega (arith, w .place, ap length (w .bytes), length-append text (drop (0 + length text) before))
