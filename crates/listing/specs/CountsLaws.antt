@@ -8,19 +8,21 @@ use native.Mathlib.Omega.{arith}
 use native.Mathlib.Nat.{mul-le-mul-left}
 use lib.ListN.{length, drop, length-append, length-drop}
 use lib.Seq.{drop-append-le, take-append-le}
+use Rattle.prelude.specs.Says.{Says}
 use Rattle.prelude.specs.BelowLaws.{last-or-less}
 use Rattle.prelude.specs.Part.{part, rowAt}
 use Rattle.prelude.specs.PartLaws.{part-between}
 use Rattle.sets.specs.Sets.{member, setOf, countBelow, memberCount, listBelow}
 use Rattle.sets.specs.SetsLaws.{set-length, member-within}
 use Rattle.sets.specs.CountLaws.{count-cong}
-use Rattle.sets.specs.ListLaws.{list-count}
+use Rattle.sets.specs.ListLaws.{list-has, list-rises, list-count}
 use Rattle.schema.specs.Numbers.{attributeLimit, classLimit}
 use Rattle.schema.specs.Layout.{classSet, attributeSet, demandedAt, allowedAt, closureWidth}
 use Rattle.schema.specs.Store.{Table, closureAt}
-use Rattle.graph.specs.Graph.{reaches, demands, allows, closureRow, closureRows, concatBelow}
+use Rattle.graph.specs.Graph.{Collects, names, listsMandatory, listsOptional, reaches, demands, allows, closureRow, closureRows, concatBelow}
+use Rattle.graph.specs.GraphLaws.{says-collects}
 use Rattle.graph.proofs.Rows.{closure-row-length, concat-length}
-use Rattle.listing.specs.Listing.{mustCount, mayCount}
+use Rattle.listing.specs.Listing.{mustCount, mayCount, CountOf}
 
 -- ---- the closure row of a class in the closure of all
 
@@ -92,9 +94,18 @@ module _ (t : Table) (closure : List ℕ) (c : ℕ) (fresh : closureAt closure c
   unfolding mayCount
   may-members = ap memberCount allowed-part ∙ set-count (allows t c)
 
-  -- the same, as lists that hold each of these attributes once (`list-has`, `list-rises`)
-  pub must-list : mustCount closure c ≡ length (listBelow attributeLimit (demands t c))
-  must-list = must-members ∙ sym (list-count attributeLimit (demands t c))
+-- the numbers that pass a test are those of which its statement holds
+counted : (n : ℕ) (p : ℕ → Bool) {P : ℕ → Type 0} → ((b : ℕ) → Says (p b) (P b)) → CountOf n P (countBelow n p)
+counted n p {P} says = record {
+  members = listBelow n p;
+  rises = list-rises n p;
+  has = λ b. (λ m. (let h = list-has n p b .0 m in (h .0, says b .holds (h .1))), λ h. list-has n p b .1 (h .0, says b .passes (h .1)));
+  count = sym (list-count n p);
+}
 
-  pub may-list : mayCount closure c ≡ length (listBelow attributeLimit (allows t c))
-  may-list = may-members ∙ sym (list-count attributeLimit (allows t c))
+-- "the number of attributes in the kept mandatory set": those that some class reached lists as mandatory; and as optional
+pub demanded-count : (t : Table) (c : ℕ) → CountOf attributeLimit (Collects (t .count) (names t) (listsMandatory t) c) (countBelow attributeLimit (demands t c))
+demanded-count t c = counted attributeLimit (demands t c) (says-collects (t .count) (names t) (listsMandatory t) c)
+
+pub allowed-count : (t : Table) (c : ℕ) → CountOf attributeLimit (Collects (t .count) (names t) (listsOptional t) c) (countBelow attributeLimit (allows t c))
+allowed-count t c = counted attributeLimit (allows t c) (says-collects (t .count) (names t) (listsOptional t) c)

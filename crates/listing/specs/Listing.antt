@@ -3,13 +3,15 @@
 --     no name oid must may
 --     0 top 2.5.6.0 0 0
 -- A refused sheet prints one line, single spaces: `refused`, number, table, place."
+use mathlib.Core.Path.{_≡_}
 use mathlib.Core.Bool.{cond}
-use mathlib.Core.List.{List, [], _∷_, _++_}
+use mathlib.Core.Logic.{_↔_}
+use mathlib.Core.List.{List, [], _∷_, _++_, List·Memᴰ}
 use Prim.Native.Nat.{ℕ, _+_, _*_, _≤_, _<_}
 use lib.Dec.{eqb, ltb}
 use lib.ListN.{length}
 use Rattle.prelude.specs.Part.{part, zeros}
-use Rattle.sets.specs.Sets.{memberCount, countBelow}
+use Rattle.sets.specs.Sets.{memberCount, countBelow, Rises}
 use Rattle.schema.specs.declared.answer.Answer.{Answer}
 use Rattle.schema.specs.Numbers.{classLimit, attributeLimit}
 use Rattle.schema.specs.Layout.{nameLimit, arcLimit, attributeSet, demandedAt, allowedAt, attributesLength, classesLength, closureLength}
@@ -36,10 +38,12 @@ arcText row k = cond (eqb k 0) [] (46 ∷ []) ++ decimal (arcOf row k)
 unfoldable pub identifierText : List ℕ → List ℕ
 identifierText row = concatBelow (arcCount row) (arcText row)
 
--- "0 top 2.5.6.0 0 0"
+-- "no name oid must may": class c by its row and the two counts
+abbrev pub lineOf : ℕ → List ℕ → ℕ → ℕ → List ℕ
+lineOf c row must may = textLine (decimal c ∷ nameOf row ∷ identifierText row ∷ decimal must ∷ decimal may ∷ [])
+
 unfoldable pub classLine : Table → List ℕ → ℕ → List ℕ
-classLine t closure c =
-    textLine (decimal c ∷ nameOf (t .row c) ∷ identifierText (t .row c) ∷ decimal (mustCount closure c) ∷ decimal (mayCount closure c) ∷ [])
+classLine t closure c = lineOf c (t .row c) (mustCount closure c) (mayCount closure c)
 
 -- ---- the listing
 
@@ -81,18 +85,17 @@ listed sheet = cond (ltb sheetLimit (length sheet)) tooLong (loadedText (load sh
 -- ---- the same, from the rows alone: the counts are those of the sets as they are defined
 
 unfoldable pub definedLine : Table → ℕ → List ℕ
-definedLine t c =
-    textLine (
-    decimal c ∷
-    nameOf (t .row c) ∷
-    identifierText (t .row c) ∷
-    decimal (countBelow attributeLimit (demands t c)) ∷
-    decimal (countBelow attributeLimit (allows t c)) ∷
-    []
-    )
+definedLine t c = lineOf c (t .row c) (countBelow attributeLimit (demands t c)) (countBelow attributeLimit (allows t c))
 
 unfoldable pub definedListing : Table → List ℕ
 definedListing t = headLine ++ concatBelow (t .count) (definedLine t)
+
+-- n is the number of those below the limit of which P holds: a list has each of them once, and no others, and is n long
+pub record CountOf (limit : ℕ) (P : ℕ → Type 0) (n : ℕ) : Type 0 where
+  pub members : List ℕ
+  pub rises : Rises 0 members
+  pub has : (b : ℕ) → List·Memᴰ b members ↔ ((b < limit) × P b)
+  pub count : n ≡ length members
 
 -- ---- what the code asks
 

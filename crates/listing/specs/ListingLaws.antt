@@ -123,11 +123,11 @@ module _ (sheet : List ℕ) where
     accepted-shaped = rw accepted-classes rows-shaped
 
     -- an accepted sheet: the listing of its rows, with counts of the sets as they are defined
-    pub accepted-text : loadedText (load sheet blank) ≡ definedListing (classTable (rowsRead .classes))
-    accepted-text =
-        text-accepted (load sheet blank) accepted ∙ ap₂ (λ (x y : List ℕ). listing (classTable x) y) accepted-classes accepted-closure
+    pub accepted-text : length sheet ≤ sheetLimit → listed sheet ≡ definedListing (classTable (rowsRead .classes))
+    accepted-text l =
+        listed-loaded sheet l ∙ text-accepted (load sheet blank) accepted ∙ ap₂ (λ (x y : List ℕ). listing (classTable x) y) accepted-classes accepted-closure
         ∙ listing-defined (classTable (rowsRead .classes)) (closureRows (classTable (rowsRead .classes))) (rows-shaped .count) (closure-in (classTable (rowsRead .classes)))
 
   -- a refused one: its line
-  pub refused-text : ¬ (load sheet blank .answer .number ≡ 0) → loadedText (load sheet blank) ≡ refusedLine (readAnswer rowsRead)
-  refused-text d = text-refused (load sheet blank) d ∙ ap refusedLine load-answer
+  pub refused-text : length sheet ≤ sheetLimit → ¬ (load sheet blank .answer .number ≡ 0) → listed sheet ≡ refusedLine (readAnswer rowsRead)
+  refused-text l d = listed-loaded sheet l ∙ text-refused (load sheet blank) d ∙ ap refusedLine load-answer

@@ -1,6 +1,6 @@
 -- Text, as bytes (ASCII): numbers in decimal, words and lines.
 use mathlib.Core.Path.{_≡_}
-use mathlib.Core.Bool.{cond}
+use mathlib.Core.Bool.{Bool, true, false}
 use mathlib.Core.List.{List, [], _∷_, _++_}
 use Prim.Native.Nat.{ℕ, zero, suc, _+_, _-_, _*_, _/_, _%_}
 use Prim.Native.Char.{code}
@@ -17,14 +17,15 @@ ascii (string._∷_ c s) = code c ∷ ascii s
 
 -- ---- numbers
 
--- the last digits of n, at most k of them, the most significant first; 48 is the character 0
-unfoldable pub digitsWithin : ℕ → ℕ → List ℕ
-digitsWithin zero n = []
-digitsWithin (suc k) n = cond (ltb n 10) [] (digitsWithin k (n / 10)) ++ ((48 + n % 10) ∷ [])
+-- the digits of n, at most k of them, the most significant first; single says that n has one digit. 48 is the character 0
+unfoldable pub digitsWithin : ℕ → ℕ → Bool → List ℕ
+digitsWithin zero n single = []
+digitsWithin (suc k) n true = (48 + n) ∷ []
+digitsWithin (suc k) n false = digitsWithin k (n / 10) (ltb (n / 10) 10) ++ ((48 + n % 10) ∷ [])
 
 -- n in decimal: n + 1 digits are enough
 unfoldable pub decimal : ℕ → List ℕ
-decimal n = digitsWithin (suc n) n
+decimal n = digitsWithin (suc n) n (ltb n 10)
 
 -- the number that digits stand for, behind those of n
 unfoldable pub value : ℕ → List ℕ → ℕ
