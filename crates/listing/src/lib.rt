@@ -1,4 +1,4 @@
 // The listing: a sheet's classes as lines of text, or the one line for a sheet that is refused or too long.
-pub mod class;
+mod class;
 pub mod list;
-pub mod text;
+mod text;
