@@ -5,4 +5,5 @@ pub mod Judge
 pub mod JudgeLaws
 pub mod Change
 pub mod ChangeLaws
+pub mod ReadLaws
 pub mod Pieces
