@@ -12,7 +12,7 @@ use Rattle.tables.specs.Shaped.{ClassesShaped}
 use Rattle.keeper.specs.Load.{load}
 use Rattle.listing.specs.Listing.{listing, refusedLine, loadedText, blank}
 use Rattle.listing.specs.ListingLaws.{text-accepted, text-refused, rowsRead, accepted-shaped, accepted-closure}
-use Rattle.listing.specs.CountsLaws.{closures-length}
+use Rattle.graph.specs.FreshLaws.{closure-rows-length}
 
 module _ (sheet : List ℕ) {x : Answer} {a c k : List ℕ} (e : result x (stores a c k) ≡ load sheet blank) where
   number-is : load sheet blank .answer .number ≡ x .number
@@ -28,5 +28,5 @@ module _ (sheet : List ℕ) {x : Answer} {a c k : List ℕ} (e : result x (store
   pub loaded-shaped : Bytes sheet → x .number ≡ 0 → ClassesShaped c × (closureLength ≤ length k)
   loaded-shaped b z = (
     subst (λ (r : Result). ClassesShaped (r .left .classes)) (sym e) (accepted-shaped sheet b (number-is ∙ z)),
-    omega (arith, ap (λ (r : Result). length (r .left .closure)) e, ap length (accepted-closure sheet b (number-is ∙ z)), closures-length (classTable (rowsRead sheet .classes))),
+    omega (arith, ap (λ (r : Result). length (r .left .closure)) e, ap length (accepted-closure sheet b (number-is ∙ z)), closure-rows-length (classTable (rowsRead sheet .classes))),
   )

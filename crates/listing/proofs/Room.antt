@@ -19,7 +19,7 @@ use Rattle.formats.specs.ShapesLaws.{Bytes}
 use Rattle.listing.specs.Text.{ascii, decimal}
 use Rattle.listing.specs.TextLaws.{decimal-short}
 use Rattle.listing.specs.Listing.{mustCount, mayCount, arcText, identifierText, classLine, classLines, headLine, headLength, lineLength, refusedLine, textLength}
-use Rattle.listing.proofs.Each.{each-short}
+use Rattle.prelude.specs.ConcatLaws.{concat-short}
 use Rattle.listing.proofs.Lines.{dot-short, class-length, refused-length}
 
 part-short : (at n : ℕ) (s : List ℕ) → length (part at n s) ≤ n
@@ -34,7 +34,7 @@ arc-short row k b = omega (arith, dot-short row k, decimal-short 9 (arcOf row k)
 
 identifier-short : (row : List ℕ) → Bytes row → arcCount row ≤ arcLimit → length (identifierText row) ≤ 11 * arcLimit
 unfolding identifierText
-identifier-short row b h = omega (arith, each-short (arcText row) 11 (arcCount row) (λ k l. arc-short row k b))
+identifier-short row b h = omega (arith, concat-short (arcText row) 11 (arcCount row) (λ k l. arc-short row k b))
 
 -- a set of attributes has at most three digits of members
 count-small : (at : ℕ) (s : List ℕ) → length (decimal (memberCount (part at attributeSet s))) ≤ 3
@@ -68,7 +68,7 @@ module _ (classes closure : List ℕ) (bytes : Bytes classes) (shaped : ClassesS
 
   pub lines-short : length (classLines (classTable classes) closure) ≤ lineLength * classLimit
   unfolding classLines
-  lines-short = omega (arith, each-short (classLine (classTable classes) closure) lineLength (classTable classes .count) line-short, shaped .count)
+  lines-short = omega (arith, concat-short (classLine (classTable classes) closure) lineLength (classTable classes .count) line-short, shaped .count)
 
 pub head-length : length headLine ≡ headLength
 unfolding headLine ascii

@@ -6,7 +6,7 @@ use Rattle.prelude.specs.Part.{part, zeros, padded}
 use Rattle.prelude.specs.BigEndian.{bigEndian, bigEndianBytes}
 use Rattle.sets.specs.Sets.{digit, bit, member, countBelow, memberCount}
 use Rattle.schema.specs.Store.{Table}
-use Rattle.graph.specs.Graph.{concatBelow}
+use Rattle.prelude.specs.Concat.{concatBelow}
 use Rattle.listing.specs.Text.{ascii, digitsWithin, decimal, word, textLine}
 use Rattle.listing.specs.Listing.{mustCount, mayCount, arcText, identifierText, classLine, headLine, classLines, listing}
 

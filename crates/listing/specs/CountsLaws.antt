@@ -1,63 +1,22 @@
 -- What "must" and "may" are. Document 01: "Ones of the set's words are summed with the language's count of ones and equal the members of the defined set."
 use mathlib.Core.Path.{_≡_, sym, ap, _∙_}
 use mathlib.Core.Bool.{Bool}
-use mathlib.Core.Logic.{⊎-elim}
 use mathlib.Core.List.{List, [], _++_, append-assoc, append-nil}
-use Prim.Native.Nat.{ℕ, zero, suc, _+_, _*_, _≤_, _<_}
-use native.Mathlib.Omega.{arith}
-use native.Mathlib.Nat.{mul-le-mul-left}
-use lib.ListN.{length, drop, length-append, length-drop}
-use lib.Seq.{drop-append-le, take-append-le}
+use Prim.Native.Nat.{ℕ, _*_}
+use lib.ListN.{length-append}
 use Rattle.prelude.specs.Says.{Says}
-use Rattle.prelude.specs.BelowLaws.{last-or-less}
-use Rattle.prelude.specs.Part.{part, rowAt}
+use Rattle.prelude.specs.Part.{part}
 use Rattle.prelude.specs.PartLaws.{part-between}
 use Rattle.sets.specs.Sets.{member, setOf, countBelow, memberCount, listBelow}
 use Rattle.sets.specs.SetsLaws.{set-length, member-within}
 use Rattle.sets.specs.CountLaws.{count-cong}
 use Rattle.sets.specs.ListLaws.{list-has, list-rises, list-count}
-use Rattle.schema.specs.Numbers.{attributeLimit, classLimit}
-use Rattle.schema.specs.Layout.{classSet, attributeSet, demandedAt, allowedAt, closureWidth}
+use Rattle.schema.specs.Numbers.{attributeLimit}
+use Rattle.schema.specs.Layout.{classSet, attributeSet, demandedAt, allowedAt}
 use Rattle.schema.specs.Store.{Table, closureAt}
-use Rattle.graph.specs.Graph.{Collects, names, listsMandatory, listsOptional, reaches, demands, allows, closureRow, closureRows, concatBelow}
+use Rattle.graph.specs.Graph.{Collects, names, listsMandatory, listsOptional, reaches, demands, allows, closureRow}
 use Rattle.graph.specs.GraphLaws.{says-collects}
-use Rattle.graph.proofs.Rows.{closure-row-length, concat-length}
 use Rattle.listing.specs.Listing.{mustCount, mayCount, CountOf}
-
--- ---- the closure row of a class in the closure of all
-
--- a part of the first of two byte strings
-part-front : (at n : ℕ) (s t : List ℕ) → at + n ≤ length s → part at n (s ++ t) ≡ part at n s
-unfolding part
-part-front at n s t h =
-    let a : at ≤ length s = omega arith in
-    let b : n ≤ length (drop at s) = simp length-drop (omega arith) in
-    rw (drop-append-le, take-append-le)
-
-module _ (f : ℕ → List ℕ) (w : ℕ) (wide : (k : ℕ) → length (f k) ≡ w) where
-  row-in : (n c : ℕ) → c < n → rowAt 0 w (concatBelow n f) c ≡ f c
-  unfolding concatBelow
-  row-in zero c l = absurd (omega arith)
-  row-in (suc n) c l = ⊎-elim (λ b. before b (row-in n c b)) last (last-or-less l)
-    where
-      before : c < n → rowAt 0 w (concatBelow n f) c ≡ f c → rowAt 0 w (concatBelow n f ++ f n) c ≡ f c
-      before b ih =
-          let p : w * (c + 1) ≤ w * n = mul-le-mul-left w (omega arith) in
-          part-front (0 + w * c) w (concatBelow n f) (f n) (omega (arith, concat-length f w wide n)) ∙ ih
-
-      last : c ≡ n → rowAt 0 w (concatBelow n f ++ f n) c ≡ f c
-      last e =
-          let q : concatBelow n f ++ f n ≡ concatBelow n f ++ (f n ++ []) = ap (λ (x : List ℕ). concatBelow n f ++ x) (sym (append-nil (f n))) in
-          ap (rowAt 0 w (concatBelow n f ++ f n)) e ∙ ap (λ (x : List ℕ). rowAt 0 w x n) q
-          ∙ part-between (concatBelow n f) (f n) [] (0 + w * n) w (omega (arith, concat-length f w wide n)) (wide n) ∙ ap f (sym e)
-
-pub closures-length : (t : Table) → length (closureRows t) ≡ closureWidth * classLimit
-unfolding closureRows
-closures-length t = concat-length (closureRow t) closureWidth (closure-row-length t) classLimit
-
-pub closure-in : (t : Table) (c : ℕ) → c < classLimit → closureAt (closureRows t) c ≡ closureRow t c
-unfolding closureRows
-closure-in t c l = row-in (closureRow t) closureWidth (closure-row-length t) classLimit c l
 
 -- ---- the counts of a class whose kept sets are those of the definitions
 

@@ -17,7 +17,8 @@ use Rattle.schema.specs.Numbers.{classLimit, attributeLimit}
 use Rattle.schema.specs.Layout.{nameLimit, arcLimit, attributeSet, demandedAt, allowedAt, attributesLength, classesLength, closureLength}
 use Rattle.schema.specs.Row.{nameOf, arcCount, arcOf}
 use Rattle.schema.specs.Store.{Table, classTable, closureAt, Stores, stores, Result}
-use Rattle.graph.specs.Graph.{demands, allows, concatBelow}
+use Rattle.prelude.specs.Concat.{concatBelow}
+use Rattle.graph.specs.Graph.{demands, allows}
 use Rattle.tables.specs.Shaped.{Bounded}
 use Rattle.keeper.specs.Load.{load}
 use Rattle.listing.specs.Text.{ascii, decimal, textLine}

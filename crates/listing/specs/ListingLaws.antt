@@ -17,12 +17,14 @@ use Rattle.schema.specs.Store.{Table, classTable, closureAt, Stores, Result, an
 use Rattle.schema.specs.StoreLaws.{says-short}
 use Rattle.formats.specs.ShapesLaws.{Bytes}
 use Rattle.tables.specs.Shaped.{ClassesShaped}
-use Rattle.graph.specs.Graph.{closureRow, closureRows, concatBelow}
+use Rattle.prelude.specs.Concat.{concatBelow}
+use Rattle.graph.specs.Graph.{closureRow, closureRows}
 use Rattle.sheet.specs.Reading.{SheetOut}
 use Rattle.keeper.specs.Load.{reading, readAnswer, filled, loaded, load}
 use Rattle.keeper.specs.LoadLaws.{reading-shaped}
 use Rattle.listing.specs.Listing.{classLine, classLines, headLine, listing, refusedLine, tooLong, sheetLimit, loadedText, blank, listed, definedLine, definedListing}
-use Rattle.listing.specs.CountsLaws.{closures-length, closure-in, must-members, may-members}
+use Rattle.graph.specs.FreshLaws.{closure-rows-length, closure-rows-at}
+use Rattle.listing.specs.CountsLaws.{must-members, may-members}
 
 -- ---- the text for a sheet
 
@@ -108,7 +110,7 @@ module _ (sheet : List ℕ) where
 
     pub accepted-closure : load sheet blank .left .closure ≡ closureRows (classTable (rowsRead .classes))
     unfolding filled
-    accepted-closure = ap (λ (s : Stores). s .closure) (load-left zero-read) ∙ all-written (closureRows (classTable (rowsRead .classes))) (closures-length (classTable (rowsRead .classes)))
+    accepted-closure = ap (λ (s : Stores). s .closure) (load-left zero-read) ∙ all-written (closureRows (classTable (rowsRead .classes))) (closure-rows-length (classTable (rowsRead .classes)))
 
     rows-shaped : ClassesShaped (rowsRead .classes)
     rows-shaped = reading-shaped sheet (blank .attributes) (blank .classes) bytes attributes classes .classes
@@ -126,7 +128,7 @@ module _ (sheet : List ℕ) where
     pub accepted-text : length sheet ≤ sheetLimit → listed sheet ≡ definedListing (classTable (rowsRead .classes))
     accepted-text l =
         listed-loaded sheet l ∙ text-accepted (load sheet blank) accepted ∙ ap₂ (λ (x y : List ℕ). listing (classTable x) y) accepted-classes accepted-closure
-        ∙ listing-defined (classTable (rowsRead .classes)) (closureRows (classTable (rowsRead .classes))) (rows-shaped .count) (closure-in (classTable (rowsRead .classes)))
+        ∙ listing-defined (classTable (rowsRead .classes)) (closureRows (classTable (rowsRead .classes))) (rows-shaped .count) (closure-rows-at (classTable (rowsRead .classes)))
 
   -- a refused one: its line
   pub refused-text : length sheet ≤ sheetLimit → ¬ (load sheet blank .answer .number ≡ 0) → listed sheet ≡ refusedLine (readAnswer rowsRead)

@@ -2,7 +2,7 @@ use mathlib.Core.Path.{_≡_}
 use mathlib.Core.List.{List}
 use Prim.Native.Nat.{ℕ, _+_, _-_, _≤_}
 use lib.ListN.{length}
-use Rattle.graph.specs.Graph.{concatBelow}
+use Rattle.prelude.specs.Concat.{concatBelow}
 use Rattle.schema.specs.Store.{classTable}
 use Rattle.listing.specs.TextLaws.{written-as}
 use Rattle.listing.specs.Listing.{classLine, classLines}
