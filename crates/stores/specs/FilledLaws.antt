@@ -131,6 +131,10 @@ module _ (rows : List (List ℕ)) (s : List ℕ) where
     unfolding attributeStore
     attributes-flat = filled-flat (attributeHeader (length rows)) attributeWidth attributeLimit rows (two-bytes (length rows)) wide few s
 
+    pub attributes-length : length (attributeStore rows) ≡ attributesLength
+    unfolding attributeStore
+    attributes-length = filled-length (attributeHeader (length rows)) attributeWidth attributeLimit rows (two-bytes (length rows)) wide few
+
     pub attributes-count : attributeTable (splice 0 (attributeStore rows) s) .count ≡ length rows
     attributes-count = ap (bigEndian 2 0) attributes-flat ∙ number-of-bytes 2 (length rows) [] _ (omega arith)
 
@@ -146,6 +150,10 @@ module _ (rows : List (List ℕ)) (s : List ℕ) where
     pub classes-flat : splice 0 (classStore rows) s ≡ classHeader (length rows) ++ (joined rows ++ (zeros (classWidth * classLimit - classWidth * length rows) ++ drop classesLength s))
     unfolding classStore
     classes-flat = filled-flat (classHeader (length rows)) classWidth classLimit rows refl wide few s
+
+    pub classes-length : length (classStore rows) ≡ classesLength
+    unfolding classStore
+    classes-length = filled-length (classHeader (length rows)) classWidth classLimit rows refl wide few
 
     pub classes-count : classTable (splice 0 (classStore rows) s) .count ≡ length rows
     classes-count = ap (λ (x : List ℕ). getD x 0 0) classes-flat

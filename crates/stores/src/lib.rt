@@ -6,6 +6,7 @@ use schema::layout::ATTRIBUTE_WIDTH;
 use schema::layout::ATTRIBUTES_LENGTH;
 use schema::layout::CLASS_WIDTH;
 use schema::layout::CLASSES_LENGTH;
+use schema::layout::CLOSURE_LENGTH;
 use schema::layout::ROWS;
 use schema::store::attribute_count;
 use schema::store::class_count;
@@ -14,7 +15,7 @@ ghost use Prim.Native.Nat.{_+_, _*_, _≤_, _<_};
 ghost use lib.ListN.{length};
 ghost use Rattle.prelude.specs.Part.{splice, zeros};
 ghost use Rattle.schema.specs.Numbers.{attributeLimit, classLimit};
-ghost use Rattle.schema.specs.Layout.{attributesLength, classesLength, attributeWidth, classWidth};
+ghost use Rattle.schema.specs.Layout.{attributesLength, classesLength, closureLength, attributeWidth, classWidth};
 ghost use Rattle.schema.specs.Store.{attributeTable, classTable};
 ghost use Rattle.stores.specs.Filled.{plusAttribute, plusClass};
 
@@ -38,6 +39,13 @@ pub fn empty_classes(classes: &mut [u8])
     ensures { λ _. ⌜ now (classes .exit) ≡ splice 0 (zeros classesLength) (now (classes .entry)) ⌝ }
 {
     empty(classes, CLASSES_LENGTH);
+}
+
+pub fn empty_closure(closure: &mut [u8])
+    requires { ⌜ closureLength ≤ length (now closure) ⌝ }
+    ensures { λ _. ⌜ now (closure .exit) ≡ splice 0 (zeros closureLength) (now (closure .entry)) ⌝ }
+{
+    empty(closure, CLOSURE_LENGTH);
 }
 
 // The first row that is not in use becomes the given one.

@@ -1,0 +1,8 @@
+-- The public calls: load, write, audit and depth, each as one definition of its answer and of the bytes that it leaves.
+pub mod Answering
+pub mod AnsweringLaws
+pub mod Load
+pub mod LoadLaws
+pub mod Write
+pub mod Audit
+pub mod Depth

@@ -1,0 +1,28 @@
+// Depth: how many superclasses a class has above it.
+use crate::check::check_shape;
+use graph::depth::Depth;
+use graph::depth::depth_of;
+use schema::answer::Answer;
+use schema::number::ClassNumber;
+use schema::store::class_count;
+ghost use mathlib.Core.Path.{_≡_};
+ghost use Rattle.schema.specs.Store.{stores};
+ghost use Rattle.keeper.specs.Depth.{depth};
+
+// The steps from a class up to row 0 as the place; 5 where there is no such class, 18 where a superclass met is not earlier.
+pub fn depth(attributes: &[u8], classes: &[u8], closure: &[u8], class: u16) -> Answer
+    ensures { λ r. ⌜ r ≡ depth (stores (now (attributes .entry)) (now (classes .entry)) (now (closure .entry))) class ⌝ }
+{
+    let shape = check_shape(attributes, classes, closure);
+    if shape.number != 0 {
+        return shape;
+    }
+    let c = class as usize;
+    if c >= class_count(classes) {
+        return Answer::refused(5);
+    }
+    match depth_of(classes, ClassNumber(c)) {
+        Depth::Steps(steps) => Answer::done(Answer::NONE, steps),
+        Depth::NotEarlier => Answer::refused(18),
+    }
+}

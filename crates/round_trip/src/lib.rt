@@ -1,0 +1,1 @@
+// The round trips of whole sheets: no code, only laws.
