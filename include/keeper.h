@@ -5,6 +5,7 @@
  * memory of its own: every call is lent three byte strings, the stores, and judges or fills them. Link with
  * target/staticlib/libkeeper_c.a (made by `rt staticlib keeper_c`); nothing else is needed, and no heap is used.
  * What each call gives and which bytes it writes is proved for every input; docs/PROOFS.md says where.
+ * samples/load.c is a small program that uses it.
  *
  * What a caller owes. The proof speaks of what stands in the bytes lent, whatever it is; it cannot speak of pointers:
  *   - Each pointer is valid for the length given beside it, and not NULL even where that length is 0.
@@ -45,7 +46,7 @@ extern "C" {
 /* No sheet that keeper_write writes is longer. */
 #define KEEPER_LONGEST_SHEET 410756
 
-/* So many bytes of stack are enough for every call. */
+/* So many bytes of stack are enough for every call; the most that was measured is 31 KB. */
 #define KEEPER_STACK 65536
 
 /*
@@ -62,7 +63,7 @@ extern "C" {
 /* The numbers that are no rule of the schema. */
 #define KEEPER_DONE 0           /* done; or, audited, in order */
 #define KEEPER_SHORT_STORE 1    /* a lent store is shorter than its length: nothing is written */
-#define KEEPER_BROKEN_SHAPE 2   /* the stores hold bytes that no load could have left there */
+#define KEEPER_BROKEN_SHAPE 2   /* counts, rows or unused rows hold bytes that no load could have left there */
 #define KEEPER_WRONG_CLOSURE 3  /* audit: every row is fine, but what is kept of what classes reach is not */
 #define KEEPER_UNREADABLE 4     /* the sheet cannot be read; place: the byte offset */
 #define KEEPER_NO_SUCH_ROW 5    /* the class asked for is not there */
