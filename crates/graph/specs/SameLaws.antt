@@ -22,7 +22,7 @@ use Rattle.graph.specs.declared.depth.Depth.the-variants.{Steps, NotEarl
 use Rattle.graph.specs.Graph.{reachesBy, collectsBy, auxiliary, names, listsMandatory, listsOptional, reaches, demands, allows, demandedSet, closureRow, closureRows, isFresh, mandatoryDiffers}
 use Rattle.graph.specs.ChangeLaws.{reach-unchanged, collect-unchanged}
 use Rattle.graph.specs.ClosureLaws.{row-cong}
-use Rattle.graph.specs.FreshLaws.{concat-same}
+use Rattle.prelude.specs.ConcatLaws.{concat-same}
 use Rattle.graph.specs.Depth.{oneMore, depthWithin, depthOf}
 
 module _ {t u : Table} (s : Same t u) where

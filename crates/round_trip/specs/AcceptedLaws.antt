@@ -7,7 +7,7 @@ use native.Mathlib.Nat.{zero-add}
 use native.Mathlib.Omega.{arith}
 use lib.Dec.{eqb}
 use lib.ListN.{length, getD}
-use Rattle.prelude.specs.SaysLaws.{says-and, says-eq, says-test, says-fails}
+use Rattle.prelude.specs.SaysLaws.{says-and, says-eq, says-test, says-fails, choose}
 use Rattle.prelude.specs.Part.{part, zeros}
 use Rattle.prelude.specs.PartLaws.{part-add, part-cons, part-none, part-all, zeros-length}
 use Rattle.wire.specs.declared.FieldRead.{FieldRead}
@@ -17,7 +17,7 @@ use Rattle.wire.specs.WireLaws.{field-is, field-back}
 use Rattle.schema.specs.Numbers.{attributeLimit, classLimit}
 use Rattle.schema.specs.Layout.{attributeWidth, classWidth, attributesLength, classesLength}
 use Rattle.schema.specs.Store.{Table, attributeTable, classTable}
-use Rattle.graph.specs.Graph.{concatBelow}
+use Rattle.prelude.specs.Concat.{concatBelow}
 use Rattle.formats.specs.declared.table.Kind.{Kind}
 use Rattle.formats.specs.declared.table.Kind.the-variants.{Attribute, Class}
 use Rattle.formats.specs.ShapesLaws.{Bytes}
@@ -36,7 +36,7 @@ use Rattle.sheet.specs.declared.read.Phase.the-variants.{Heading, Attributes, C
 use Rattle.sheet.specs.declared.read.Turn.{Turn}
 use Rattle.sheet.specs.declared.read.Turn.the-variants.{On, Stop}
 use Rattle.sheet.specs.Reading.{Open, HasRoom, headingOpen, attributesOpen, isHeading, headingTurn, rowStep, rowOut, attributeStep, classStep, Step, step, taggedStep, fieldStep, fullTable, stepAt, SheetOut, sheetOut, onward, readFrom, readSheet}
-use Rattle.sheet.specs.ReadingLaws.{choose, has-room}
+use Rattle.sheet.specs.ReadingLaws.{has-room}
 use Rattle.sheet_write.specs.Writing.{heading, rowField, rowFields, sheetBytes}
 use Rattle.round_trip.specs.Exact.{placeOf, rawAttribute}
 use Rattle.round_trip.specs.ExactLaws.{ExactSheet, next-place}

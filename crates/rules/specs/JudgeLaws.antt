@@ -6,7 +6,7 @@ use mathlib.Core.Logic.{_↔_, _⊎_, inl, inr}
 use Prim.Native.Nat.{ℕ, _+_, _≤_, _<_}
 use lib.ListN.{length, getD, drop}
 use native.Mathlib.Omega.{arith}
-use Rattle.prelude.specs.SaysLaws.{says-true, says-false, says-lt}
+use Rattle.prelude.specs.SaysLaws.{says-true, says-false, says-lt, neither}
 use Rattle.prelude.specs.Below.{anyBelow, firstBelow}
 use Rattle.prelude.specs.BelowLaws.{first-some, any-none, any-false, first-any}
 use Rattle.prelude.specs.First.{_when_, firstOf, NoneHolds, Rising}
@@ -64,10 +64,6 @@ judge-number (r ∷ rs) n m = ap (λ (x : Answer). x .number) (judge-more r rs n
         ∙ sym (first-miss (r .number when (anyBelow n (r .attribute) || anyBelow m (r .class))) (brokenCases rs n m) (ap (λ (b : Bool). b || anyBelow m (r .class)) p ∙ q))
 
 -- no case holds exactly where every rule is kept
-both-false : (x y : Bool) → (x || y) ≡ false → (x ≡ false) × (y ≡ false)
-both-false true y e = (e, absurd (let z : _≡_ {A = ℕ} 0 1 = cc in omega arith))
-both-false false y e = (refl, e)
-
 pub kept-none : (rs : List RowRule) (n m : ℕ) → AllKept rs n m → NoneHolds (brokenCases rs n m)
 kept-none [] n m h = tt
 kept-none (r ∷ rs) n m h =
@@ -76,7 +72,7 @@ kept-none (r ∷ rs) n m h =
 pub none-kept : (rs : List RowRule) (n m : ℕ) → NoneHolds (brokenCases rs n m) → AllKept rs n m
 none-kept [] n m h = tt
 none-kept (r ∷ rs) n m h =
-    let s = both-false (anyBelow n (r .attribute)) (anyBelow m (r .class)) (h .0) in
+    let s = neither (anyBelow n (r .attribute)) (anyBelow m (r .class)) (h .0) in
     (record { attributes = any-none (r .attribute) n (s .0); classes = any-none (r .class) m (s .1) }, none-kept rs n m (h .1))
 
 -- ---- one number after the other

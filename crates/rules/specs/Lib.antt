@@ -6,4 +6,5 @@ pub mod JudgeLaws
 pub mod Change
 pub mod ChangeLaws
 pub mod SameLaws
+pub mod ReadLaws
 pub mod Pieces

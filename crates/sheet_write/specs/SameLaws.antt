@@ -4,8 +4,8 @@ use mathlib.Core.List.{List, _++_}
 use Prim.Native.Nat.{ℕ}
 use Rattle.schema.specs.Store.{Table}
 use Rattle.tables.specs.Same.{Same}
-use Rattle.graph.specs.Graph.{concatBelow}
-use Rattle.graph.specs.FreshLaws.{concat-same}
+use Rattle.prelude.specs.Concat.{concatBelow}
+use Rattle.prelude.specs.ConcatLaws.{concat-same}
 use Rattle.formats.specs.declared.table.Kind.{Kind}
 use Rattle.formats.specs.declared.table.Kind.the-variants.{Attribute, Class}
 use Rattle.sheet_write.specs.Writing.{heading, rowField, rowFields, sheetBytes}
