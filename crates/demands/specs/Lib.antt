@@ -4,3 +4,6 @@ pub mod OrderLaws
 pub mod LoadLaws
 pub mod RoundTripLaws
 pub mod CallLaws
+pub mod Alike
+pub mod AlikeLaws
+pub mod FrontLaws

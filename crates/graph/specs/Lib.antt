@@ -14,4 +14,5 @@ pub mod Changes
 pub mod ClosureLaws
 pub mod FreshLaws
 pub mod SameLaws
+pub mod FrontLaws
 pub mod Pieces
