@@ -16,6 +16,7 @@ use Rattle.sets.specs.SetsLaws.{set-length}
 use Rattle.schema.specs.Numbers.{classLimit}
 use Rattle.schema.specs.Layout.{classSet, attributeSet, closureWidth, mandatoryAt, demandedAt, allowedAt}
 use Rattle.schema.specs.Store.{Table}
+use Rattle.graph.specs.FreshLaws.{closure-row-length}
 use Rattle.graph.specs.Graph.{reaches, demands, allows, demandedSet, closureRow, closureRows}
 use Rattle.graph.specs.Collect.{collected, collectedOptional}
 use Rattle.graph.proofs.Gather.{demanded-is, allowed-is}
@@ -49,11 +50,6 @@ row-written t c row bits x y z l few r p q s =
     let ez : z ≡ setOf attributeSet (allows t c) = allowed-is t c bits few r z s in
     three-parts row x y z (ap length ex ∙ set-length classSet (reaches t c)) (ap length ey ∙ set-length attributeSet (demands t c)) (ap length ez ∙ set-length attributeSet (allows t c)) l
     ∙ ap₂ (λ (a b : List ℕ). a ++ b) ex (ap₂ (λ (a b : List ℕ). a ++ b) ey ez)
-
-pub closure-row-length : (t : Table) (c : ℕ) → length (closureRow t c) ≡ closureWidth
-unfolding closureRow
-closure-row-length t c =
-    simp (length-append, set-length)
 
 -- ---- the part of the store at one class
 

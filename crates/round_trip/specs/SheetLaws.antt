@@ -41,18 +41,19 @@ no-classes-yet : (c c₂ : List ℕ) → classesTo c c₂ 0 ≡ emptyClasses c�
 unfolding rowsBelow
 no-classes-yet c c₂ = ap (λ (x : List ℕ). splice 0 x c₂) no-classes
 
-module _ (a c : List ℕ) (la : attributesLength ≤ length a) (lc : classesLength ≤ length c) where
-  no-rows : (attributeTable (emptyAttributes a) .count ≡ 0) × (classTable (emptyClasses c) .count ≡ 0)
-  no-rows = (
-    ap (λ (x : List ℕ). attributeTable (splice 0 x a) .count) (sym no-attributes) ∙ attributes-count [] a tt (omega arith),
-    ap (λ (x : List ℕ). classTable (splice 0 x c) .count) (sym no-classes) ∙ classes-count [] c tt (omega arith),
-  )
+-- they hold no rows, and may be read into
+module _ (a c : List ℕ) where
+  attributes-none : attributeTable (emptyAttributes a) .count ≡ 0
+  attributes-none = ap (λ (x : List ℕ). attributeTable (splice 0 x a) .count) (sym no-attributes) ∙ attributes-count [] a tt (omega arith)
 
-  empty-open : Open (emptyAttributes a) (emptyClasses c)
-  empty-open =
+  classes-none : classTable (emptyClasses c) .count ≡ 0
+  classes-none = ap (λ (x : List ℕ). classTable (splice 0 x c) .count) (sym no-classes) ∙ classes-count [] c tt (omega arith)
+
+  pub empty-open : attributesLength ≤ length a → classesLength ≤ length c → Open (emptyAttributes a) (emptyClasses c)
+  empty-open la lc =
       let long : length (emptyAttributes a) ≡ length a = splice-length 0 (zeros attributesLength) a (omega (arith, zeros-length attributesLength)) in
       let broad : length (emptyClasses c) ≡ length c = splice-length 0 (zeros classesLength) c (omega (arith, zeros-length classesLength)) in
-      record { attributesLong = omega arith; classesLong = omega arith; attributesFew = omega (arith, no-rows .0); classesFew = omega (arith, no-rows .1) }
+      record { attributesLong = omega arith; classesLong = omega arith; attributesFew = omega (arith, attributes-none); classesFew = omega (arith, classes-none) }
 
 -- ---- tables, sheet, tables
 
@@ -79,8 +80,9 @@ module _ (a c : List ℕ) (ba : Bytes a) (bc : Bytes c) (la : attributesLength �
 
 -- ---- sheet, tables, sheet
 
--- a sheet that is accepted, with 08 exactly where oMSyntax is 127, is what the stores are written as after it was read into them
+-- a sheet that is accepted, with 08 exactly where oMSyntax is 127 (`says-exact` has it with quantifiers), is what the stores are written as after it was read
+-- into them
 pub read-written : (s a c : List ℕ) → Bytes s → attributesLength ≤ length a → classesLength ≤ length c → exactSheet s ≡ true → readSheet s (emptyAttributes a) (emptyClasses c) .answer ≡ Read
     → sheetBytes (attributeTable (readSheet s (emptyAttributes a) (emptyClasses c) .attributes)) (classTable (readSheet s (emptyAttributes a) (emptyClasses c) .classes)) ≡ s
 read-written s a c bytes la lc exact =
-    accepted-same s bytes (says-exact s .holds exact) (emptyAttributes a) (emptyClasses c) (empty-open a c la lc) (no-rows a c la lc .0) (no-rows a c la lc .1)
+    accepted-same s bytes (says-exact s .holds exact) (emptyAttributes a) (emptyClasses c) (empty-open a c la lc) (attributes-none a c) (classes-none a c)

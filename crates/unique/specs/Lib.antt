@@ -3,3 +3,4 @@ pub mod Unique
 pub mod UniqueLaws
 pub mod IdentifierLaws
 pub mod RivalLaws
+pub mod SameLaws

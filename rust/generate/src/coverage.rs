@@ -2,7 +2,6 @@
 
 use crate::stores::PAST;
 use crate::{Random, Stores, changes, sheets, stores};
-use reference::Answer;
 use std::collections::BTreeMap;
 use std::fmt;
 
@@ -36,8 +35,15 @@ impl Coverage {
         self.counts.get(&(call, number)).copied().unwrap_or(0)
     }
 
-    fn note(&mut self, call: &'static str, answer: Answer) {
-        *self.counts.entry((call, answer.number)).or_default() += 1;
+    /// Counts a number that a call gave.
+    pub fn note(&mut self, call: &'static str, number: u64) {
+        *self.counts.entry((call, number)).or_default() += 1;
+    }
+
+    /// The calls that were made at all, in the order of the papers.
+    fn calls(&self) -> impl Iterator<Item = &'static str> {
+        let made = |call: &&str| self.counts.keys().any(|(made, _)| made == call);
+        CALLS.into_iter().filter(made)
     }
 
     fn load(&mut self, random: &mut Random) {
@@ -46,19 +52,19 @@ impl Coverage {
             false => Stores::default(),
         };
         let answer = stores.load(&sheets::any(random));
-        self.note("load", answer);
+        self.note("load", answer.number);
     }
 
     fn ask(&mut self, random: &mut Random) {
         let stores = stores::any(random);
         let mut out = vec![PAST; random.below(40_000)];
-        self.note("audit", stores.audit());
-        self.note("write", stores.write(&mut out));
+        self.note("audit", stores.audit().number);
+        self.note("write", stores.write(&mut out).number);
         let class = match random.once_in(10) {
             true => random.number() as u16,
             false => random.below(stores.schema().classes.len() + 1) as u16,
         };
-        self.note("depth", stores.depth(class));
+        self.note("depth", stores.depth(class).number);
     }
 
     fn change_in_order(&mut self, random: &mut Random) {
@@ -66,8 +72,8 @@ impl Coverage {
         for _ in 0..8 {
             let change = changes::any(random, &stores.schema());
             let mut copy = stores.clone();
-            self.note("plain", copy.plain(&change));
-            self.note("quick", stores.quick(&change));
+            self.note("plain", copy.plain(&change).number);
+            self.note("quick", stores.quick(&change).number);
         }
     }
 
@@ -75,8 +81,8 @@ impl Coverage {
         let mut stores = stores::any(random);
         for _ in 0..4 {
             let change = changes::any(random, &stores.schema());
-            self.note("plain", stores.clone().plain(&change));
-            self.note("quick", stores.quick(&change));
+            self.note("plain", stores.clone().plain(&change).number);
+            self.note("quick", stores.quick(&change).number);
         }
     }
 }
@@ -98,12 +104,12 @@ pub fn may_give(call: &str, number: u64) -> bool {
 impl fmt::Display for Coverage {
     fn fmt(&self, out: &mut fmt::Formatter) -> fmt::Result {
         write!(out, "no")?;
-        for call in CALLS {
+        for call in self.calls() {
             write!(out, " {call:>7}")?;
         }
         for number in 0..=31 {
             write!(out, "\n{number:2}")?;
-            for call in CALLS {
+            for call in self.calls() {
                 match (self.count(call, number), may_give(call, number)) {
                     (0, false) => write!(out, " {:>7}", "-")?,
                     (count, _) => write!(out, " {count:>7}")?,

@@ -1,0 +1,26 @@
+use borrow.Author.Tests.{lt-ltb, le-ltb}
+use Rattle.keeper_c.specs.Calls.{isShort, auditCall}
+use borrow.Author.Needs.{needs}
+use Rattle.keeper_c.proofs.keeper_audit.Statement.{statement}
+use Rattle.keeper_c.proofs.keeper_audit.Tie as tie
+
+returns : tie.Need-returns
+unfolding auditCall isShort
+returns c = rw (lt-ltb _ _ (c .if1 .taken))
+
+audit-requires : tie.Need-audit-requires
+audit-requires c κs = search needs
+
+answer-in-requires : tie.Need-answer-in-requires
+answer-in-requires c κs = search needs
+
+same-length : tie.Need-same-length
+same-length c = search needs
+
+returns-2 : tie.Need-returns-2
+unfolding auditCall isShort
+returns-2 c = rw (le-ltb _ _ (c .before .before .before .before .before .if1 .left), c .before .before .answer-in .ensures, c .before .before .before .before .audit .ensures)
+
+pub keeper-audit-spec : {M : Type 1} → statement M
+keeper-audit-spec =
+    tie.close (tie.spec returns audit-requires answer-in-requires same-length returns-2)

@@ -1,0 +1,26 @@
+use borrow.Author.Tests.{lt-ltb, le-ltb}
+use Rattle.keeper_c.specs.Calls.{isShort, depthCall}
+use borrow.Author.Needs.{needs}
+use Rattle.keeper_c.proofs.keeper_depth.Statement.{statement}
+use Rattle.keeper_c.proofs.keeper_depth.Tie as tie
+
+returns : tie.Need-returns
+unfolding depthCall isShort
+returns c = rw (lt-ltb _ _ (c .if1 .taken))
+
+depth-requires : tie.Need-depth-requires
+depth-requires c κs = search needs
+
+answer-in-requires : tie.Need-answer-in-requires
+answer-in-requires c κs = search needs
+
+same-length : tie.Need-same-length
+same-length c = search needs
+
+returns-2 : tie.Need-returns-2
+unfolding depthCall isShort
+returns-2 c = rw (le-ltb _ _ (c .before .before .before .before .before .if1 .left), c .before .before .answer-in .ensures, c .before .before .before .before .depth .ensures)
+
+pub keeper-depth-spec : {M : Type 1} → statement M
+keeper-depth-spec =
+    tie.close (tie.spec returns depth-requires answer-in-requires same-length returns-2)

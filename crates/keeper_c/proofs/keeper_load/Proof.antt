@@ -1,0 +1,45 @@
+use borrow.Author.Tests.{lt-ltb, le-ltb}
+use Rattle.keeper_c.specs.Calls.{isShort, loadCall}
+use Rattle.keeper_c.proofs.Telling.{load-told}
+use borrow.Author.Needs.{needs}
+use Rattle.keeper_c.proofs.keeper_load.Statement.{statement}
+use Rattle.keeper_c.proofs.keeper_load.Tie as tie
+
+returns : tie.Need-returns
+unfolding loadCall isShort
+returns c = rw (lt-ltb _ _ (c .if1 .taken))
+
+load-requires : tie.Need-load-requires
+load-requires c κs = search needs
+
+answer-in-requires : tie.Need-answer-in-requires
+answer-in-requires c κs = search needs
+
+same-length : tie.Need-same-length
+same-length c = search needs
+
+same-length-2 : tie.Need-same-length-2
+same-length-2 c = search needs
+
+same-length-3 : tie.Need-same-length-3
+same-length-3 c = search needs
+
+same-length-4 : tie.Need-same-length-4
+same-length-4 c = search needs
+
+returns-2 : tie.Need-returns-2
+unfolding isShort
+returns-2 c = load-told _ (c .before .before .answer-in .ensures) (le-ltb _ _ (c .before .before .before .before .before .before .before .before .before .before .before .before .before .before .if1 .left)) _ _ (c .before .before .before .before .before .before .before .before .before .before .load .ensures)
+
+pub keeper-load-spec : {M : Type 1} → statement M
+keeper-load-spec =
+    tie.close
+    (tie.spec
+    returns
+    load-requires
+    answer-in-requires
+    same-length
+    same-length-2
+    same-length-3
+    same-length-4
+    returns-2)

@@ -1,0 +1,66 @@
+-- The calls as C sees them: the number is returned, table and place stand in the first two numbers of `detail`. Each says what the keeper's own definition says; a
+-- `detail` too short for both counts as a short store: "1 a lent store is shorter than its length", and nothing is altered.
+use mathlib.Core.Bool.{Bool, cond}
+use mathlib.Core.List.{List}
+use Prim.Native.Nat.{ℕ}
+use lib.Dec.{ltb}
+use lib.ListN.{length, set}
+use Rattle.schema.specs.Store.{Stores, Result}
+use Rattle.schema.specs.declared.answer.Answer.{Answer}
+use Rattle.keeper.specs.Audit.{audit}
+use Rattle.keeper.specs.Depth.{depth}
+use Rattle.keeper.specs.Load.{load}
+use Rattle.keeper.specs.Write.{Written, write}
+
+-- table and place
+abbrev pub detailLength : ℕ
+detailLength = 2
+
+unfoldable pub isShort : List ℕ → Bool
+isShort detail = ltb (length detail) detailLength
+
+-- what a call tells: the number that it returns, and detail as it leaves it
+pub record Told : Type 0 where
+  pub number : ℕ
+  pub detail : List ℕ
+
+abbrev pub told : ℕ → List ℕ → Told
+told n detail = record { number = n; detail = detail }
+
+-- an answer, told
+unfoldable pub answered : Answer → List ℕ → Told
+answered a detail = told (a .number) (set (set detail 0 (a .table)) 1 (a .place))
+
+unfoldable pub auditCall : Stores → List ℕ → Told
+auditCall s detail = cond (isShort detail) (told 1 detail) (answered (audit s) detail)
+
+unfoldable pub depthCall : Stores → ℕ → List ℕ → Told
+depthCall s c detail = cond (isShort detail) (told 1 detail) (answered (depth s c) detail)
+
+-- what a load tells, and the stores as it leaves them
+pub record Loaded : Type 0 where
+  pub tells : Told
+  pub left : Stores
+
+abbrev pub loaded : Told → Stores → Loaded
+loaded t s = record { tells = t; left = s }
+
+abbrev pub loadedBy : Result → List ℕ → Loaded
+loadedBy r detail = loaded (answered (r .answer) detail) (r .left)
+
+unfoldable pub loadCall : List ℕ → Stores → List ℕ → Loaded
+loadCall sheet s detail = cond (isShort detail) (loaded (told 1 detail) s) (loadedBy (load sheet s) detail)
+
+-- what a write tells, and the output as it leaves it
+pub record Wrote : Type 0 where
+  pub tells : Told
+  pub output : List ℕ
+
+abbrev pub wrote : Told → List ℕ → Wrote
+wrote t output = record { tells = t; output = output }
+
+abbrev pub wroteBy : Written → List ℕ → Wrote
+wroteBy w detail = wrote (answered (w .answer) detail) (w .output)
+
+unfoldable pub writeCall : Stores → List ℕ → List ℕ → Wrote
+writeCall s output detail = cond (isShort detail) (wrote (told 1 detail) output) (wroteBy (write s output) detail)

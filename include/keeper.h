@@ -1,0 +1,149 @@
+/*
+ * The schema keeper's calls for C and C++.
+ *
+ * The keeper stands between a directory schema's tables and whoever wants to change them. It holds no state and no
+ * memory of its own: every call is lent three byte strings, the stores, and judges or fills them. Link with
+ * target/staticlib/libkeeper_c.a (made by `rt staticlib keeper_c`); nothing else is needed, and no heap is used.
+ * What each call gives and which bytes it writes is proved for every input; docs/PROOFS.md says where.
+ * examples/load.c is a small program that uses it.
+ *
+ * What a caller owes. The proof speaks of what stands in the bytes lent, whatever it is; it cannot speak of pointers:
+ *   - Each pointer is valid for the length given beside it, and not NULL even where that length is 0.
+ *   - What a call may write (a pointer without const) overlaps nothing else that is lent to the same call. What it
+ *     only reads may overlap.
+ *   - `detail` is aligned as a uint64_t is; the others are bytes and need no alignment.
+ *   - Nobody else writes to what is lent, or reads what may be written, before the call returns. Calls on other
+ *     stores may run at the same time in other threads.
+ *   - KEEPER_STACK bytes of stack are free.
+ *
+ * What a caller need not do: check anything. Any bytes may stand in sheet and stores, of any length.
+ */
+#ifndef KEEPER_H
+#define KEEPER_H
+
+#include <stddef.h>
+#include <stdint.h>
+
+#ifdef __cplusplus
+extern "C" {
+#endif
+
+/*
+ * The lengths of the stores in bytes. A longer store is fine: bytes past the length are neither looked at nor written.
+ * A shorter one is refused with KEEPER_SHORT_STORE. docs/LAYOUT.md shows the stores byte by byte.
+ */
+#define KEEPER_ATTRIBUTES_LENGTH 48386
+#define KEEPER_CLASSES_LENGTH 40322
+#define KEEPER_CLOSURE_LENGTH 10240
+
+/* The length of `detail`, counted in uint64_t; more is fine. */
+#define KEEPER_DETAIL_LENGTH 2
+
+/* So many rows fit into the stores. */
+#define KEEPER_ATTRIBUTE_LIMIT 256
+#define KEEPER_CLASS_LIMIT 128
+
+/* No sheet that keeper_write writes is longer. */
+#define KEEPER_LONGEST_SHEET 410756
+
+/* So many bytes of stack are enough for every call; the most that was measured is 31 KB. */
+#define KEEPER_STACK 65536
+
+/*
+ * Every call returns a number, and writes two more into `detail`:
+ *   detail[0]  the table: KEEPER_NO_TABLE, KEEPER_ATTRIBUTE_TABLE or KEEPER_CLASS_TABLE
+ *   detail[1]  the place: a row, a byte offset, a limit, a length or a number of steps
+ * Where nothing else is said of them they are 0. The one exception is a `detail` shorter than KEEPER_DETAIL_LENGTH:
+ * it counts as a store that is too short, and not even `detail` is written.
+ */
+#define KEEPER_NO_TABLE 0
+#define KEEPER_ATTRIBUTE_TABLE 1
+#define KEEPER_CLASS_TABLE 2
+
+/* The numbers that are no rule of the schema. */
+#define KEEPER_DONE 0           /* done; or, audited, in order */
+#define KEEPER_SHORT_STORE 1    /* a lent store is shorter than its length: nothing is written */
+#define KEEPER_BROKEN_SHAPE 2   /* counts, rows or unused rows hold bytes that no load could have left there */
+#define KEEPER_WRONG_CLOSURE 3  /* audit: every row is fine, but what is kept of what classes reach is not */
+#define KEEPER_UNREADABLE 4     /* the sheet cannot be read; place: the byte offset */
+#define KEEPER_NO_SUCH_ROW 5    /* the class asked for is not there */
+#define KEEPER_NO_FREE_ROW 6    /* the sheet has more rows than fit; table, and place: the limit */
+#define KEEPER_SHORT_OUTPUT 31  /* write: the output is too short; place: the length needed */
+
+/* The rules of the schema: table and place name the lowest row that breaks the rule, attributes first. */
+#define KEEPER_NAME_INVALID 12
+#define KEEPER_NAME_TAKEN 13
+#define KEEPER_IDENTIFIER_INVALID 14
+#define KEEPER_IDENTIFIER_TAKEN 15
+#define KEEPER_GUID_TAKEN 16
+#define KEEPER_ATTRIBUTE_NOT_LIVE 17
+#define KEEPER_CLASS_NOT_LIVE 18
+#define KEEPER_NOT_AN_AUXILIARY 19
+#define KEEPER_NOT_A_SUPERIOR 20
+#define KEEPER_CATEGORY_MISFIT 21
+#define KEEPER_CHAIN_ASTRAY 22
+#define KEEPER_NAMING_UNFIT 23
+#define KEEPER_MAPI_TAKEN 24
+#define KEEPER_RANGE_EMPTY 25
+#define KEEPER_SYNTAX_MISFIT 26
+#define KEEPER_OBJECT_CLASS_WRONG 27
+#define KEEPER_LINK_TAKEN 28
+#define KEEPER_LINK_ALONE 29
+
+/*
+ * Loads a sheet into the stores; what stood there before is not looked at.
+ *   0       accepted: the stores are in order
+ *   1       nothing is written
+ *   4, 6    the sheet cannot be read, or has too many rows, whichever comes first
+ *   12..29  a rule is broken: the smallest number, then the lowest row
+ * Refused by 4 or more, every byte of the stores, up to their lengths, is 0.
+ */
+uint64_t keeper_load(const uint8_t *sheet, size_t sheet_length,
+                     uint8_t *attributes, size_t attributes_length,
+                     uint8_t *classes, size_t classes_length,
+                     uint8_t *closure, size_t closure_length,
+                     uint64_t *detail, size_t detail_length);
+
+/*
+ * Writes the stores as a sheet. Of the output only the sheet's bytes are written.
+ *   0       written; place: the sheet's length
+ *   1, 2    the stores cannot be written
+ *   31      the output is too short; place: the length needed
+ * Stores in shape are written even if they are not in order; a load of that sheet then refuses it.
+ */
+uint64_t keeper_write(const uint8_t *attributes, size_t attributes_length,
+                      const uint8_t *classes, size_t classes_length,
+                      const uint8_t *closure, size_t closure_length,
+                      uint8_t *output, size_t output_length,
+                      uint64_t *detail, size_t detail_length);
+
+/*
+ * Are the stores in order?
+ *   0       yes
+ *   1, 2    they are too short, or out of shape
+ *   3       all rows are fine, but the closure store is not what the rows give
+ *   12..29  a rule is broken: the smallest number, then the lowest row
+ */
+uint64_t keeper_audit(const uint8_t *attributes, size_t attributes_length,
+                      const uint8_t *classes, size_t classes_length,
+                      const uint8_t *closure, size_t closure_length,
+                      uint64_t *detail, size_t detail_length);
+
+/*
+ * How many steps lead from a class up its superclasses to class 0?
+ *   0       place: the number of steps, 0 for class 0
+ *   1, 2    the stores are too short, or out of shape
+ *   5       the class is not there
+ *   18      a superclass on the way does not come before its class
+ */
+uint64_t keeper_depth(const uint8_t *attributes, size_t attributes_length,
+                      const uint8_t *classes, size_t classes_length,
+                      const uint8_t *closure, size_t closure_length,
+                      uint16_t class_number,
+                      uint64_t *detail, size_t detail_length);
+
+#ifdef __cplusplus
+}
+#endif
+
+#endif

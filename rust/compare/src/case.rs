@@ -1,0 +1,83 @@
+//! One input: a call, and all that is lent to it.
+
+use crate::keeper::Keeper;
+use crate::outcome::Outcome;
+use generate::Stores;
+use generate::stores::PAST;
+
+/// What stands in `detail` before the call.
+const UNTOLD: u64 = 0xA5A5_A5A5_A5A5_A5A5;
+
+/// A call and what it is given beside the stores.
+#[derive(Clone, Debug)]
+pub enum Call {
+    /// A load of this sheet.
+    Load(Vec<u8>),
+    /// A write into an output of this length.
+    Write(usize),
+    /// An audit.
+    Audit,
+    /// The depth of this class.
+    Depth(u16),
+}
+
+impl Call {
+    /// The call's name.
+    pub fn name(&self) -> &'static str {
+        match self {
+            Call::Load(_) => "load",
+            Call::Write(_) => "write",
+            Call::Audit => "audit",
+            Call::Depth(_) => "depth",
+        }
+    }
+}
+
+/// A call with the stores that it is lent.
+#[derive(Clone, Debug)]
+pub struct Case {
+    /// The call.
+    pub call: Call,
+    /// The stores.
+    pub stores: Stores,
+    /// How many numbers `detail` has room for.
+    pub detail: usize,
+}
+
+impl Case {
+    /// A call with room for what it tells.
+    pub fn new(call: Call, stores: Stores) -> Case {
+        Case {
+            call,
+            stores,
+            detail: 2,
+        }
+    }
+
+    /// Plays the case with a keeper.
+    pub fn play(&self, keeper: &impl Keeper) -> Outcome {
+        let mut detail = vec![UNTOLD; self.detail];
+        let mut stores = self.stores.clone();
+        let mut output = match self.call {
+            Call::Write(length) => vec![PAST; length],
+            _ => Vec::new(),
+        };
+        let Stores {
+            attrs,
+            classes,
+            closure,
+        } = &mut stores;
+        let number = match &self.call {
+            Call::Load(sheet) => keeper.load(sheet, attrs, classes, closure, &mut detail),
+            Call::Write(_) => keeper.write(attrs, classes, closure, &mut output, &mut detail),
+            Call::Audit => keeper.audit(attrs, classes, closure, &mut detail),
+            Call::Depth(class) => keeper.depth(attrs, classes, closure, *class, &mut detail),
+        };
+        Outcome {
+            number,
+            detail,
+            stores,
+            output,
+        }
+    }
+}

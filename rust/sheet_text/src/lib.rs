@@ -1,0 +1,33 @@
+//! Sheets written down as text, for people: rows by name instead of number.
+//!
+//! A row begins with `attribute NAME IDENTIFIER` or `class NAME IDENTIFIER`.
+//! The lines after it say the rest, one thing a line, in any order:
+//!
+//! | Line | What | |
+//! |---|---|---|
+//! | `guid HEX` | schemaIDGUID, 32 hex digits, hyphens allowed | every row |
+//! | `base` | systemFlags 0x10 | any row |
+//! | `flags N` | all systemFlags | any row |
+//! | `defunct` | defunct | any row |
+//! | `syntax N M` | attributeSyntax 2.5.5.N and oMSyntax M | every attribute |
+//! | `object HEX` | oMObjectClass; without it, the first of the syntax | attribute |
+//! | `single` | single-valued | attribute |
+//! | `lower N`, `upper N` | rangeLower, rangeUpper | attribute |
+//! | `link N`, `mapi N` | linkID, mAPIID | attribute |
+//! | `88`, `structural`, `abstract`, `auxiliary` | category | every class |
+//! | `under CLASS` | superclass | every class |
+//! | `naming ATTRIBUTE` | rDNAttID | class |
+//! | `must`, `system-may`, `may` | mandatory, fixed and open optional attributes | class |
+//! | `system-aux`, `aux` | fixed and open auxiliary classes | class |
+//! | `system-in`, `in` | fixed and open possible superiors | class |
+//!
+//! Names after the last seven words are separated by spaces; a list may go on
+//! in a further line with the same word. A `#` begins a comment. Attributes
+//! and classes are numbered as they stand. No rule of the schema is judged
+//! here: that is the keeper's work.
+
+mod lines;
+mod rows;
+
+pub use lines::{Fault, Line, Source};
+pub use rows::schema;
