@@ -1,12 +1,13 @@
 -- What the program prints, case by case, and what the counts are.
-use mathlib.Core.Path.{_≡_, refl, sym, ap, ap₂, _∙_}
+use mathlib.Core.Path.{_≡_, sym, ap, ap₂, _∙_}
 use mathlib.Core.Bool.{false}
 use mathlib.Core.Logic.{⊎-elim}
 use mathlib.Core.List.{List, _++_, append-nil}
-use Prim.Native.Nat.{ℕ, zero, suc, _+_, _≤_, _<_}
+use Prim.Native.Nat.{ℕ, _+_, _≤_, _<_}
 use native.Mathlib.Omega.{arith}
 use lib.ListN.{length, drop-of-length-le}
 use borrow.Author.Tests.{eq-eqb, lt-ltb, le-ltb}
+use Rattle.prelude.specs.ConcatLaws.{concat-same}
 use Rattle.prelude.specs.SaysLaws.{says-eq, says-false}
 use Rattle.prelude.specs.Part.{splice, zeros}
 use Rattle.prelude.specs.PartLaws.{zeros-length}
@@ -17,7 +18,6 @@ use Rattle.schema.specs.Store.{Table, classTable, closureAt, Stores, Result, an
 use Rattle.schema.specs.StoreLaws.{says-short}
 use Rattle.formats.specs.ShapesLaws.{Bytes}
 use Rattle.tables.specs.Shaped.{ClassesShaped}
-use Rattle.prelude.specs.Concat.{concatBelow}
 use Rattle.graph.specs.Graph.{closureRow, closureRows}
 use Rattle.sheet.specs.Reading.{SheetOut}
 use Rattle.keeper.specs.Load.{reading, readAnswer, filled, loaded, load}
@@ -51,14 +51,9 @@ module _ (t : Table) (closure : List ℕ) (few : t .count ≤ classLimit) (fresh
   unfolding classLine definedLine
   line-defined c l = rw (must-members t closure c (fresh c l), may-members t closure c (fresh c l))
 
-  lines-defined : (n : ℕ) → n ≤ classLimit → concatBelow n (classLine t closure) ≡ concatBelow n (definedLine t)
-  unfolding concatBelow
-  lines-defined zero l = refl
-  lines-defined (suc n) l = ap₂ (λ (x y : List ℕ). x ++ y) (lines-defined n (omega arith)) (line-defined n (omega arith))
-
   pub listing-defined : listing t closure ≡ definedListing t
   unfolding listing classLines definedListing
-  listing-defined = ap (λ (x : List ℕ). headLine ++ x) (lines-defined (t .count) few)
+  listing-defined = ap (λ (x : List ℕ). headLine ++ x) (concat-same (t .count) (classLine t closure) (definedLine t) (λ c l. line-defined c (omega arith)))
 
 -- ---- a load into the program's stores
 

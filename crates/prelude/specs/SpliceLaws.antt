@@ -3,7 +3,7 @@ use mathlib.Core.Path.{_≡_, refl, sym, ap, _∙_}
 use mathlib.Core.List.{List, [], _∷_, _++_, append-assoc}
 use Prim.Native.Nat.{ℕ, _+_, _-_, _≤_, _<_}
 use native.Mathlib.Omega.{arith}
-use native.Mathlib.Nat.{add-assoc, add-zero}
+use native.Mathlib.Nat.{add-assoc, add-zero, zero-add}
 use native.Mathlib.Numerals.{add-one}
 use native.Mathlib.Decide.{decLt}
 use lib.ListN.{length, take, drop, getD, set, length-set, length-append, length-take, length-drop, take-append-drop}
@@ -161,6 +161,11 @@ set-then-splice at v new s h =
 -- two bytes stored one after the other
 pub set-splice-two : (at v w : ℕ) (s : List ℕ) → at + 2 ≤ length s → set (set s at v) (at + 1) w ≡ splice at (v ∷ w ∷ []) s
 set-splice-two at v w s h = set-splice (at + 1) w (set s at v) (simp length-set (omega arith)) ∙ set-then-splice at v (w ∷ []) s (omega arith)
+
+-- the front of t replaced by s
+pub splice-front : (s t : List ℕ) → splice 0 s t ≡ s ++ drop (length s) t
+unfolding splice
+splice-front s t = ap (λ (n : ℕ). s ++ drop n t) (zero-add (length s))
 
 -- nothing put in its place
 pub splice-none : (at : ℕ) (s : List ℕ) → splice at [] s ≡ s

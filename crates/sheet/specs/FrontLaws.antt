@@ -4,14 +4,13 @@ use mathlib.Core.Path.{_≡_, refl, sym, ap, ap₂, subst, _∙_}
 use mathlib.Core.Bool.{Bool, true, false, cond}
 use mathlib.Core.List.{List, [], _∷_, _++_, append-assoc}
 use Prim.Native.Nat.{ℕ, zero, suc, _+_, _*_, _≤_, _<_}
-use native.Mathlib.Nat.{zero-add}
 use native.Mathlib.Omega.{arith}
 use lib.Dec.{eqb}
 use lib.ListN.{length, getD, drop, List·getD-append}
 use lib.Seq.{take-append-le, drop-append-le}
 use Rattle.prelude.specs.Part.{splice, zeros}
 use Rattle.prelude.specs.PartLaws.{row-fits, zeros-length, zeros-at}
-use Rattle.prelude.specs.SpliceLaws.{splice-length}
+use Rattle.prelude.specs.SpliceLaws.{splice-length, splice-front}
 use Rattle.prelude.specs.SaysLaws.{says-eq, says-fails}
 use Rattle.prelude.specs.BigEndianLaws.{two-bytes, bytes-length}
 use Rattle.schema.specs.Numbers.{attributeLimit, classLimit}
@@ -35,11 +34,6 @@ use Rattle.sheet.specs.ReadingLaws.{has-room}
 use Rattle.sheet.specs.RowWidthLaws.{attribute-row-wide, class-row-wide}
 
 -- ---- the front of a longer store
-
--- s with the end of t behind it
-splice-front : (s t : List ℕ) → splice 0 s t ≡ s ++ drop (length s) t
-unfolding splice
-splice-front s t = ap (λ (n : ℕ). s ++ drop n t) (zero-add (length s))
 
 -- bytes put into the front
 splice-into : (at : ℕ) (new s t : List ℕ) → at + length new ≤ length s → splice at new (splice 0 s t) ≡ splice 0 (splice at new s) t
