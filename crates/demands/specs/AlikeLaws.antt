@@ -23,8 +23,8 @@ use Rattle.shape.specs.Shape.{formed}
 use Rattle.shape.specs.ShapeLaws.{says-formed}
 use Rattle.shape.specs.FrontLaws.{formed-front}
 use Rattle.sheet_write.specs.SameLaws.{sheet-same}
-use Rattle.keeper.specs.Answering.{answerIf, refusedIf, firstAnswer, shapeAnswers}
-use Rattle.keeper.specs.AnsweringLaws.{InShape, not-short, broken-stores, append-passed, append-refused, passed-shape, tested-holds}
+use Rattle.keeper.specs.Answering.{answerIf, refusedIf, firstAnswer, shapeAnswers, InShape}
+use Rattle.keeper.specs.AnsweringLaws.{not-short, broken-stores, append-passed, append-refused, passed-shape, tested-holds}
 use Rattle.keeper.specs.Audit.{audit}
 use Rattle.keeper.specs.Depth.{depth}
 use Rattle.keeper.specs.Write.{sheetOf, written, writeAnswer, write}

@@ -9,12 +9,12 @@ use native.Mathlib.Omega.{arith}
 use lib.ListN.{length}
 use Rattle.prelude.specs.Part.{splice}
 use Rattle.prelude.specs.SpliceLaws.{splice-length}
-use Rattle.prelude.specs.SaysLaws.{says-eq, says-split, says-test}
+use Rattle.prelude.specs.SaysLaws.{says-true, says-eq, says-split, says-test}
 use Rattle.schema.specs.Layout.{closureLength}
 use Rattle.schema.specs.Store.{Stores, LongEnough, Result, result, anyShort, attributeTable, classTable}
-use Rattle.schema.specs.StoreLaws.{long-enough}
+use Rattle.schema.specs.StoreLaws.{says-short, long-enough}
 use Rattle.schema.specs.declared.answer.Answer.{Answer}
-use Rattle.schema.specs.Answers.{done, refused}
+use Rattle.schema.specs.Answers.{answer, done, refused, unreadable}
 use Rattle.formats.specs.ShapesLaws.{Bytes}
 use Rattle.graph.specs.Graph.{closureRows}
 use Rattle.graph.specs.FreshLaws.{closure-rows-length, says-fresh, bytes-fresh}
@@ -22,19 +22,15 @@ use Rattle.sheet.specs.declared.read.SheetRead.{SheetRead}
 use Rattle.sheet.specs.declared.read.SheetRead.the-variants.{Read, Bad, Full}
 use Rattle.sheet.specs.Reading.{SheetOut, sheetOut}
 use Rattle.shape.specs.ShapeLaws.{says-formed}
-use Rattle.rules.specs.JudgeLaws.{judged-zero, judged-done}
+use Rattle.rules.specs.JudgeLaws.{judged-zero, judged-done, judged-first}
+use Rattle.rules.specs.Rules.{schemaRules}
+use Rattle.rules.specs.Judge.{FirstBroken}
 use Rattle.keeper.specs.AnsweringLaws.{not-short}
 use Rattle.keeper.specs.Load.{emptied, reading, readAnswer, filled, load}
 use Rattle.keeper.specs.LoadLaws.{read-judged, read-bad, read-full, load-short, load-accepted, load-rejected, attributes-long, classes-long, reading-formed}
 use Rattle.keeper.specs.Audit.{audit}
-use Rattle.demands.specs.Order.{MeetsRules, InOrder}
+use Rattle.demands.specs.Order.{SomeShort, MeetsRules, InOrder, Accepts}
 use Rattle.demands.specs.OrderLaws.{audit-done}
-
--- a load accepts: the stores are long enough, the sheet reads, and the rows that it gives meet every rule
-pub record Accepts (sheet : List ℕ) (s : Stores) : Type 0 where
-  pub long : LongEnough s
-  pub reads : reading sheet (s .attributes) (s .classes) .answer ≡ Read
-  pub rules : MeetsRules (attributeTable (reading sheet (s .attributes) (s .classes) .attributes)) (classTable (reading sheet (s .attributes) (s .classes) .classes))
 
 -- ---- the answer of a reading
 
@@ -83,12 +79,36 @@ module _ (sheet : List ℕ) (s : Stores) where
 
   -- ---- refused
 
-  -- by 1, nothing is touched; by any other number, every store byte is zero
-  pub load-one : anyShort s ≡ true → load sheet s ≡ result (refused 1) s
-  load-one = load-short sheet s
+  -- "1 a lent store is shorter than its length": nothing is touched
+  pub load-one : SomeShort s → load sheet s ≡ result (refused 1) s
+  load-one e = load-short sheet s (says-true (says-short s) e)
 
+  -- by any other number, every store byte is zero
   pub load-empty : LongEnough s → ¬ (load sheet s .answer .number ≡ 0) → load sheet s .left ≡ emptied s
   load-empty h d = ap (λ (x : Result). x .left) (load-rejected sheet s (not-short s h) (λ z. d (ap (λ (x : Result). x .answer .number) (load-accepted sheet s (not-short s h) z) ∙ z)))
+
+  module _ (h : LongEnough s) where
+    told : {x : Answer} → readAnswer out ≡ x → ¬ (x .number ≡ 0) → load sheet s ≡ result x (emptied s)
+    told e d = load-rejected sheet s (not-short s h) (λ z. d (sym (number-of e) ∙ z)) ∙ ap (λ (y : Answer). result y (emptied s)) e
+
+    by-reading : {r : SheetRead} → out .answer ≡ r → readAnswer out ≡ readAnswer (sheetOut r (out .attributes) (out .classes))
+    by-reading e = ap (λ (r : SheetRead). readAnswer (sheetOut r (out .attributes) (out .classes))) e
+
+    -- "4 sheet or change unreadable; place is the byte offset"
+    pub load-unreadable : (at : ℕ) → out .answer ≡ Bad at → load sheet s ≡ result (unreadable at) (emptied s)
+    load-unreadable at e = told (by-reading e ∙ sym (read-bad (out .attributes) (out .classes) at)) (λ z. omega arith)
+
+    -- "6 no free row; at load .. with table and limit"
+    pub load-full : (table limit : ℕ) → out .answer ≡ Full table limit → load sheet s ≡ result (answer 6 table limit) (emptied s)
+    load-full table limit e = told (by-reading e ∙ sym (read-full (out .attributes) (out .classes) table limit)) (λ z. omega arith)
+
+    -- the sheet reads, and some row breaks a rule: the first that is broken, "the table and lowest row that break the rule found, attributes first". The numbers of the
+    -- rules rise (`rising`), so it is the smallest
+    pub load-rule : out .answer ≡ Read → ¬ MeetsRules (attributeTable (out .attributes)) (classTable (out .classes))
+        → FirstBroken (attributeTable (out .attributes) .count) (classTable (out .classes) .count) (schemaRules (attributeTable (out .attributes)) (classTable (out .classes))) (load sheet s .answer)
+    load-rule e d =
+        subst (FirstBroken _ _ _) (sym (ap (λ (x : Result). x .answer) (told (by-reading e ∙ sym (read-judged (out .attributes) (out .classes))) (λ z. d (judged-zero (attributeTable (out .attributes)) (classTable (out .classes)) .0 z)))))
+        (⊎-elim (λ k. absurd (d k)) (λ f. f) (judged-first (attributeTable (out .attributes)) (classTable (out .classes))))
 
   -- ---- a loaded store is in order
 

@@ -1,7 +1,6 @@
 -- Demand 2: "An accepted schema written as a sheet and loaded again is the same schema." Document 01: "Tables, sheet, tables gives the same bytes if in order;
 -- sheet, tables, sheet does if accepted and 08 stands exactly where oMSyntax is 127."
-use mathlib.Core.Path.{_≡_, sym, ap, subst, _∙_}
-use mathlib.Core.Bool.{true}
+use mathlib.Core.Path.{_≡_, refl, sym, ap, subst, _∙_}
 use mathlib.Core.List.{List}
 use Prim.Native.Nat.{ℕ, _≤_}
 use native.Mathlib.Omega.{arith}
@@ -21,13 +20,14 @@ use Rattle.tables.specs.SameLaws.{attributes-same, classes-same}
 use Rattle.rules.specs.SameLaws.{kept-same}
 use Rattle.sheet.specs.declared.read.SheetRead.the-variants.{Read}
 use Rattle.sheet.specs.Reading.{SheetOut, sheetOut}
-use Rattle.round_trip.specs.Exact.{exactSheet}
+use Rattle.round_trip.specs.ExactLaws.{ExactSheet, says-exact}
 use Rattle.round_trip.specs.SheetLaws.{written-read, read-written}
 use Rattle.keeper.specs.Load.{reading, filled, load}
-use Rattle.keeper.specs.Write.{sheetOf}
-use Rattle.demands.specs.Order.{MeetsRules, InOrder, OfBytes, moved}
+use Rattle.keeper.specs.Write.{Written, sheetOf, write}
+use Rattle.demands.specs.Order.{MeetsRules, InOrder, OfBytes, Accepts, moved}
 use Rattle.demands.specs.OrderLaws.{order-shape, order-fresh}
-use Rattle.demands.specs.LoadLaws.{Accepts, load-done}
+use Rattle.demands.specs.LoadLaws.{load-done, load-order}
+use Rattle.demands.specs.CallLaws.{write-written}
 
 -- ---- stores, sheet, stores
 
@@ -82,12 +82,26 @@ module _ (s t : Stores) (h : InOrder s) (bytes : OfBytes s) (room : LongEnough t
 pub write-load-same : (s : Stores) → InOrder s → OfBytes s → load (sheetOf s) s ≡ result (done 0 0) s
 write-load-same s h bytes = write-load s s h bytes (h .long) ∙ ap (result (done 0 0)) (moved-same s (h .long))
 
+-- ---- the same over the calls
+
+-- what a write has written, by the length that it gives back, loads again into any stores as the stores that were written
+pub write-then-load : (s t : Stores) (out : List ℕ) → InOrder s → OfBytes s → LongEnough t → length (sheetOf s) ≤ length out
+    → load (part 0 (write s out .answer .place) (write s out .output)) t ≡ result (done 0 0) (moved s t)
+write-then-load s t out h bytes room l =
+    ap (λ (w : Written). load (part 0 (w .answer .place) (w .output)) t) (write-written s out (h .long) (h .attributes, h .classes) l)
+    ∙ ap (λ (x : List ℕ). load x t) (part-splice-same 0 (sheetOf s) out (omega arith) (length (sheetOf s)) refl) ∙ write-load s t h bytes room
+
+-- "An accepted schema written as a sheet and loaded again is the same schema": whatever stores it was loaded into at first, and at last
+pub load-write-load : (sheet : List ℕ) (s t : Stores) (out : List ℕ) → Bytes sheet → Accepts sheet s → OfBytes (load sheet s .left) → LongEnough t → length (sheetOf (load sheet s .left)) ≤ length out
+    → load (part 0 (write (load sheet s .left) out .answer .place) (write (load sheet s .left) out .output)) t ≡ result (done 0 0) (moved (load sheet s .left) t)
+load-write-load sheet s t out b h bytes room l = write-then-load (load sheet s .left) t out (load-order sheet s b h) bytes room l
+
 -- ---- sheet, stores, sheet
 
-module _ (sheet : List ℕ) (s : Stores) (bytes : Bytes sheet) (exact : exactSheet sheet ≡ true) (h : Accepts sheet s) where
+module _ (sheet : List ℕ) (s : Stores) (bytes : Bytes sheet) (exact : ExactSheet sheet) (h : Accepts sheet s) where
   filled-written : sheetOf (filled (reading sheet (s .attributes) (s .classes)) s) ≡ sheet
   unfolding filled reading
-  filled-written = read-written sheet (s .attributes) (s .classes) bytes (h .long .attributes) (h .long .classes) exact (h .reads)
+  filled-written = read-written sheet (s .attributes) (s .classes) bytes (h .long .attributes) (h .long .classes) (says-exact sheet .passes exact) (h .reads)
 
   -- an accepted sheet in which 08 stands exactly where oMSyntax is 127 is the sheet of the stores that it was loaded into
   pub load-write : sheetOf (load sheet s .left) ≡ sheet

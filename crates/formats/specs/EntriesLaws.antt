@@ -10,7 +10,7 @@ use native.Mathlib.Decide.{decLt}
 use lib.ListN.{length, getD, drop, length-append, drop-of-length-le}
 use lib.Seq.{drop-cons}
 use Rattle.prelude.specs.Says.{Says}
-use Rattle.prelude.specs.SaysLaws.{says-and, says-or, says-iff, says-eq, says-le, says-lt, says-true, says-false, says-fails, says-test, says-split}
+use Rattle.prelude.specs.SaysLaws.{says-and, says-or, says-iff, says-eq, says-le, says-lt, says-true, says-false, says-fails, says-split, true-or-false}
 use Rattle.prelude.specs.BigEndian.{bigEndian, bigEndianBytes}
 use Rattle.prelude.specs.BigEndianLaws.{two-bytes, bytes-length}
 use Rattle.sets.specs.Sets.{flag, bit, member, setOf, listBelow, from, membersFrom, memberCount, isEmpty, Rises, none, more}
@@ -129,13 +129,13 @@ list-among limit {low} p (more {x = x} {xs = xs} l r) b h =
 pub members-of-set : (n : ℕ) (xs : List ℕ) → RisesBelow (n * 8) 0 xs → membersFrom 0 (setOf n (among xs)) ≡ xs
 unfolding membersFrom
 members-of-set n xs r =
-    rw (set-length n (among xs)) (list-among (n * 8) (member (setOf n (among xs))) (r .0) (r .1) (λ k l g. in-set k l (says-split (says-test (among xs k)))))
+    rw (set-length n (among xs)) (list-among (n * 8) (member (setOf n (among xs))) (r .0) (r .1) (λ k l g. in-set k l (true-or-false (among xs k))))
   where
-    in-set : (k : ℕ) → k < n * 8 → ((among xs k ≡ true) × (among xs k ≡ true)) ⊎ ((among xs k ≡ false) × ¬ (among xs k ≡ true)) → member (setOf n (among xs)) k ≡ among xs k
-    in-set k l (inl q) = says-true (says-member (setOf n (among xs)) k) (bit-set n (among xs) k l ∙ ap flag (q .0)) ∙ sym (q .0)
+    in-set : (k : ℕ) → k < n * 8 → (among xs k ≡ true) ⊎ (among xs k ≡ false) → member (setOf n (among xs)) k ≡ among xs k
+    in-set k l (inl q) = says-true (says-member (setOf n (among xs)) k) (bit-set n (among xs) k l ∙ ap flag q) ∙ sym q
     in-set k l (inr q) =
-        let z : bit (setOf n (among xs)) k ≡ 0 = bit-set n (among xs) k l ∙ ap flag (q .0) in
-        says-false (says-member (setOf n (among xs)) k) (λ o. omega arith) ∙ sym (q .0)
+        let z : bit (setOf n (among xs)) k ≡ 0 = bit-set n (among xs) k l ∙ ap flag q in
+        says-false (says-member (setOf n (among xs)) k) (λ o. omega arith) ∙ sym q
 
 -- the members of a set are its members
 members-have : (cell : List ℕ) (k : ℕ) → List·Memᴰ k (membersFrom 0 cell) ↔ (bit cell k ≡ 1)

@@ -165,7 +165,7 @@ value-cell r cell s b l f h =
       taken = says-and (says-test (possible (r .presence))) (says-accepts (r .shape) (stored (r .shape) rest)) .passes (has-possible (r .presence) cell h, accepts-stored rest rb (r .shape) (s .shape) rl holding);
       cell-is = ap (λ (x : List ℕ). lead (r .presence) ++ x) (image-stored rest rb (r .shape) (s .shape) rl holding) ∙ lead-back (r .presence) cell h (omega arith);
       bytes = stored-bytes rest rb (r .shape);
-      short = stored-short rest rb (r .shape) (s .shape) rl holding;
+      short = stored-short (r .shape) rest (s .shape) rl;
     }
 
 -- a well-formed cell without one

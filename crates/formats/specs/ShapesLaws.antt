@@ -12,7 +12,7 @@ use lib.Seq.{take-append-seam, drop-append-seam, length-take-le}
 use Rattle.prelude.specs.Says.{Says}
 use Rattle.prelude.specs.SaysLaws.{says-and, says-not, says-eq, says-le, says-lt, says-false, says-fails, says-test, says-not-test}
 use Rattle.prelude.specs.Part.{part, padded, zeros, isZero}
-use Rattle.prelude.specs.PartLaws.{part-length, part-all, part-bytes, padded-length, zeros-at, says-zero, zeros-zero, zero-zeros}
+use Rattle.prelude.specs.PartLaws.{part-length, part-all, part-bytes, padded-length, zeros-at, says-zero, zeros-zero, zero-zeros, part-short, length-nil}
 use Rattle.prelude.specs.BigEndian.{bigEndian, bigEndianBytes}
 use Rattle.prelude.specs.BigEndianLaws.{bytes-length, number-of-bytes, bytes-of-number}
 use Rattle.sets.specs.Sets.{setOf, bit, isEmpty, membersFrom}
@@ -139,6 +139,19 @@ number-bytes x zero = omega arith
 number-bytes x (suc zero) = omega arith
 number-bytes x (suc (suc i)) = omega arith
 
+-- a value has at most sixteen bytes for each byte of its cell, or two
+pub stored-bound : (shape : Shape) (cell : List ℕ) → length (stored shape cell) ≤ 2 + 16 * length cell
+unfolding stored
+stored-bound (Plain len test) cell = omega arith
+stored-bound (Number limit) cell = omega (arith, bytes-length 2 (getD cell 0 0))
+stored-bound (Counted least most) cell = omega (arith, part-short 1 (getD cell 0 0) cell .1)
+stored-bound (Arcs most) cell = omega (arith, part-short 1 (getD cell 0 0 * 4) cell .1)
+stored-bound (Entries bytes) cell = omega (arith, entry-length (membersFrom 0 cell), members-few cell)
+
+-- so the cells that there are hold short ones
+pub stored-short : (shape : Shape) (cell : List ℕ) → sound shape ≡ true → length cell ≡ room shape → length (stored shape cell) < 65536
+stored-short shape cell o l = omega (arith, stored-bound shape cell, room-small shape o)
+
 module _ (cell : List ℕ) (b : Bytes cell) where
   pub accepts-stored : (shape : Shape) → sound shape ≡ true → length cell ≡ room shape → Holds shape cell → Accepts shape (stored shape cell)
   unfolding stored room sound
@@ -158,11 +171,7 @@ module _ (cell : List ℕ) (b : Bytes cell) where
       let r : RisesBelow (bytes * 8) 0 xs = members-rise bytes cell l in
       let n : length (entryBytes xs) ≡ length xs * 2 = entry-length xs in
       let back : entries (entryBytes xs) ≡ xs = entries-of-bytes xs (λ k m. omega (arith, r .1 k m, says-le bytes 254 .holds o)) in
-      (λ z. some-entry cell h (nil-of xs (omega arith)), (omega arith, rw back r))
-    where
-      nil-of : (xs : List ℕ) → length xs ≡ 0 → xs ≡ []
-      nil-of [] e = refl
-      nil-of (x ∷ xs) e = absurd (omega arith)
+      (λ z. some-entry cell h (length-nil xs (omega arith)), (omega arith, rw back r))
 
   pub image-stored : (shape : Shape) → sound shape ≡ true → length cell ≡ room shape → Holds shape cell → image shape (stored shape cell) ≡ cell
   unfolding stored room sound image
@@ -188,17 +197,6 @@ module _ (cell : List ℕ) (b : Bytes cell) where
       let r : RisesBelow (bytes * 8) 0 xs = members-rise bytes cell l in
       let back : entries (entryBytes xs) ≡ xs = entries-of-bytes xs (λ k m. omega (arith, r .1 k m, says-le bytes 254 .holds o)) in
       rw back (set-of-members bytes cell l b)
-
-  pub stored-short : (shape : Shape) → sound shape ≡ true → length cell ≡ room shape → Holds shape cell → length (stored shape cell) < 65536
-  unfolding stored room sound
-  stored-short (Plain len test) o l h = omega (arith, says-le len 254 .holds o)
-  stored-short (Number limit) o l h = omega (arith, bytes-length 2 (getD cell 0 0))
-  stored-short (Counted least most) o l h =
-      omega (arith, part-length 1 (getD cell 0 0) cell (omega (arith, h .1 .0)), b 0)
-  stored-short (Arcs most) o l h =
-      omega (arith, part-length 1 (getD cell 0 0 * 4) cell (omega (arith, h .0)), b 0)
-  stored-short (Entries bytes) o l h =
-      omega (arith, entry-length (membersFrom 0 cell), members-few cell, says-le bytes 254 .holds o)
 
   pub stored-bytes : (shape : Shape) → Bytes (stored shape cell)
   unfolding stored

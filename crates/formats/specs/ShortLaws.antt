@@ -5,32 +5,19 @@ use mathlib.Core.Logic.{_⊎_, inl, inr}
 use mathlib.Core.List.{List, [], _∷_}
 use Prim.Native.Nat.{ℕ, _+_, _*_, _≤_, _<_}
 use native.Mathlib.Omega.{arith}
-use lib.ListN.{length, getD, drop, length-append, length-drop}
+use lib.ListN.{length, drop, length-append, length-drop}
+use Rattle.formats.specs.ShapesLaws.{stored-bound}
 use Rattle.prelude.specs.Part.{part}
 use Rattle.prelude.specs.PartLaws.{part-short}
-use Rattle.prelude.specs.SaysLaws.{says-split, says-test}
-use Rattle.prelude.specs.BigEndianLaws.{bytes-length}
-use Rattle.sets.specs.Sets.{membersFrom}
+use Rattle.prelude.specs.SaysLaws.{true-or-false}
 use Rattle.wire.specs.WireLaws.{field-length}
-use Rattle.formats.specs.declared.shape.Shape.{Shape}
-use Rattle.formats.specs.declared.shape.Shape.the-variants.{Plain, Number, Counted, Arcs, Entries}
 use Rattle.formats.specs.declared.shape.Rule.{Rule}
 use Rattle.formats.specs.declared.table.Kind.{Kind}
 use Rattle.formats.specs.declared.table.Kind.the-variants.{Attribute, Class, NewAttribute, NewClass, Range, Name, Target, Entry}
-use Rattle.formats.specs.EntriesLaws.{entry-length, members-few}
-use Rattle.formats.specs.Shapes.{stored}
 use Rattle.formats.specs.Rules.{mark, width, cellAt, hasValue, valueOf, fieldOf, writeBy}
 use Rattle.formats.specs.RulesLaws.{field-none, field-some, laid, laid-cons, laid-le}
 use Rattle.formats.specs.Formats.{formatOf, widthOf}
 use Rattle.formats.specs.FormatsLaws.{kind-laid, kind-few}
-
-stored-bound : (shape : Shape) (cell : List ℕ) → length (stored shape cell) ≤ 2 + 16 * length cell
-unfolding stored
-stored-bound (Plain len test) cell = omega arith
-stored-bound (Number limit) cell = omega (arith, bytes-length 2 (getD cell 0 0))
-stored-bound (Counted least most) cell = omega (arith, part-short 1 (getD cell 0 0) cell .1)
-stored-bound (Arcs most) cell = omega (arith, part-short 1 (getD cell 0 0 * 4) cell .1)
-stored-bound (Entries bytes) cell = omega (arith, entry-length (membersFrom 0 cell), members-few cell)
 
 value-bound : (r : Rule) (row : List ℕ) → length (valueOf r (cellAt r row)) ≤ 2 + 16 * width r
 unfolding valueOf cellAt
@@ -38,15 +25,15 @@ value-bound r row =
     let cell : List ℕ = part (r .at) (width r) row in
     omega (arith, stored-bound (r .shape) (drop (mark (r .presence)) cell), length-drop (mark (r .presence)) cell, part-short (r .at) (width r) row .0)
 
-field-bound : (r : Rule) (row : List ℕ) → length (fieldOf r row) ≤ 5 + 16 * width r
-field-bound r row = go (says-split (says-test has))
+pub field-bound : (r : Rule) (row : List ℕ) → length (fieldOf r row) ≤ 5 + 16 * width r
+field-bound r row = go (true-or-false has)
   where
     has : Bool
     has = hasValue (r .presence) (cellAt r row)
 
-    go : ((has ≡ true) × (has ≡ true)) ⊎ ((has ≡ false) × ¬ (has ≡ true)) → length (fieldOf r row) ≤ 5 + 16 * width r
-    go (inl q) = omega (arith, ap length (field-some r row (q .0)), field-length (r .tag) (valueOf r (cellAt r row)), value-bound r row)
-    go (inr q) = omega (arith, ap length (field-none r row (q .0)))
+    go : (has ≡ true) ⊎ (has ≡ false) → length (fieldOf r row) ≤ 5 + 16 * width r
+    go (inl q) = omega (arith, ap length (field-some r row q), field-length (r .tag) (valueOf r (cellAt r row)), value-bound r row)
+    go (inr q) = omega (arith, ap length (field-none r row q))
 
 table-bound : (rules : List Rule) (row : List ℕ) (o n : ℕ) → laid rules o n ≡ true → length (writeBy rules row) + 16 * o ≤ 5 * length rules + 16 * n
 unfolding writeBy

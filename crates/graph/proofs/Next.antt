@@ -6,7 +6,7 @@ use Prim.Native.Nat.{ℕ, _<_}
 use native.Mathlib.Omega.{arith}
 use Rattle.prelude.specs.Below.{anyBelow, firstBelow}
 use Rattle.prelude.specs.BelowLaws.{any-here, any-false, any-none, first-found, first-some}
-use Rattle.prelude.specs.SaysLaws.{says-split, says-test}
+use Rattle.prelude.specs.SaysLaws.{true-or-false}
 use Rattle.schema.specs.declared.number.ClassNumber.{ClassNumber}
 use Rattle.graph.specs.declared.reach.NextClass.the-variants.{Class, Nothing}
 use Rattle.graph.specs.Visit.{firstClass}
@@ -29,20 +29,20 @@ module _ (n : ℕ) (p : ℕ → Bool) where
 
   pub class-is : (d : ClassNumber) → Class d ≡ firstClass n p → Found (d .0)
   unfolding firstClass
-  class-is d e = go (says-split (says-test (anyBelow n p)))
+  class-is d e = go (true-or-false (anyBelow n p))
     where
-      go : ((anyBelow n p ≡ true) × (anyBelow n p ≡ true)) ⊎ ((anyBelow n p ≡ false) × ¬ (anyBelow n p ≡ true)) → Found (d .0)
+      go : (anyBelow n p ≡ true) ⊎ (anyBelow n p ≡ false) → Found (d .0)
       go (inl q) =
-          let s = first-some p n (q .0) in
-          let same : d ≡ record { 0 = firstBelow n p } = cc (q .0) in
+          let s = first-some p n q in
+          let same : d ≡ record { 0 = firstBelow n p } = cc q in
           let number : d .0 ≡ firstBelow n p = ap (λ (c : ClassNumber). c .0) same in
           record { within = rw number (s .0); passes = rw number (s .1); before = rw number (s .2) }
-      go (inr q) = let no : _≡_ {A = ℕ} 0 1 = cc (q .0) in absurd (omega arith)
+      go (inr q) = let no : _≡_ {A = ℕ} 0 1 = cc q in absurd (omega arith)
 
   pub none-is : Nothing ≡ firstClass n p → (k : ℕ) → k < n → p k ≡ false
   unfolding firstClass
-  none-is e = go (says-split (says-test (anyBelow n p)))
+  none-is e = go (true-or-false (anyBelow n p))
     where
-      go : ((anyBelow n p ≡ true) × (anyBelow n p ≡ true)) ⊎ ((anyBelow n p ≡ false) × ¬ (anyBelow n p ≡ true)) → (k : ℕ) → k < n → p k ≡ false
-      go (inl q) = let no : _≡_ {A = ℕ} 0 1 = cc (q .0) in absurd (omega arith)
-      go (inr q) = any-none p n (q .0)
+      go : (anyBelow n p ≡ true) ⊎ (anyBelow n p ≡ false) → (k : ℕ) → k < n → p k ≡ false
+      go (inl q) = let no : _≡_ {A = ℕ} 0 1 = cc q in absurd (omega arith)
+      go (inr q) = any-none p n q

@@ -4,7 +4,7 @@ use mathlib.Core.Bool.{Bool, true, false, true≢false}
 use mathlib.Core.Logic.{_⊎_, inl, inr, ⊎-elim}
 use Prim.Native.Nat.{ℕ, _<_}
 use Rattle.prelude.specs.Says.{Says}
-use Rattle.prelude.specs.SaysLaws.{says-and, says-test, says-split, says-false, says-not-test}
+use Rattle.prelude.specs.SaysLaws.{says-and, says-test, says-false, says-not-test, true-or-false}
 use Rattle.graph.specs.Walk.{Reach, here, step}
 use Rattle.graph.specs.WalkLaws.{one, join, widen}
 use Rattle.graph.specs.Graph.{Edge, Reaches}
@@ -80,18 +80,15 @@ module _ (n : ℕ) (e : ℕ → ℕ → Bool) where
   abbrev pub Closed : Set → Set → Type 0
   Closed s r = (y z : ℕ) → r y ≡ true → s y ≡ false → e y z ≡ true → z < n → r z ≡ true
 
-  seen-or-not : (s : Set) (k : ℕ) → (s k ≡ true) ⊎ (s k ≡ false)
-  seen-or-not s k = ⊎-elim (λ q. inl (q .0)) (λ q. inr (q .0)) (says-split (says-test (s k)))
-
   pub added-closed : {s u : Set} {P : ℕ → Type 0} → Added s u P → Closed s u
-  added-closed {s} {u} {P} a y z h w q l = ⊎-elim (λ k. absurd (true≢false (sym k ∙ w))) (λ p. next p (seen-or-not s z)) (a .to y h)
+  added-closed {s} {u} {P} a y z h w q l = ⊎-elim (λ k. absurd (true≢false (sym k ∙ w))) (λ p. next p (true-or-false (s z))) (a .to y h)
     where
       next : P y → (s z ≡ true) ⊎ (s z ≡ false) → u z ≡ true
       next p (inl k) = a .keep z k
       next p (inr v) = a .new z (a .on y z p q l v)
 
   pub closed-then : {s u r : Set} → Closed s u → Closed u r → ((k : ℕ) → u k ≡ true → r k ≡ true) → Closed s r
-  closed-then {s} {u} {r} a b keep y z h w q l = ⊎-elim (λ k. keep z (a y z k w q l)) (λ v. b y z h v q l) (seen-or-not u y)
+  closed-then {s} {u} {r} a b keep y z h w q l = ⊎-elim (λ k. keep z (a y z k w q l)) (λ v. b y z h v q l) (true-or-false (u y))
 
   -- a closed set that has c has all that c reaches past s
   pub closed-reach : {s r : Set} → Closed s r → {c x : ℕ} → r c ≡ true → Reach (Edge n (avoiding s e)) c x → r x ≡ true
@@ -102,7 +99,7 @@ module _ (n : ℕ) (e : ℕ → ℕ → Bool) where
 
   -- what is visited is new, or was visited before
   pub found : {u r : Set} {P : ℕ → Type 0} → Added u r P → (d : ℕ) → d < n → (u d ≡ false → P d) → r d ≡ true
-  found {u} a d l p = ⊎-elim (λ k. a .keep d k) (λ v. a .new d (p v)) (seen-or-not u d)
+  found {u} a d l p = ⊎-elim (λ k. a .keep d k) (λ v. a .new d (p v)) (true-or-false (u d))
 
   pub past-added : {s u : Set} (c : ℕ) → ((k : ℕ) → Says (u k) ((s k ≡ true) ⊎ Past s c k)) → Added s u (Past s c)
   past-added {s} c h = record { to = λ k. h k .holds; keep = λ k q. h k .passes (inl q); new = λ k p. h k .passes (inr p); on = λ y z p q l v. past-on s c y z p q l v }
@@ -131,7 +128,7 @@ module _ (n : ℕ) (e : ℕ → ℕ → Bool) where
     r-c = beside .keep c (above .keep c (marked c .passes (inr refl)))
 
     closed : Closed s r
-    closed y z h w q l = ⊎-elim (λ v. at-c z (marked y .holds v) q l) (λ v. closed-then (added-closed above) (added-closed beside) (beside .keep) y z h v q l) (seen-or-not m y)
+    closed y z h w q l = ⊎-elim (λ v. at-c z (marked y .holds v) q l) (λ v. closed-then (added-closed above) (added-closed beside) (beside .keep) y z h v q l) (true-or-false (m y))
       where
         at-c : (z : ℕ) → (s y ≡ true) ⊎ (y ≡ c) → e y z ≡ true → z < n → r z ≡ true
         at-c z (inl k) q l = absurd (true≢false (sym k ∙ w))

@@ -9,7 +9,7 @@ use native.Mathlib.Decide.{ℕ-discrete, decLt}
 use lib.Dec.{eqb}
 use lib.ListN.{length, length-append}
 use Rattle.prelude.specs.Says.{Says}
-use Rattle.prelude.specs.SaysLaws.{says-and, says-or, says-not, says-eq, says-test, says-iff, says-same, says-split, says-true, says-false}
+use Rattle.prelude.specs.SaysLaws.{says-and, says-or, says-not, says-eq, says-test, says-iff, says-same, says-true, says-false, true-or-false}
 use Rattle.prelude.specs.Below.{anyBelow}
 use Rattle.prelude.specs.BelowLaws.{says-any, any-false}
 use Rattle.prelude.specs.Part.{sameBytes}
@@ -122,35 +122,26 @@ module _ (t : Table) (k : ℕ) (new : List ℕ) where
 -- ---- nothing that the graph sees is touched
 
 module _ (t : Table) (k : ℕ) (new : List ℕ) where
-  same-mandatory : mandatoryOf new ≡ mandatoryOf (t .row k) → (x b : ℕ) → x < t .count → listsMandatory t x b ≡ listsMandatory (withRow t k new) x b
-  unfolding listsMandatory
-  same-mandatory q x b l = go (ℕ-discrete x k)
+  -- a test of row k that the change leaves as it is, it leaves in every row
+  same-by : (by : List ℕ → Bool) → by new ≡ by (t .row k) → (x : ℕ) → by (t .row x) ≡ by (withRow t k new .row x)
+  same-by by q x = go (ℕ-discrete x k)
     where
-      go : Dec (x ≡ k) → member (mandatoryOf (t .row x)) b ≡ member (mandatoryOf (withRow t k new .row x)) b
+      go : Dec (x ≡ k) → by (t .row x) ≡ by (withRow t k new .row x)
       go (yes e) = rw (with-same t k new x e, q, e)
       go (no d) = rw (with-other t k new x d)
 
+  same-mandatory : mandatoryOf new ≡ mandatoryOf (t .row k) → (x b : ℕ) → x < t .count → listsMandatory t x b ≡ listsMandatory (withRow t k new) x b
+  unfolding listsMandatory
+  same-mandatory q x b l = same-by (λ r. member (mandatoryOf r) b) (rw q) x
+
   same-names : SameNames (t .row k) new → (x y : ℕ) → x < t .count → y < t .count → names t x y ≡ names (withRow t k new) x y
   unfolding names auxiliary
-  same-names q x y l m = go (ℕ-discrete x k)
-    where
-      by : List ℕ → Bool
-      by r = eqb (superclassOf r) y || (member (fixedAuxiliaryOf r) y || member (openAuxiliaryOf r) y)
-
-      go : Dec (x ≡ k) → by (t .row x) ≡ by (withRow t k new .row x)
-      go (yes e) = rw (with-same t k new x e, q .superclass, q .fixedAuxiliary, q .openAuxiliary, e)
-      go (no d) = rw (with-other t k new x d)
+  same-names q x y l m =
+      same-by (λ r. eqb (superclassOf r) y || (member (fixedAuxiliaryOf r) y || member (openAuxiliaryOf r) y)) (rw (q .superclass, q .fixedAuxiliary, q .openAuxiliary)) x
 
   same-optional : SameLists (t .row k) new → (x b : ℕ) → x < t .count → listsOptional t x b ≡ listsOptional (withRow t k new) x b
   unfolding listsOptional
-  same-optional q x b l = go (ℕ-discrete x k)
-    where
-      by : List ℕ → Bool
-      by r = member (fixedOptionalOf r) b || member (openOptionalOf r) b
-
-      go : Dec (x ≡ k) → by (t .row x) ≡ by (withRow t k new .row x)
-      go (yes e) = rw (with-same t k new x e, q .fixedOptional, q .openOptional, e)
-      go (no d) = rw (with-other t k new x d)
+  same-optional q x b l = same-by (λ r. member (fixedOptionalOf r) b || member (openOptionalOf r) b) (rw (q .fixedOptional, q .openOptional)) x
 
   -- the closure is as it was
   pub closure-untouched : SameNames (t .row k) new → SameLists (t .row k) new → (c : ℕ) → closureRow (withRow t k new) c ≡ closureRow t c
@@ -216,16 +207,16 @@ module _ (t : Table) (k a : ℕ) (new : List ℕ) (present : k < t .count) (ther
       ∙ collect-joined (t .count) (names t) (names (withRow t k new)) k a grown (listsOptional t) c b
 
   pub closure-joined : (c : ℕ) → closureRow (withRow t k new) c ≡ cond (reaches t c k) (union (closureRow t c) (closureRow t a)) (closureRow t c)
-  closure-joined c = go (says-split (says-test (reaches t c k)))
+  closure-joined c = go (true-or-false (reaches t c k))
     where
-      go : ((reaches t c k ≡ true) × (reaches t c k ≡ true)) ⊎ ((reaches t c k ≡ false) × ¬ (reaches t c k ≡ true))
+      go : (reaches t c k ≡ true) ⊎ (reaches t c k ≡ false)
           → closureRow (withRow t k new) c ≡ cond (reaches t c k) (union (closureRow t c) (closureRow t a)) (closureRow t c)
       go (inl q) =
-          rw (q .0)
-          (row-union t (withRow t k new) c a (λ x. reach-more c x ∙ ap (λ (b : Bool). reaches t c x || (b && reaches t a x)) (q .0))
-          (λ b. demand-more c b ∙ ap (λ (r : Bool). demands t c b || (r && demands t a b)) (q .0))
-          (λ b. allow-more c b ∙ ap (λ (r : Bool). allows t c b || (r && allows t a b)) (q .0)))
-      go (inr q) = rw (q .0) (closure-kept t k new c (q .0))
+          rw q
+          (row-union t (withRow t k new) c a (λ x. reach-more c x ∙ ap (λ (b : Bool). reaches t c x || (b && reaches t a x)) q)
+          (λ b. demand-more c b ∙ ap (λ (r : Bool). demands t c b || (r && demands t a b)) q)
+          (λ b. allow-more c b ∙ ap (λ (r : Bool). allows t c b || (r && allows t a b)) q))
+      go (inr q) = rw q (closure-kept t k new c q)
 
   -- Rule 30 for an added auxiliary: its mandatory set is not within the target's
   pub rule30-joined : mandatoryDiffers t (withRow t k new) ≡ not (subset (demandedSet t a) (demandedSet t k))

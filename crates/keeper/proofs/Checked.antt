@@ -9,8 +9,8 @@ use Rattle.shape.specs.ShapeLaws.{says-formed, formed-shaped, formed-readable}
 use Rattle.sheet_write.specs.Writing.{Writable}
 use Rattle.tables.specs.Shaped.{Shaped}
 use Rattle.graph.specs.Graph.{Readable}
-use Rattle.keeper.specs.Answering.{firstAnswer, AllPass, shapeAnswers}
-use Rattle.keeper.specs.AnsweringLaws.{first-refused, first-passed, zero-iff-pass, append-passed, append-refused, InShape, shape-passed}
+use Rattle.keeper.specs.Answering.{firstAnswer, NoneRefuses, shapeAnswers, InShape}
+use Rattle.keeper.specs.AnsweringLaws.{first-refused, first-passed, zero-iff-pass, append-passed, append-refused, shape-passed}
 
 -- the same number
 number-is : {a b : Answer} → a ≡ b → b .number ≡ 0 → a .number ≡ 0
@@ -33,7 +33,7 @@ module _ (s : Stores) {r : Answer} (is : r ≡ firstAnswer (shapeAnswers s) (don
   shape-refused rest last d = is ∙ sym (append-refused (shapeAnswers s) rest (done 0 0) last refl (λ z. d (number-is is z)))
 
   module _ (z : r .number ≡ 0) where
-    passed : AllPass (shapeAnswers s)
+    passed : NoneRefuses (shapeAnswers s)
     passed = zero-iff-pass (shapeAnswers s) (done 0 0) refl .0 (number-is (sym is) z)
 
     pub in-shape : InShape s

@@ -1,11 +1,11 @@
 -- How a call finds its answer. Document 01: "The smallest number whose condition holds. Every answer has a number, a table .. and a place; what is not
 -- named below is 0." Each call has a list of answers in the order of their numbers; the first that refuses is given.
 use mathlib.Core.Path.{_≡_}
-use mathlib.Core.Bool.{Bool, cond, not}
+use mathlib.Core.Bool.{Bool, true, cond, not}
 use mathlib.Core.List.{List, [], _∷_}
 use Prim.Native.Nat.{ℕ}
 use lib.Dec.{eqb}
-use Rattle.schema.specs.Store.{Stores, anyShort}
+use Rattle.schema.specs.Store.{Stores, LongEnough, anyShort}
 use Rattle.schema.specs.declared.answer.Answer.{Answer}
 use Rattle.schema.specs.Answers.{done, refused}
 use Rattle.shape.specs.Shape.{formed}
@@ -24,10 +24,15 @@ firstAnswer [] last = last
 firstAnswer (a ∷ answers) last = cond (eqb (a .number) 0) (firstAnswer answers last) a
 
 -- none of them refuses
-abbrev pub AllPass : List Answer → Type 0
-AllPass [] = Unit {0}
-AllPass (a ∷ answers) = (a .number ≡ 0) × AllPass answers
+abbrev pub NoneRefuses : List Answer → Type 0
+NoneRefuses [] = Unit {0}
+NoneRefuses (a ∷ answers) = (a .number ≡ 0) × NoneRefuses answers
 
 -- what every call but load asks of its stores: "1 a lent store is shorter than its length", "2 shape broken (not at load)"
 abbrev pub shapeAnswers : Stores → List Answer
 shapeAnswers s = refusedIf 1 (anyShort s) ∷ refusedIf 2 (not (formed (s .attributes) (s .classes))) ∷ []
+
+-- every store has its length, and the shape is not broken
+pub record InShape (s : Stores) : Type 0 where
+  pub long : LongEnough s
+  pub formed : formed (s .attributes) (s .classes) ≡ true

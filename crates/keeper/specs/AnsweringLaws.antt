@@ -3,15 +3,16 @@ use mathlib.Core.Path.{_≡_, refl, sym, ap, _∙_}
 use mathlib.Core.Bool.{Bool, true, false, not}
 use mathlib.Core.Logic.{_↔_, _⊎_, inl, inr, ⊎-elim}
 use mathlib.Core.List.{List, [], _∷_, _++_}
-use Prim.Native.Nat.{ℕ, _<_}
+use Prim.Native.Nat.{_<_}
 use native.Mathlib.Omega.{arith}
+use borrow.Author.Tests.{not-false}
 use Rattle.prelude.specs.SaysLaws.{says-eq, says-true, says-false, says-split}
 use Rattle.schema.specs.Store.{Stores, LongEnough, anyShort}
 use Rattle.schema.specs.StoreLaws.{says-short, long-enough}
 use Rattle.schema.specs.declared.answer.Answer.{Answer}
 use Rattle.schema.specs.Answers.{done, refused}
 use Rattle.shape.specs.Shape.{formed}
-use Rattle.keeper.specs.Answering.{answerIf, firstAnswer, AllPass, shapeAnswers}
+use Rattle.keeper.specs.Answering.{answerIf, firstAnswer, NoneRefuses, shapeAnswers, InShape}
 
 -- ---- one answer, for a function that tests one after the other
 
@@ -55,15 +56,15 @@ module _ {b : Bool} (a : Answer) (answers : List Answer) (last : Answer) where
 
 -- ---- what the answer is
 
-pub passed-last : (answers : List Answer) (last : Answer) → AllPass answers → firstAnswer answers last ≡ last
+pub passed-last : (answers : List Answer) (last : Answer) → NoneRefuses answers → firstAnswer answers last ≡ last
 passed-last [] last h = first-last last
 passed-last (a ∷ answers) last h = first-passed a answers last (h .0) ∙ passed-last answers last (h .1)
 
 -- 0 is given exactly where no answer refuses
-pub zero-iff-pass : (answers : List Answer) (last : Answer) → last .number ≡ 0 → (firstAnswer answers last .number ≡ 0) ↔ AllPass answers
+pub zero-iff-pass : (answers : List Answer) (last : Answer) → last .number ≡ 0 → (firstAnswer answers last .number ≡ 0) ↔ NoneRefuses answers
 zero-iff-pass answers last z = (passes answers, λ h. ap (λ (x : Answer). x .number) (passed-last answers last h) ∙ z)
   where
-    passes : (answers : List Answer) → firstAnswer answers last .number ≡ 0 → AllPass answers
+    passes : (answers : List Answer) → firstAnswer answers last .number ≡ 0 → NoneRefuses answers
     passes [] e = tt
     passes (a ∷ answers) e =
         ⊎-elim (λ d. absurd (d (sym (ap (λ (x : Answer). x .number) (first-refused a answers last d)) ∙ e)))
@@ -71,7 +72,7 @@ zero-iff-pass answers last z = (passes answers, λ h. ap (λ (x : Answer). x .nu
 
 -- ---- two lists one after the other: a group of answers that a function of its own finds
 
-pub append-passed : (p q : List Answer) (last : Answer) → AllPass p → firstAnswer (p ++ q) last ≡ firstAnswer q last
+pub append-passed : (p q : List Answer) (last : Answer) → NoneRefuses p → firstAnswer (p ++ q) last ≡ firstAnswer q last
 append-passed [] q last h = refl
 append-passed (a ∷ p) q last h = first-passed a (p ++ q) last (h .0) ∙ append-passed p q last (h .1)
 
@@ -83,16 +84,7 @@ append-refused (a ∷ p) q middle last z d =
 
 -- ---- stores in shape
 
--- every store has its length, and the shape is not broken
-pub record InShape (s : Stores) : Type 0 where
-  pub long : LongEnough s
-  pub formed : formed (s .attributes) (s .classes) ≡ true
-
-pub not-false : (b : Bool) → not b ≡ false → b ≡ true
-not-false true e = refl
-not-false false e = absurd (let no : _≡_ {A = ℕ} 0 1 = cc in omega arith)
-
-pub shape-passed : (s : Stores) → AllPass (shapeAnswers s) → InShape s
+pub shape-passed : (s : Stores) → NoneRefuses (shapeAnswers s) → InShape s
 shape-passed s h =
     record {
       long = long-enough s (if-passed (anyShort s) (refused 1) (omega arith) (h .0));
@@ -104,7 +96,7 @@ pub not-short : (s : Stores) → LongEnough s → anyShort s ≡ false
 not-short s h =
     says-false (says-short s) (⊎-elim (λ l. omega (arith, h .attributes)) (⊎-elim (λ l. omega (arith, h .classes)) (λ l. omega (arith, h .closure))))
 
-pub passed-shape : (s : Stores) → InShape s → AllPass (shapeAnswers s)
+pub passed-shape : (s : Stores) → InShape s → NoneRefuses (shapeAnswers s)
 passed-shape s h = (
   ap (λ (x : Answer). x .number) (if-fails (anyShort s) (refused 1) (not-short s (h .long))),
   (ap (λ (x : Answer). x .number) (if-fails (not (formed (s .attributes) (s .classes))) (refused 2) (ap not (h .formed))), tt),

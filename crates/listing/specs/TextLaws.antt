@@ -10,8 +10,7 @@ use lib.ListN.{length, getD, drop, length-append, List·getD-append}
 use lib.Seq.{getD-at}
 use borrow.Author.Tests.{lt-ltb, le-ltb}
 use Rattle.prelude.specs.Part.{splice}
-use Rattle.prelude.specs.SpliceLaws.{splice-length, splice-none}
-use Rattle.rows_write.specs.WritingLaws.{write-turn}
+use Rattle.prelude.specs.SpliceLaws.{splice-length, splice-none, write-turn}
 use Rattle.listing.specs.Text.{digitsWithin, decimal, value, word, Written}
 
 -- ---- one digit, and the digits before the last

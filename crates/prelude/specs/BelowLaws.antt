@@ -8,7 +8,7 @@ use native.Mathlib.Omega.{arith}
 use native.Mathlib.Decide.{ℕ-discrete}
 use lib.Dec.{ltb}
 use Rattle.prelude.specs.Says.{Says}
-use Rattle.prelude.specs.SaysLaws.{says-and, says-or, says-iff, says-split, says-true, says-false, says-fails, says-lt, says-test}
+use Rattle.prelude.specs.SaysLaws.{says-and, says-or, says-iff, says-true, says-false, says-fails, says-lt, says-test, true-or-false}
 use Rattle.prelude.specs.Below.{anyBelow, allBelow, firstBelow, Some}
 
 -- the last number below suc n, or one below n
@@ -121,13 +121,13 @@ module _ (p : ℕ → Bool) where
   least : (n : ℕ) → anyBelow n p ≡ true → Some n (λ k. (p k ≡ true) × (anyBelow k p ≡ false))
   unfolding anyBelow
   least zero e = absurd (true≢false (sym e))
-  least (suc n) e = go (least n) (says-split (says-test (anyBelow n p)))
+  least (suc n) e = go (least n) (true-or-false (anyBelow n p))
     where
       go : (anyBelow n p ≡ true → Some n (λ k. (p k ≡ true) × (anyBelow k p ≡ false)))
-          → ((anyBelow n p ≡ true) × (anyBelow n p ≡ true)) ⊎ ((anyBelow n p ≡ false) × ¬ (anyBelow n p ≡ true))
+          → (anyBelow n p ≡ true) ⊎ (anyBelow n p ≡ false)
           → Some (suc n) (λ k. (p k ≡ true) × (anyBelow k p ≡ false))
-      go ih (inl q) = record { at = ih (q .0) .at; below = omega (arith, ih (q .0) .below); is = ih (q .0) .is }
-      go ih (inr q) = record { at = n; below = omega arith; is = (sym (rw (q .0) at (sym e)), q .0) }
+      go ih (inl q) = record { at = ih q .at; below = omega (arith, ih q .below); is = ih q .is }
+      go ih (inr q) = record { at = n; below = omega arith; is = (sym (rw q at (sym e)), q) }
 
   -- what the first is, where some number passes
   pub first-some : (n : ℕ) → anyBelow n p ≡ true → (firstBelow n p < n) × (p (firstBelow n p) ≡ true) × ((k : ℕ) → k < firstBelow n p → p k ≡ false)
@@ -138,9 +138,9 @@ module _ (p : ℕ → Bool) where
   -- the test whether there is one
   pub first-any : (n : ℕ) → ltb (firstBelow n p) n ≡ anyBelow n p
   first-any n = ⊎-elim
-      (λ q. says-true (says-lt (firstBelow n p) n) (first-some n (q .0) .0) ∙ sym (q .0))
-      (λ q. says-false (says-lt (firstBelow n p) n) (λ l. omega (arith, first-absent n (q .0))) ∙ sym (q .0))
-      (says-split (says-test (anyBelow n p)))
+      (λ q. says-true (says-lt (firstBelow n p) n) (first-some n q .0) ∙ sym q)
+      (λ q. says-false (says-lt (firstBelow n p) n) (λ l. omega (arith, first-absent n q)) ∙ sym q)
+      (true-or-false (anyBelow n p))
 
 -- ---- two tests
 
@@ -162,7 +162,7 @@ all-cong (suc n) p q h = rw (all-cong n p q (λ k l. h k (omega arith)), h n (om
 
 -- only t can pass: what a change of one row leaves to be looked at
 pub any-one : (n t : ℕ) (p : ℕ → Bool) → t < n → ((k : ℕ) → k < n → (k ≡ t → ⊥) → p k ≡ false) → anyBelow n p ≡ p t
-any-one n t p l h = ⊎-elim (λ q. any-here p t n l (q .0) ∙ sym (q .0)) (λ q. any-false p n (λ k m. other (q .0) k m (ℕ-discrete k t)) ∙ sym (q .0)) (says-split (says-test (p t)))
+any-one n t p l h = ⊎-elim (λ q. any-here p t n l q ∙ sym q) (λ q. any-false p n (λ k m. other q k m (ℕ-discrete k t)) ∙ sym q) (true-or-false (p t))
   where
     other : p t ≡ false → (k : ℕ) → k < n → Dec (k ≡ t) → p k ≡ false
     other e k m (yes q) = ap p q ∙ e

@@ -5,7 +5,7 @@ use mathlib.Core.Logic.{_⊎_, inl, inr, ⊎-elim, _↔_}
 use mathlib.Core.List.{List, [], _∷_, _++_}
 use Prim.Native.Nat.{ℕ, _≤_, _<_}
 use native.Mathlib.Omega.{arith}
-use Rattle.prelude.specs.SaysLaws.{says-split, says-test}
+use Rattle.prelude.specs.SaysLaws.{true-or-false}
 use Rattle.prelude.specs.First.{Case, firstOf, NoneHolds, FirstHolds, Among, NonZero, Rising}
 
 -- ---- one case, for a function that tests one after the other
@@ -22,13 +22,9 @@ pub first-miss : (c : Case) (cs : List Case) → c .holds ≡ false → firstOf 
 unfolding firstOf
 first-miss c cs e = rw e
 
--- a case that holds or not, with its value
-holds-or-not : (c : Case) → (c .holds ≡ true) ⊎ (c .holds ≡ false)
-holds-or-not c = ⊎-elim (λ q. inl (q .0)) (λ q. inr (q .0)) (says-split (says-test (c .holds)))
-
 -- two lists that begin alike: the rest is compared only where the first condition does not hold
 pub first-rest : (c : Case) (cs ds : List Case) → (c .holds ≡ false → firstOf cs ≡ firstOf ds) → firstOf (c ∷ cs) ≡ firstOf (c ∷ ds)
-first-rest c cs ds h = ⊎-elim (λ e. first-hit c cs e ∙ sym (first-hit c ds e)) (λ e. first-miss c cs e ∙ h e ∙ sym (first-miss c ds e)) (holds-or-not c)
+first-rest c cs ds h = ⊎-elim (λ e. first-hit c cs e ∙ sym (first-hit c ds e)) (λ e. first-miss c cs e ∙ h e ∙ sym (first-miss c ds e)) (true-or-false (c .holds))
 
 -- ---- what the answer is
 
@@ -44,7 +40,7 @@ none-zero (c ∷ cs) h = first-miss c cs (h .0) ∙ none-zero cs (h .1)
 -- some condition holds first, or none does
 pub first-or-none : (cs : List Case) → FirstHolds (firstOf cs) cs ⊎ NoneHolds cs
 first-or-none [] = inr tt
-first-or-none (c ∷ cs) = go (first-or-none cs) (holds-or-not c)
+first-or-none (c ∷ cs) = go (first-or-none cs) (true-or-false (c .holds))
   where
     go : FirstHolds (firstOf cs) cs ⊎ NoneHolds cs → (c .holds ≡ true) ⊎ (c .holds ≡ false) → FirstHolds (firstOf (c ∷ cs)) (c ∷ cs) ⊎ NoneHolds (c ∷ cs)
     go d (inl e) = inl (FirstHolds.here e (sym (first-hit c cs e)))
@@ -79,7 +75,7 @@ rising-nonzero m (c ∷ cs) r = (omega (arith, r .0), rising-nonzero (c .number)
 
 pub first-least : (m n : ℕ) (cs : List Case) → Rising m cs → Among n cs → firstOf cs ≤ n
 first-least m n (c ∷ cs) r (Among.here e q) = omega (arith, first-hit c cs e)
-first-least m n (c ∷ cs) r (Among.there a) = go (first-least (c .number) n cs (r .1) a) (holds-or-not c)
+first-least m n (c ∷ cs) r (Among.there a) = go (first-least (c .number) n cs (r .1) a) (true-or-false (c .holds))
   where
     go : firstOf cs ≤ n → (c .holds ≡ true) ⊎ (c .holds ≡ false) → firstOf (c ∷ cs) ≤ n
     go ih (inl e) = omega (arith, first-hit c cs e, among-above (c .number) cs (r .1) a)

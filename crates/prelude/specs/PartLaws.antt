@@ -7,12 +7,17 @@ use native.Mathlib.Omega.{arith}
 use native.Mathlib.Numerals.{add-one}
 use native.Mathlib.Nat.{mul-le-mul-left}
 use native.Mathlib.Decide.{decLt}
-use lib.ListN.{length, take, drop, getD, length-append, length-take, length-drop, length-replicate, List·getD-eq-default}
+use lib.ListN.{length, take, drop, getD, length-append, length-take, length-drop, length-replicate, List·getD-eq-default, replicate-append-replicate}
 use lib.Seq.{drop-at, drop-drop, take-take, take-append-seam, take-add, take-all, getD-take, getD-drop, drop-cons, take-suc, ext-getD}
 use Rattle.prelude.specs.Says.{Says}
 use Rattle.prelude.specs.SaysLaws.{says-iff, says-and, says-eq}
 use Rattle.prelude.specs.BelowLaws.{says-all}
 use Rattle.prelude.specs.Part.{part, rowAt, zeros, padded, isZero, sameBytes}
+
+-- no bytes
+pub length-nil : (s : List ℕ) → length s ≡ 0 → s ≡ []
+length-nil [] e = refl
+length-nil (x ∷ s) e = absurd (omega arith)
 
 -- ---- a part
 
@@ -118,6 +123,17 @@ unfolding zeros
 zeros-at zero i = refl
 zeros-at (suc n) zero = refl
 zeros-at (suc n) (suc i) = zeros-at n i
+
+pub zeros-add : (m n : ℕ) → zeros (m + n) ≡ zeros m ++ zeros n
+unfolding zeros
+zeros-add m n = sym (replicate-append-replicate m n 0)
+
+pub part-zeros : (at n m : ℕ) → at + n ≤ m → part at n (zeros m) ≡ zeros n
+part-zeros at n m h =
+    let fits : at + n ≤ length (zeros m) = rw (zeros-length m) h in
+    let l : length (part at n (zeros m)) ≡ n = part-length at n (zeros m) fits in
+    ext-getD 0 (part at n (zeros m)) (zeros n) (l ∙ sym (zeros-length n))
+    (λ i b. part-at at n (zeros m) i (omega (arith, l)) ∙ zeros-at m (at + i) ∙ sym (zeros-at n i))
 
 -- ---- padding
 

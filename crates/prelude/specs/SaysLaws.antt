@@ -68,6 +68,11 @@ pub says-split : {b : Bool} {P : Type 0} → Says b P → ((b ≡ true) × P) �
 says-split {b = true} s = inl (refl, s .holds refl)
 says-split {b = false} s = inr (refl, says-fails s refl)
 
+-- the two values of a test
+pub true-or-false : (b : Bool) → (b ≡ true) ⊎ (b ≡ false)
+true-or-false true = inl refl
+true-or-false false = inr refl
+
 -- neither of two tests passes
 pub neither : (a b : Bool) → (a || b) ≡ false → (a ≡ false) × (b ≡ false)
 neither true b e = absurd (true≢false e)

@@ -9,7 +9,7 @@ use mathlib.Core.Logic.{_⊎_, inl, inr}
 use lib.Dec.{eqb}
 use lib.ListN.{length, getD}
 use Rattle.prelude.specs.Below.{allBelow}
-use Rattle.prelude.specs.SaysLaws.{says-eq, says-lt, says-false, says-split, says-test}
+use Rattle.prelude.specs.SaysLaws.{says-eq, says-lt, says-false, true-or-false}
 use Rattle.prelude.specs.Part.{part, zeros, isZero}
 use Rattle.prelude.specs.PartLaws.{part-at, part-length, zero-zeros, zeros-at}
 use Rattle.schema.specs.Layout.{nameLimit, arcLimit, objectClassLimit, nameAt, identifierAt, defunctAt, objectClassAt, categoryAt, superclassAt, attributeWidth, classWidth}
@@ -50,7 +50,7 @@ pub record AttributeLimits (row : List ℕ) : Type 0 where
 -- an optional count is within its limit, or 0
 counted-within : (at : ℕ) (row : List ℕ) → wellFormedCell (rule Optional 8 (Counted 1 objectClassLimit) at) (part at objectClassWidth row) ≡ true → at + objectClassWidth ≤ length row → getD row at 0 ≤ objectClassLimit
 unfolding wellFormedCell hasValue mark
-counted-within at row f fits = go (says-split (says-test (isZero cell)))
+counted-within at row f fits = go (true-or-false (isZero cell))
   where
     cell : List ℕ
     cell = part at objectClassWidth row
@@ -58,9 +58,9 @@ counted-within at row f fits = go (says-split (says-test (isZero cell)))
     first : getD cell 0 0 ≡ getD row at 0
     first = part-at at objectClassWidth row 0 (omega arith) ∙ ap (λ (n : ℕ). getD row n 0) (add-zero at)
 
-    go : ((isZero cell ≡ true) × (isZero cell ≡ true)) ⊎ ((isZero cell ≡ false) × ¬ (isZero cell ≡ true)) → getD row at 0 ≤ objectClassLimit
-    go (inl q) = omega (arith, first, ap (λ (x : List ℕ). getD x 0 0) (zero-zeros objectClassWidth cell (part-length at objectClassWidth row fits) (q .0)), zeros-at objectClassWidth 0)
-    go (inr q) = omega (arith, first, says-holds (Counted 1 objectClassLimit) cell .holds (rw (q .0) at f) .1 .0)
+    go : (isZero cell ≡ true) ⊎ (isZero cell ≡ false) → getD row at 0 ≤ objectClassLimit
+    go (inl q) = omega (arith, first, ap (λ (x : List ℕ). getD x 0 0) (zero-zeros objectClassWidth cell (part-length at objectClassWidth row fits) q), zeros-at objectClassWidth 0)
+    go (inr q) = omega (arith, first, says-holds (Counted 1 objectClassLimit) cell .holds (rw q at f) .1 .0)
 
 eighth : (row : List ℕ) → wellFormedBy (formatOf Attribute) row ≡ true → wellFormedCell (rule Optional 8 (Counted 1 objectClassLimit) objectClassAt) (part objectClassAt objectClassWidth row) ≡ true
 unfolding formatOf commonFields attributeFields cellAt width mark room

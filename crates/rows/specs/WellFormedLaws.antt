@@ -9,9 +9,9 @@ use native.Mathlib.Omega.{arith}
 use native.Mathlib.Decide.{ℕ-discrete}
 use lib.Dec.{eqb}
 use lib.ListN.{length, getD}
-use Rattle.prelude.specs.SaysLaws.{says-and, says-eq, says-test, says-true, says-false, says-split}
+use Rattle.prelude.specs.SaysLaws.{says-and, says-eq, says-test, says-true, says-false, true-or-false}
 use Rattle.prelude.specs.Part.{part, splice, zeros, isZero, padded}
-use Rattle.prelude.specs.PartLaws.{part-at, part-length, zero-zeros, part-part, part-between}
+use Rattle.prelude.specs.PartLaws.{part-at, part-length, zero-zeros, part-part, part-between, length-nil}
 use Rattle.prelude.specs.SpliceLaws.{splice-part, splice-at-before, splice-at-same, splice-at-after, part-splice-same}
 use Rattle.schema.specs.ObjectClasses.{firstObjectClass}
 use Rattle.schema.specs.ObjectClassesLaws.{first-short}
@@ -86,11 +86,11 @@ class-rule = refl
 
 class-zero : (cell : List ℕ) → length cell ≡ objectClassWidth → getD cell 0 0 ≡ 0 → wellFormedCell (rule Optional 8 (Counted 1 objectClassLimit) objectClassAt) cell ≡ true → cell ≡ zeros objectClassWidth
 unfolding wellFormedCell hasValue mark
-class-zero cell l z f = go (says-split (says-test (isZero cell)))
+class-zero cell l z f = go (true-or-false (isZero cell))
   where
-    go : ((isZero cell ≡ true) × (isZero cell ≡ true)) ⊎ ((isZero cell ≡ false) × ¬ (isZero cell ≡ true)) → cell ≡ zeros objectClassWidth
-    go (inl q) = zero-zeros objectClassWidth cell l (q .0)
-    go (inr q) = absurd (omega (arith, says-holds (Counted 1 objectClassLimit) cell .holds (rw (q .0) at f) .0))
+    go : (isZero cell ≡ true) ⊎ (isZero cell ≡ false) → cell ≡ zeros objectClassWidth
+    go (inl q) = zero-zeros objectClassWidth cell l q
+    go (inr q) = absurd (omega (arith, says-holds (Counted 1 objectClassLimit) cell .holds (rw q at f) .0))
 
 -- the cell of given bytes is well-formed
 class-formed : (v : List ℕ) → length v ≤ objectClassLimit → wellFormedCell (rule Optional 8 (Counted 1 objectClassLimit) objectClassAt) (objectClassCell v) ≡ true
@@ -113,12 +113,8 @@ settled-other row d h = says-eq (objectClassLength row) 0 .holds (rw (says-false
 settled-without : (row : List ℕ) → omSyntaxOf row ≡ 127 → objectClassLength row ≡ 0 → isSettled row ≡ true → firstObjectClass (syntaxOf row) ≡ []
 unfolding isSettled
 settled-without row e z h =
-    nil-of (firstObjectClass (syntaxOf row))
+    length-nil (firstObjectClass (syntaxOf row))
     (says-eq (length (firstObjectClass (syntaxOf row))) 0 .holds (rw (says-true (says-eq (omSyntaxOf row) 127) e, says-true (says-eq (objectClassLength row) 0) z) at h))
-  where
-    nil-of : (v : List ℕ) → length v ≡ 0 → v ≡ []
-    nil-of [] q = refl
-    nil-of (x ∷ v) q = absurd (omega arith)
 
 settled-some : (row : List ℕ) → omSyntaxOf row ≡ 127 → ¬ (objectClassLength row ≡ 0) → isSettled row ≡ true
 unfolding isSettled
@@ -176,19 +172,23 @@ no-class row fits f z =
     table-long : 7 < length (formatOf Attribute)
     table-long = unfold formatOf commonFields attributeFields in omega arith
 
--- a row that is settled is left as it is
-pub settled-same : (row : List ℕ) → attributeWidth ≤ length row → wellFormedAttribute row ≡ true → settled row ≡ row
-settled-same row fits f = go (ℕ-discrete (omSyntaxOf row) 127) (ℕ-discrete (objectClassLength row) 0)
+-- a row that has an oMObjectClass exactly where it should is left as it is
+settled-when : (row : List ℕ) → attributeWidth ≤ length row → wellFormedBy (formatOf Attribute) row ≡ true → (¬ (omSyntaxOf row ≡ 127) → objectClassLength row ≡ 0)
+    → (omSyntaxOf row ≡ 127 → objectClassLength row ≡ 0 → firstObjectClass (syntaxOf row) ≡ []) → settled row ≡ row
+settled-when row fits f other first = go (ℕ-discrete (omSyntaxOf row) 127) (ℕ-discrete (objectClassLength row) 0)
   where
-    p : (wellFormedBy (formatOf Attribute) row ≡ true) × (isSettled row ≡ true)
-    p = attribute-parts row f
-
     go : Dec (omSyntaxOf row ≡ 127) → Dec (objectClassLength row ≡ 0) → settled row ≡ row
-    go (no d) n = settled-none row d ∙ no-class row fits (p .0) (settled-other row d (p .1))
+    go (no d) n = settled-none row d ∙ no-class row fits f (other d)
     go (yes e) (no d) = settled-given row e d
     go (yes e) (yes z) =
-        settled-first row e z ∙ ap (λ (v : List ℕ). splice objectClassAt (objectClassCell v) row) (settled-without row e z (p .1))
-        ∙ ap (λ (x : List ℕ). splice objectClassAt x row) no-cell ∙ no-class row fits (p .0) z
+        settled-first row e z ∙ ap (λ (v : List ℕ). splice objectClassAt (objectClassCell v) row) (first e z)
+        ∙ ap (λ (x : List ℕ). splice objectClassAt x row) no-cell ∙ no-class row fits f z
+
+-- so a row that is settled
+pub settled-same : (row : List ℕ) → attributeWidth ≤ length row → wellFormedAttribute row ≡ true → settled row ≡ row
+settled-same row fits f =
+    let p = attribute-parts row f in
+    settled-when row fits (p .0) (λ d. settled-other row d (p .1)) (λ e z. settled-without row e z (p .1))
 
 -- settling leaves both syntaxes
 pub settled-syntaxes : (row : List ℕ) → attributeWidth ≤ length row → (omSyntaxOf (settled row) ≡ omSyntaxOf row) × (syntaxOf (settled row) ≡ syntaxOf row)
@@ -233,9 +233,4 @@ exact-some row e z x = false≢true (rw (says-true (says-eq (omSyntaxOf row) 127
 
 -- the fields as they were read, with 08 exactly where oMSyntax is 127, are settled already
 pub exact-settled : (row : List ℕ) → attributeWidth ≤ length row → wellFormedBy (formatOf Attribute) row ≡ true → standsExactly row ≡ true → settled row ≡ row
-exact-settled row fits f x = go (ℕ-discrete (omSyntaxOf row) 127) (ℕ-discrete (objectClassLength row) 0)
-  where
-    go : Dec (omSyntaxOf row ≡ 127) → Dec (objectClassLength row ≡ 0) → settled row ≡ row
-    go (no d) n = settled-none row d ∙ no-class row fits f (exact-none row d x)
-    go (yes e) (no d) = settled-given row e d
-    go (yes e) (yes z) = absurd (exact-some row e z x)
+exact-settled row fits f x = settled-when row fits f (λ d. exact-none row d x) (λ e z. absurd (exact-some row e z x))

@@ -10,7 +10,7 @@ use native.Mathlib.Nat.{add-zero}
 use lib.ListN.{length, take, drop, length-append}
 use lib.Seq.{take-add, take-all, take-at, length-take-le}
 use borrow.Author.Tests.{eq-eqb}
-use Rattle.prelude.specs.SaysLaws.{says-and, says-not, says-eq, says-test, says-split}
+use Rattle.prelude.specs.SaysLaws.{says-and, says-not, says-eq, says-test, true-or-false}
 use Rattle.prelude.specs.Part.{part, splice}
 use Rattle.prelude.specs.PartLaws.{part-length, part-bytes}
 use Rattle.prelude.specs.SpliceLaws.{splice-length}
@@ -65,7 +65,7 @@ passes-rest : (r : Rule) (rules : List Rule) (o n : ℕ) (row : List ℕ) → wi
     → wellFormedBy rules row ≡ true → Passes r (writeBy rules row)
 unfolding writeBy without
 passes-rest r [] o n row a h fits b f = passes-nothing r
-passes-rest r (r′ ∷ rs) o n row a h fits b f = go (passes-rest r rs (o + width r′) n row (t .1) (l .rest) fits b (w .1)) (says-split (says-test (hasValue (r′ .presence) (cellAt r′ row))))
+passes-rest r (r′ ∷ rs) o n row a h fits b f = go (passes-rest r rs (o + width r′) n row (t .1) (l .rest) fits b (w .1)) (true-or-false (hasValue (r′ .presence) (cellAt r′ row)))
   where
     t : ¬ (r′ .tag ≡ r .tag) × (without (r .tag) rs ≡ true)
     t = says-and (says-not (says-eq (r′ .tag) (r .tag))) (says-test (without (r .tag) rs)) .holds a
@@ -82,9 +82,9 @@ passes-rest r (r′ ∷ rs) o n row a h fits b f = go (passes-rest r rs (o + wid
     has : Bool
     has = hasValue (r′ .presence) (cellAt r′ row)
 
-    go : Passes r (writeBy rs row) → ((has ≡ true) × (has ≡ true)) ⊎ ((has ≡ false) × ¬ (has ≡ true)) → Passes r (fieldOf r′ row ++ writeBy rs row)
-    go ih (inl k) = rw (field-some r′ row (k .0)) (passes-field r (r′ .tag) (valueOf r′ (cellAt r′ row)) (writeBy rs row) (t .0) (value-cell r′ (cellAt r′ row) (l .sound) (c .1) (c .0) (w .0) (k .0) .short))
-    go ih (inr k) = rw (field-none r′ row (k .0)) ih
+    go : Passes r (writeBy rs row) → (has ≡ true) ⊎ (has ≡ false) → Passes r (fieldOf r′ row ++ writeBy rs row)
+    go ih (inl k) = rw (field-some r′ row k) (passes-field r (r′ .tag) (valueOf r′ (cellAt r′ row)) (writeBy rs row) (t .0) (value-cell r′ (cellAt r′ row) (l .sound) (c .1) (c .0) (w .0) k .short))
+    go ih (inr k) = rw (field-none r′ row k) ih
 
 -- ---- the table
 
@@ -143,7 +143,7 @@ pub write-read : (rules : List Rule) (o n : ℕ) (row : List ℕ) → laid rules
     → Reads rules row (writeBy rules row) o
 unfolding writeBy
 write-read [] o n row h d fits b f = let e : o ≡ length row = laid-end o n h ∙ fits in rw e (reads-end row)
-write-read (r ∷ rs) o n row h d fits b f = go (write-read rs (o + width r) n row (l .rest) (t .1) fits b (w .1)) (says-split (says-test (hasValue (r .presence) (cellAt r row))))
+write-read (r ∷ rs) o n row h d fits b f = go (write-read rs (o + width r) n row (l .rest) (t .1) fits b (w .1)) (true-or-false (hasValue (r .presence) (cellAt r row)))
   where
     l : Laid r rs o n
     l = laid-cons r rs o n h
@@ -160,6 +160,6 @@ write-read (r ∷ rs) o n row h d fits b f = go (write-read rs (o + width r) n r
     has : Bool
     has = hasValue (r .presence) (cellAt r row)
 
-    go : Reads rs row (writeBy rs row) (o + width r) → ((has ≡ true) × (has ≡ true)) ⊎ ((has ≡ false) × ¬ (has ≡ true)) → Reads (r ∷ rs) row (fieldOf r row ++ writeBy rs row) o
-    go ih (inl k) = rw (field-some r row (k .0)) (reads-present r rs o n row (writeBy rs row) l within b (w .0) (k .0) ih)
-    go ih (inr k) = rw (field-none r row (k .0)) (reads-absent r rs o n row (writeBy rs row) l within b (w .0) (k .0) (passes-rest r rs (o + width r) n row (t .0) (l .rest) within b (w .1)) ih)
+    go : Reads rs row (writeBy rs row) (o + width r) → (has ≡ true) ⊎ (has ≡ false) → Reads (r ∷ rs) row (fieldOf r row ++ writeBy rs row) o
+    go ih (inl k) = rw (field-some r row k) (reads-present r rs o n row (writeBy rs row) l within b (w .0) k ih)
+    go ih (inr k) = rw (field-none r row k) (reads-absent r rs o n row (writeBy rs row) l within b (w .0) k (passes-rest r rs (o + width r) n row (t .0) (l .rest) within b (w .1)) ih)

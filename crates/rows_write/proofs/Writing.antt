@@ -1,22 +1,22 @@
 -- What is written, as the code writes it.
 use mathlib.Core.Path.{_≡_, refl, sym, ap, _∙_}
 use mathlib.Core.Bool.{Bool, true, false}
-use mathlib.Core.Logic.{_⊎_, inl, inr}
 use mathlib.Core.List.{List, [], _++_}
 use Prim.Native.Nat.{ℕ, _+_, _-_, _*_, _≤_, _<_}
 use native.Mathlib.Omega.{arith}
 use lib.ListN.{length, getD, take, drop, length-drop}
 use lib.Seq.{take-length}
+use Rattle.formats.specs.ShortLaws.{field-bound}
 use Rattle.prelude.specs.Part.{part, splice}
-use Rattle.prelude.specs.PartLaws.{part-length, part-bytes}
+use Rattle.prelude.specs.PartLaws.{part-length}
 use Rattle.prelude.specs.SpliceLaws.{splice-append}
-use Rattle.prelude.specs.SaysLaws.{says-le, says-split, says-test}
+use Rattle.prelude.specs.SaysLaws.{says-le}
 use Rattle.prelude.specs.LentLaws.{lent-front}
 use Rattle.prelude.specs.BigEndian.{bigEndianBytes}
 use Rattle.prelude.specs.BigEndianLaws.{bytes-length}
 use Rattle.sets.specs.Sets.{membersFrom, memberCount}
 use Rattle.wire.specs.Wire.{headerBytes, fieldBytes}
-use Rattle.wire.specs.WireLaws.{header-length, field-length}
+use Rattle.wire.specs.WireLaws.{header-length}
 use Rattle.formats.specs.declared.shape.Test.{Test}
 use Rattle.formats.specs.declared.shape.Shape.{Shape}
 use Rattle.formats.specs.declared.shape.Shape.the-variants.{Plain, Number, Counted, Arcs, Entries}
@@ -24,10 +24,10 @@ use Rattle.formats.specs.declared.shape.Rule.{Rule}
 use Rattle.formats.specs.Entries.{entryBytes}
 use Rattle.formats.specs.EntriesLaws.{entry-length, members-count}
 use Rattle.formats.specs.Shapes.{stored, room, holds}
-use Rattle.formats.specs.ShapesLaws.{Bytes, sound, Holds, says-holds, stored-short}
+use Rattle.formats.specs.ShapesLaws.{sound, Holds, says-holds, stored-short}
 use Rattle.formats.specs.Rules.{mark, width, cellAt, hasValue, valueOf, wellFormedCell, wellFormedBy, fieldOf}
 use Rattle.rows.proofs.Checking.{rest-of, cell-cut}
-use Rattle.formats.specs.RulesLaws.{Sound, Fits, value-cell, formed-at, field-none, field-some}
+use Rattle.formats.specs.RulesLaws.{Sound, Fits, formed-at, field-none, field-some, width-small}
 
 -- bytes copied to the front of what was lent
 pub put-back : (at : ℕ) (v out back : List ℕ) → at ≤ length out → back ≡ take (length v) v ++ drop (length v) (take (length out - at) (drop at out))
@@ -92,8 +92,8 @@ module _ {shape : Shape} (cell : List ℕ) where
   pub entries-count : {bytes n : ℕ} → shape ≡ Entries bytes → n ≡ memberCount cell → n * 2 ≡ length (stored shape cell)
   entries-count e q = sym (ap length (stored-entries e) ∙ entry-length (membersFrom 0 cell) ∙ ap (λ (k : ℕ). k * 2) (members-count cell ∙ sym q))
 
-pub holding-short : (shape : Shape) (cell : List ℕ) → Bytes cell → Holding shape cell → length (stored shape cell) < 65536
-holding-short shape cell b h = stored-short cell b shape (h .0) (h .1) (says-holds shape cell .holds (h .2))
+pub holding-short : (shape : Shape) (cell : List ℕ) → Holding shape cell → length (stored shape cell) < 65536
+holding-short shape cell h = stored-short shape cell (h .0) (h .1)
 
 -- the header, and then the value
 pub field-put : (at tag : ℕ) (v out head whole : List ℕ) → at + 3 ≤ length out → head ≡ splice at (headerBytes tag (length v)) out → whole ≡ splice (at + 3) v head
@@ -113,24 +113,8 @@ unfolding wellFormedCell valueOf width
 rest-holding r cell {m = m} s l f e t q =
     rw (rest-of m cell, q) ((s .shape, simp length-drop (omega arith), rw (sym e ∙ t) at f), refl)
 
-pub field-short : (r : Rule) (row : List ℕ) → Fits (length row) r → Bytes row → wellFormedCell r (cellAt r row) ≡ true → length (fieldOf r row) ≤ 65538
-field-short r row k b f = go (says-split (says-test (hasValue (r .presence) cell)))
-  where
-    cell : List ℕ
-    cell = cellAt r row
-
-    long : length cell ≡ width r
-    long = unfold cellAt in part-length (r .at) (width r) row (k .within)
-
-    small : Bytes cell
-    small = unfold cellAt in part-bytes (r .at) (width r) row b
-
-    has : Bool
-    has = hasValue (r .presence) cell
-
-    go : ((has ≡ true) × (has ≡ true)) ⊎ ((has ≡ false) × ¬ (has ≡ true)) → length (fieldOf r row) ≤ 65538
-    go (inl q) = omega (arith, ap length (field-some r row (q .0)), field-length (r .tag) (valueOf r cell), value-cell r cell (k .sound) small long f (q .0) .short)
-    go (inr q) = omega (arith, ap length (field-none r row (q .0)))
+pub field-short : (r : Rule) (row : List ℕ) → Fits (length row) r → length (fieldOf r row) ≤ 65538
+field-short r row k = omega (arith, field-bound r row, width-small r (k .sound))
 
 -- the cell of a rule, cut by a width that was computed
 pub record CellOf (r : Rule) (row cell : List ℕ) : Type 0 where

@@ -7,7 +7,7 @@ use mathlib.Core.Logic.{_⊎_, inl, inr, ⊎-elim}
 use Prim.Native.Nat.{ℕ, _<_}
 use native.Mathlib.Omega.{arith}
 use native.Mathlib.Decide.{decLt}
-use Rattle.prelude.specs.SaysLaws.{says-test, says-split, says-fails}
+use Rattle.prelude.specs.SaysLaws.{says-fails, true-or-false}
 use Rattle.prelude.specs.Below.{anyBelow}
 use Rattle.prelude.specs.BelowLaws.{any-one, any-false}
 use Rattle.prelude.specs.First.{Case, _when_, firstOf}
@@ -100,7 +100,7 @@ module _ {k : ℕ} {a u c : Table} (h : AttributeChange k a u c) (kept : AllKept
 
   -- rule 29: a back link whose forward link has become defunct is defunct
   forward-kept : (j : ℕ) → j < u .count → ¬ (j ≡ k) → forwardMissing u (u .row j) ≡ false
-  forward-kept j l d = rw (h .changed .other j d old) (go (says-split (says-test (isBackLink (a .row j)))))
+  forward-kept j l d = rw (h .changed .other j d old) (go (true-or-false (isBackLink (a .row j))))
     where
       old : j < a .count
       old = h .changed .old j l d
@@ -109,9 +109,9 @@ module _ {k : ℕ} {a u c : Table} (h : AttributeChange k a u c) (kept : AllKept
       state back there forward dead =
           ⊎-elim inl (λ un. inr (not-active (isDefunct (a .row j)) (λ active. true≢false (sym forward ∙ un .links j old active back)))) (h .state there dead)
 
-      go : ((isBackLink (a .row j) ≡ true) × (isBackLink (a .row j) ≡ true)) ⊎ ((isBackLink (a .row j) ≡ false) × ¬ (isBackLink (a .row j) ≡ true)) → forwardMissing u (a .row j) ≡ false
-      go (inl q) = forward-stays (h .changed) (h .link) (a .row j) (state (q .0)) (kept .1 .1 .1 .1 .1 .1 .1 .1 .1 .1 .1 .1 .1 .1 .1 .1 .1 .0 .attributes j old)
-      go (inr q) = no-back-link u (a .row j) (q .0)
+      go : (isBackLink (a .row j) ≡ true) ⊎ (isBackLink (a .row j) ≡ false) → forwardMissing u (a .row j) ≡ false
+      go (inl q) = forward-stays (h .changed) (h .link) (a .row j) (state q) (kept .1 .1 .1 .1 .1 .1 .1 .1 .1 .1 .1 .1 .1 .1 .1 .1 .1 .0 .attributes j old)
+      go (inr q) = no-back-link u (a .row j) q
 
   first-attribute : Agree (broken (u .count) (c .count)) (λ r. r .attribute k) (firstRules u c)
   first-attribute = (

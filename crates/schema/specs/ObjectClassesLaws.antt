@@ -9,7 +9,7 @@ use borrow.Author.Tests.{leb-true}
 use lib.Dec.{leb, eqb}
 use lib.ListN.{length, getD}
 use Rattle.prelude.specs.Says.{Says}
-use Rattle.prelude.specs.SaysLaws.{says-and, says-eq, says-split, says-test}
+use Rattle.prelude.specs.SaysLaws.{says-and, says-eq, true-or-false}
 use Rattle.prelude.specs.Part.{rowAt, part, padded, zeros, sameBytes}
 use Rattle.prelude.specs.PartLaws.{says-same-bytes, part-length, part-short}
 use Rattle.prelude.specs.Below.{anyBelow, allBelow}
@@ -67,15 +67,15 @@ entry-cell i l = says-same-bytes _ _ .holds (all-each (λ k. sameBytes (part 1 (
 
 -- a syntax has a first entry, or the count is found
 pub first-entry-is : (table : List ℕ) (syntax : ℕ) → (firstEntry table syntax < entryCount) ⊎ (firstEntry table syntax ≡ entryCount)
-first-entry-is table syntax = go (says-split (says-test (anyBelow entryCount has)))
+first-entry-is table syntax = go (true-or-false (anyBelow entryCount has))
   where
     has : ℕ → Bool
     has i = eqb (entrySyntax table i) syntax
 
-    go : ((anyBelow entryCount has ≡ true) × (anyBelow entryCount has ≡ true)) ⊎ ((anyBelow entryCount has ≡ false) × ¬ (anyBelow entryCount has ≡ true))
+    go : (anyBelow entryCount has ≡ true) ⊎ (anyBelow entryCount has ≡ false)
         → (firstEntry table syntax < entryCount) ⊎ (firstEntry table syntax ≡ entryCount)
-    go (inl q) = inl (first-some has entryCount (q .0) .0)
-    go (inr q) = inr (first-absent has entryCount (q .0))
+    go (inl q) = inl (first-some has entryCount q .0)
+    go (inr q) = inr (first-absent has entryCount q)
 
 pub first-short : (syntax : ℕ) → length (firstObjectClass syntax) ≤ objectClassLimit
 unfolding firstObjectClass

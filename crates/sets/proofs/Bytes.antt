@@ -12,9 +12,11 @@ use lib.Bits.{bitOr, bitAnd, bitXor, differ, or-step, and-step, xor-step, or-shr
 use lib.Dec.{eqb}
 use lib.ListN.{length, getD, set, length-set}
 use lib.Seq.{getD-set-same, getD-set-other}
+use Rattle.prelude.specs.BelowLaws.{says-all}
+use Rattle.prelude.specs.Part.{isZero}
 use Rattle.prelude.specs.SaysLaws.{says-iff, says-same, says-eq, says-true, says-false}
-use Rattle.sets.specs.Sets.{flag, digit, bit, member, setOf, withMember, withoutMember, union}
-use Rattle.sets.specs.SetsLaws.{digit-lt, digit-zero, digit-suc, no-digit, digit-ext, digit-bit, bit-past, bit-flag, is-set, set-bytes, bit-set, flag-or, flag-and, or-false, and-true}
+use Rattle.sets.specs.Sets.{flag, digit, bit, member, setOf, withMember, withoutMember, union, isEmpty}
+use Rattle.sets.specs.SetsLaws.{digit-lt, digit-zero, digit-suc, no-digit, digit-ext, digit-bit, bit-past, bit-flag, is-set, set-bytes, bit-set, flag-or, flag-and, or-false, and-true, says-empty}
 
 -- ---- digits of the machine's operations
 
@@ -164,13 +166,19 @@ subset-bytes a b h k = go (decLt (k / 8) (length a))
     go (yes l) = let p : digit y (k % 8) ≡ max (digit x (k % 8)) (digit y (k % 8)) = sym (ap (λ (n : ℕ). digit n (k % 8)) (h (k / 8) l)) ∙ digit-or x y (k % 8) in omega arith
     go (no g) = omega (arith, bit-past a k (omega arith))
 
-pub no-members : (s : List ℕ) (i : ℕ) → getD s i 0 < 256 → ((k : ℕ) → bit s k ≡ 0) → getD s i 0 ≡ 0
+no-members : (s : List ℕ) (i : ℕ) → getD s i 0 < 256 → ((k : ℕ) → bit s k ≡ 0) → getD s i 0 ≡ 0
 no-members s i l h = digit-ext 8 (getD s i 0) 0 l (omega arith) (λ k m. digit-bit s i k m ∙ h (i * 8 + k) ∙ sym (no-digit k))
 
-pub no-bytes : (s : List ℕ) → ((i : ℕ) → i < length s → getD s i 0 ≡ 0) → (k : ℕ) → bit s k ≡ 0
+no-bytes : (s : List ℕ) → ((i : ℕ) → i < length s → getD s i 0 ≡ 0) → (k : ℕ) → bit s k ≡ 0
 unfolding bit
 no-bytes s h k = go (decLt (k / 8) (length s))
   where
     go : Dec (k / 8 < length s) → digit (getD s (k / 8) 0) (k % 8) ≡ 0
     go (yes l) = ap (λ (x : ℕ). digit x (k % 8)) (h (k / 8) l) ∙ no-digit (k % 8)
     go (no g) = bit-past s k (omega arith)
+
+-- no member, and no byte but zeros
+pub zero-empty : (s : List ℕ) → ((i : ℕ) → getD s i 0 < 256) → isZero s ≡ isEmpty s
+unfolding isZero
+zero-empty s b =
+    says-same (says-iff (says-all (length s) (λ i l. says-eq (getD s i 0) 0)) (no-bytes s, λ h i l. no-members s i (b i) h)) (says-empty s)

@@ -14,7 +14,7 @@ use lib.Dec.{eqb}
 use Rattle.prelude.specs.Says.{Says}
 use Rattle.prelude.specs.Below.{Some}
 use Rattle.prelude.specs.BelowLaws.{says-any, says-all}
-use Rattle.prelude.specs.SaysLaws.{says-iff, says-or, says-not, says-eq, says-true, says-false, says-same, says-test, says-split}
+use Rattle.prelude.specs.SaysLaws.{says-iff, says-or, says-not, says-eq, says-true, says-false, says-same, says-test, true-or-false}
 use Rattle.prelude.specs.Part.{zeros, sameBytes}
 use Rattle.prelude.specs.PartLaws.{zeros-at, says-same-bytes}
 use Rattle.sets.specs.Sets.{flag, digit, bit, member, digitsOf, setOf, withMember, withoutMember, union, subset, isEmpty}
@@ -308,14 +308,14 @@ says-same-sets n f g =
 
 -- inclusion: one test implies the other
 pub says-subset-sets : (n : ℕ) (f g : ℕ → Bool) → Says (subset (setOf n f) (setOf n g)) ((k : ℕ) → k < n * 8 → f k ≡ true → g k ≡ true)
-says-subset-sets n f g = says-iff (says-subset (setOf n f) (setOf n g)) (λ h k l e. to k l e (h k), λ h k. from k (h k) (decLt k (n * 8)) (says-split (says-test (f k))))
+says-subset-sets n f g = says-iff (says-subset (setOf n f) (setOf n g)) (λ h k l e. to k l e (h k), λ h k. from k (h k) (decLt k (n * 8)) (true-or-false (f k)))
   where
     to : (k : ℕ) → k < n * 8 → f k ≡ true → bit (setOf n f) k ≤ bit (setOf n g) k → g k ≡ true
     to k l e b = flag-true (g k) (omega (arith, b, bit-set n f k l ∙ ap flag e, bit-set n g k l, flag-lt (g k)))
 
-    from : (k : ℕ) → (k < n * 8 → f k ≡ true → g k ≡ true) → Dec (k < n * 8) → ((f k ≡ true) × (f k ≡ true)) ⊎ ((f k ≡ false) × ¬ (f k ≡ true)) → bit (setOf n f) k ≤ bit (setOf n g) k
-    from k h (yes l) (inl q) = omega (arith, bit-set n g k l ∙ ap flag (h l (q .0)), bit-lt (setOf n f) k)
-    from k h (yes l) (inr q) = omega (arith, bit-set n f k l ∙ ap flag (q .0))
+    from : (k : ℕ) → (k < n * 8 → f k ≡ true → g k ≡ true) → Dec (k < n * 8) → (f k ≡ true) ⊎ (f k ≡ false) → bit (setOf n f) k ≤ bit (setOf n g) k
+    from k h (yes l) (inl q) = omega (arith, bit-set n g k l ∙ ap flag (h l q), bit-lt (setOf n f) k)
+    from k h (yes l) (inr q) = omega (arith, bit-set n f k l ∙ ap flag q)
     from k h (no b) d = omega (arith, bit-set-past n f k (omega arith))
 
 -- ---- operations on sets where tests hold

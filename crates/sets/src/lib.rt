@@ -2,6 +2,7 @@
 // of the slice that holds it: 16 bytes for classes, 32 for attributes.
 pub mod visited;
 
+use prelude::part::is_zero;
 ghost use mathlib.Core.Path.{_≡_};
 ghost use Prim.Native.Nat.{_*_, _/_, _≤_, _<_};
 ghost use lib.ListN.{length};
@@ -69,14 +70,7 @@ pub fn is_subset(a: &[u8], b: &[u8]) -> bool
 pub fn is_empty(s: &[u8]) -> bool
     ensures { λ r. ⌜ r ≡ isEmpty (now (s .entry)) ⌝ }
 {
-    let mut i = 0;
-    while i < s.len() {
-        if s[i] != 0 {
-            return false;
-        }
-        i += 1;
-    }
-    true
+    is_zero(s)
 }
 
 // How many members s has. Document 01: "the number of attributes in the kept mandatory set". Members are numbers of at most 16 bits.

@@ -6,31 +6,22 @@ use Prim.Native.Nat.{ℕ, zero, suc, _+_, _-_, _*_, _≤_, _<_}
 use native.Mathlib.Omega.{arith}
 use native.Mathlib.Nat.{mul-le-mul-left, mul-add}
 use lib.ListN.{length, getD}
-use lib.Seq.{ext-getD}
 use Rattle.prelude.specs.Says.{Says}
 use Rattle.prelude.specs.SaysLaws.{says-and, says-eq, says-le, says-iff, says-test}
 use Rattle.prelude.specs.BelowLaws.{says-all}
 use Rattle.prelude.specs.Part.{part, rowAt, zeros, isZero}
-use Rattle.prelude.specs.PartLaws.{part-length, part-at, part-part, part-none, part-add, zeros-length, zeros-at, says-zero}
+use Rattle.prelude.specs.PartLaws.{part-length, part-part, part-none, part-add, says-zero, zeros-add, part-zeros}
 use Rattle.schema.specs.Numbers.{attributeLimit, classLimit}
 use Rattle.schema.specs.Layout.{rowsAt, attributeWidth, classWidth, attributesLength, classesLength}
 use Rattle.schema.specs.Store.{attributeTable, classTable}
 use Rattle.schema.specs.StoreLaws.{attribute-row-length}
 use Rattle.rows.specs.WellFormed.{wellFormedAttribute, wellFormedClass}
 use Rattle.rows.specs.FormedLaws.{AttributeLimits, attribute-limits, class-limits}
-use Rattle.stores.specs.FilledLaws.{zeros-add}
 use Rattle.tables.specs.Shaped.{Shaped, AttributesShaped, ClassesShaped}
 use Rattle.graph.specs.Graph.{Readable}
 use Rattle.shape.specs.Shape.{unusedRows, rowsFormed, attributesFormed, classesFormed, formed}
 
 -- ---- rows side by side are zero exactly where each of them is
-
-part-zeros : (at n m : ℕ) → at + n ≤ m → part at n (zeros m) ≡ zeros n
-part-zeros at n m h =
-    let fits : at + n ≤ length (zeros m) = rw (zeros-length m) h in
-    let l : length (part at n (zeros m)) ≡ n = part-length at n (zeros m) fits in
-    ext-getD 0 (part at n (zeros m)) (zeros n) (l ∙ sym (zeros-length n))
-    (λ i b. part-at at n (zeros m) i (omega (arith, l)) ∙ zeros-at m (at + i) ∙ sym (zeros-at n i))
 
 rows-zero : (at w m : ℕ) (s : List ℕ) → ((j : ℕ) → j < m → part (at + w * j) w s ≡ zeros w) → part at (w * m) s ≡ zeros (w * m)
 rows-zero at w zero s h = let z : w * 0 ≡ 0 = omega arith in rw z (part-none at s ∙ (unfold zeros in refl))

@@ -8,7 +8,7 @@ use native.Mathlib.Nat.{zero-add}
 use lib.ListN.{length, length-append}
 use Rattle.prelude.specs.Part.{rowAt, splice}
 use Rattle.prelude.specs.PartLaws.{part-length, row-fits}
-use Rattle.prelude.specs.SpliceLaws.{splice-length, splice-none}
+use Rattle.prelude.specs.SpliceLaws.{splice-length, splice-none, write-turn}
 use Rattle.wire.specs.Wire.{headerBytes}
 use Rattle.wire.specs.WireLaws.{field-length}
 use Rattle.schema.specs.Numbers.{attributeLimit, classLimit}
@@ -20,7 +20,6 @@ use Rattle.formats.specs.declared.table.Kind.the-variants.{Attribute, Class}
 use Rattle.formats.specs.Rules.{wellFormedBy, writeBy}
 use Rattle.formats.specs.Formats.{formatOf, widthOf}
 use Rattle.rows.specs.WellFormedLaws.{attribute-parts, class-parts}
-use Rattle.rows_write.specs.WritingLaws.{write-turn}
 use Rattle.rows_write.proofs.Writing.{field-put}
 use Rattle.sheet_write.specs.Writing.{heading, rowField, rowFields, sheetBytes, WritableRow, WritableRows, Writable}
 use Rattle.formats.specs.ShortLaws.{written-short}

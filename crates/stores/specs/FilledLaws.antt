@@ -4,11 +4,11 @@ use mathlib.Core.List.{List, [], _∷_, _++_, append-assoc, append-nil}
 use Prim.Native.Nat.{ℕ, zero, suc, _+_, _-_, _*_, _≤_, _<_}
 use native.Mathlib.Nat.{mul-le-mul-left}
 use native.Mathlib.Omega.{arith}
-use lib.ListN.{length, getD, take, drop, length-append, replicate-append-replicate}
+use lib.ListN.{length, getD, take, drop, length-append}
 use lib.Seq.{take-at, drop-at, drop-append-add}
-use Rattle.prelude.specs.Part.{part, rowAt, splice, zeros, padded}
 use Rattle.prelude.specs.SpliceLaws.{splice-front}
-use Rattle.prelude.specs.PartLaws.{part-between, zeros-length, padded-length}
+use Rattle.prelude.specs.Part.{part, rowAt, splice, zeros, padded}
+use Rattle.prelude.specs.PartLaws.{part-between, zeros-length, padded-length, zeros-add}
 use Rattle.prelude.specs.BigEndian.{bigEndian, bigEndianBytes}
 use Rattle.prelude.specs.BigEndianLaws.{bytes-length, number-of-bytes}
 use Rattle.schema.specs.Numbers.{attributeLimit, classLimit}
@@ -44,10 +44,6 @@ joined-row w (r ∷ rows) q (suc k) h l =
     rw (e, append-assoc r (joined rows) q, drop-append-add r (joined rows ++ q) (w * k)) (joined-row w rows q k (h .1) (omega arith))
 
 -- ---- a store with a header of two bytes
-
-pub zeros-add : (m n : ℕ) → zeros (m + n) ≡ zeros m ++ zeros n
-unfolding zeros
-zeros-add m n = sym (replicate-append-replicate m n 0)
 
 module _ (h : List ℕ) (w n : ℕ) (rows : List (List ℕ)) (two : length h ≡ rowsAt) (wide : AllWide w rows) (few : length rows ≤ n) where
   -- rows that are not in use

@@ -1,52 +1,14 @@
-use mathlib.Core.Path.{_≡_, sym}
-use Prim.Native.Nat.{ℕ, _≤_, _<_, _-_}
-use borrow.Author.Count.{below-none, below-more}
-use lib.ListN.{length, getD}
-use Rattle.prelude.specs.SaysLaws.{says-true, says-false}
-use Rattle.sets.specs.SetsLaws.{says-empty}
-use Rattle.sets.proofs.Bytes.{no-members, no-bytes}
-use native.Mathlib.Omega.{arith}
+use mathlib.Core.Path.{_∙_}
+use Rattle.sets.proofs.Bytes.{zero-empty}
 use borrow.Author.Needs.{needs}
 use Rattle.sets.proofs.is_empty.Statement.{statement}
 use Rattle.sets.proofs.is_empty.Tie as tie
 
-abbrev Inv-loop : tie.InvT-loop
-Inv-loop s i₀ i = (i ≤ length s) × ((k : ℕ) → k < i → getD s k 0 ≡ 0)
+is-zero-requires : tie.Need-is-zero-requires
+is-zero-requires c κs = search needs
 
-abbrev μ-loop : tie.MeasureT-loop
-μ-loop s i₀ i = length s - i
-
-loop-holds : tie.Need-loop-holds Inv-loop μ-loop
-loop-holds c = (search needs, below-none _)
-
-shared-slice-read-if1 : tie.Need-shared-slice-read-if1 Inv-loop μ-loop
-shared-slice-read-if1 c = search needs
-
-returns : tie.Need-returns Inv-loop μ-loop
-returns c = sym (says-false (says-empty _) (λ h. c .if1 .taken (no-members (c .before .before .before .before .args .s .now) (c .before .before .before .loop .i) (c .before .shared-slice-known .given (c .before .before .before .loop .i) .fits) h)))
-
-add-i : tie.Need-add-i Inv-loop μ-loop
-add-i c = search needs
-
-loop-less : tie.Need-loop-less Inv-loop μ-loop
-loop-less c = search needs
-
-loop-again : tie.Need-loop-again Inv-loop μ-loop
-loop-again c = (search needs, below-more _ _ (c .before .before .before .loop .inv .1) (c .if1 .left))
-
-returns-2 : tie.Need-returns-2 Inv-loop μ-loop
-returns-2 c = let h : length (c .before .before .args .s .now) ≤ c .before .loop .i = omega arith in sym (says-true (says-empty _) (no-bytes (c .before .before .args .s .now) (λ k l. c .before .loop .inv .1 k (omega arith))))
+returns : tie.Need-returns
+returns c = c .is-zero .ensures ∙ zero-empty (c .before .before .args .s .now) (λ i. c .before .shared-slice-known .given i .fits)
 
 pub is-empty-spec : {M : Type 1} → statement M
-is-empty-spec =
-    tie.close
-    (tie.spec
-    Inv-loop
-    μ-loop
-    loop-holds
-    shared-slice-read-if1
-    returns
-    add-i
-    loop-less
-    loop-again
-    returns-2)
+is-empty-spec = tie.close (tie.spec is-zero-requires returns)

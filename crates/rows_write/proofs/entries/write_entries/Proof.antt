@@ -3,11 +3,10 @@ use mathlib.Core.List.{List}
 use Prim.Native.Nat.{ℕ, _+_, _-_, _*_, _≤_}
 use native.Mathlib.Nat.{add-zero}
 use lib.ListN.{length, length-append}
+use Rattle.prelude.specs.SpliceLaws.{splice-none, write-turn}
 use Rattle.prelude.specs.Part.{splice}
 use Rattle.sets.specs.Sets.{member, listBelow}
 use Rattle.formats.specs.Entries.{entryBytes}
-use Rattle.rows_write.specs.WritingLaws.{write-turn}
-use Rattle.prelude.specs.SpliceLaws.{splice-none}
 use Rattle.rows_write.proofs.Listing.{entries-none, entries-more, entries-fit, entries-all}
 use native.Mathlib.Omega.{arith}
 use Rattle.rows_write.proofs.entries.write_entries.Statement.{statement}

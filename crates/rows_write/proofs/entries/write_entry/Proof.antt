@@ -4,6 +4,7 @@ use mathlib.Core.List.{List}
 use Prim.Native.Nat.{ℕ, _+_}
 use native.Mathlib.Nat.{add-zero}
 use lib.ListN.{length}
+use Rattle.prelude.specs.SpliceLaws.{splice-none}
 use Rattle.prelude.specs.Part.{splice}
 use Rattle.prelude.specs.BigEndianLaws.{bytes-length}
 use Rattle.rows_write.proofs.Listing.{one-entry, no-entry}

@@ -35,7 +35,7 @@ value-length-requires : tie.Need-value-length-requires
 value-length-requires c κs = let k = cell-of (c .before .before .before .before .before .before .before .args .rule) (c .before .before .before .before .before .before .before .args .row .now) (c .before .before .before .before .part-of .result .now) (c .before .before .before .before .before .width-of .ensures) (c .before .before .before .before .part-of .ensures) (c .before .before .before .before .before .before .before .pre .0) (c .before .before .before .before .before .before .before .pre .1) in let h = field-has (c .before .before .before .before .before .before .before .args .rule) (c .before .before .before .before .before .before .before .args .row .now) (c .before .before .before .before .part-of .result .now) (c .before .before .before .before .before .before .before .pre .0 .sound) k (c .before .before .before .has-value .ensures) (c .before .before .if1 .taken) (c .before .mark-of .ensures) in h .0
 
 add-result : tie.Need-add-result
-add-result c = let k = cell-of (c .before .before .before .before .before .before .before .before .args .rule) (c .before .before .before .before .before .before .before .before .args .row .now) (c .before .before .before .before .before .part-of .result .now) (c .before .before .before .before .before .before .width-of .ensures) (c .before .before .before .before .before .part-of .ensures) (c .before .before .before .before .before .before .before .before .pre .0) (c .before .before .before .before .before .before .before .before .pre .1) in let h = field-has (c .before .before .before .before .before .before .before .before .args .rule) (c .before .before .before .before .before .before .before .before .args .row .now) (c .before .before .before .before .before .part-of .result .now) (c .before .before .before .before .before .before .before .before .pre .0 .sound) k (c .before .before .before .before .has-value .ensures) (c .before .before .before .if1 .taken) (c .before .before .mark-of .ensures) in let f = field-short (c .before .before .before .before .before .before .before .before .args .rule) (c .before .before .before .before .before .before .before .before .args .row .now) (c .before .before .before .before .before .before .before .before .pre .0) (λ i. c .before .before .before .before .before .before .before .shared-slice-known .given i .fits) (c .before .before .before .before .before .before .before .before .pre .1) in let t : 3 + c .value-length .result ≡ length (fieldOf (c .before .before .before .before .before .before .before .before .args .rule) (c .before .before .before .before .before .before .before .before .args .row .now)) = ap (λ (n : ℕ). 3 + n) (c .value-length .ensures) ∙ sym (ap length (h .1) ∙ field-length (c .before .before .before .before .before .before .before .before .args .rule .tag) _) in omega arith
+add-result c = let k = cell-of (c .before .before .before .before .before .before .before .before .args .rule) (c .before .before .before .before .before .before .before .before .args .row .now) (c .before .before .before .before .before .part-of .result .now) (c .before .before .before .before .before .before .width-of .ensures) (c .before .before .before .before .before .part-of .ensures) (c .before .before .before .before .before .before .before .before .pre .0) (c .before .before .before .before .before .before .before .before .pre .1) in let h = field-has (c .before .before .before .before .before .before .before .before .args .rule) (c .before .before .before .before .before .before .before .before .args .row .now) (c .before .before .before .before .before .part-of .result .now) (c .before .before .before .before .before .before .before .before .pre .0 .sound) k (c .before .before .before .before .has-value .ensures) (c .before .before .before .if1 .taken) (c .before .before .mark-of .ensures) in let f = field-short (c .before .before .before .before .before .before .before .before .args .rule) (c .before .before .before .before .before .before .before .before .args .row .now) (c .before .before .before .before .before .before .before .before .pre .0) in let t : 3 + c .value-length .result ≡ length (fieldOf (c .before .before .before .before .before .before .before .before .args .rule) (c .before .before .before .before .before .before .before .before .args .row .now)) = ap (λ (n : ℕ). 3 + n) (c .value-length .ensures) ∙ sym (ap length (h .1) ∙ field-length (c .before .before .before .before .before .before .before .before .args .rule .tag) _) in omega arith
 
 returns : tie.Need-returns
 returns c = let k = cell-of (c .before .before .before .before .before .before .before .before .args .rule) (c .before .before .before .before .before .before .before .before .args .row .now) (c .before .before .before .before .before .part-of .result .now) (c .before .before .before .before .before .before .width-of .ensures) (c .before .before .before .before .before .part-of .ensures) (c .before .before .before .before .before .before .before .before .pre .0) (c .before .before .before .before .before .before .before .before .pre .1) in let h = field-has (c .before .before .before .before .before .before .before .before .args .rule) (c .before .before .before .before .before .before .before .before .args .row .now) (c .before .before .before .before .before .part-of .result .now) (c .before .before .before .before .before .before .before .before .pre .0 .sound) k (c .before .before .before .before .has-value .ensures) (c .before .before .before .if1 .taken) (c .before .before .mark-of .ensures) in ap (λ (n : ℕ). 3 + n) (c .value-length .ensures) ∙ sym (ap length (h .1) ∙ field-length (c .before .before .before .before .before .before .before .before .args .rule .tag) _)

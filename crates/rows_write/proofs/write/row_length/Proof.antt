@@ -39,7 +39,7 @@ field-length-requires : tie.Need-field-length-requires Inv-loop μ-loop
 field-length-requires c κs = let l : c .before .before .loop .i < length (formatOf (c .before .before .before .before .before .args .kind)) = omega (arith, c .before .before .before .rule-count .ensures, c .before .loop-test .taken) in let k = fits-in (c .before .before .before .before .before .args .kind) (c .before .before .loop .i) (c .rule-of .ensures) l (c .before .before .before .before .before .pre .0) in let f = formed-rule (formatOf (c .before .before .before .before .before .args .kind)) noRule (c .before .before .before .before .before .args .row .now) (c .before .before .loop .i) (c .rule-of .ensures) (c .before .before .before .before .before .pre .1) l in (k, f)
 
 add-n : tie.Need-add-n Inv-loop μ-loop
-add-n c = let l : c .before .before .before .loop .i < length (formatOf (c .before .before .before .before .before .before .args .kind)) = omega (arith, c .before .before .before .before .rule-count .ensures, c .before .before .loop-test .taken) in let k = fits-in (c .before .before .before .before .before .before .args .kind) (c .before .before .before .loop .i) (c .before .rule-of .ensures) l (c .before .before .before .before .before .before .pre .0) in let f = formed-rule (formatOf (c .before .before .before .before .before .before .args .kind)) noRule (c .before .before .before .before .before .before .args .row .now) (c .before .before .before .loop .i) (c .before .rule-of .ensures) (c .before .before .before .before .before .before .pre .1) l in let s = field-short (c .before .rule-of .result) (c .before .before .before .before .before .before .args .row .now) k (λ i. c .before .before .before .before .before .shared-slice-known .given i .fits) f in omega (arith, c .before .before .before .loop .inv .small, c .field-length .ensures, kind-few (c .before .before .before .before .before .before .args .kind), c .before .before .before .before .rule-count .ensures)
+add-n c = let l : c .before .before .before .loop .i < length (formatOf (c .before .before .before .before .before .before .args .kind)) = omega (arith, c .before .before .before .before .rule-count .ensures, c .before .before .loop-test .taken) in let k = fits-in (c .before .before .before .before .before .before .args .kind) (c .before .before .before .loop .i) (c .before .rule-of .ensures) l (c .before .before .before .before .before .before .pre .0) in let s = field-short (c .before .rule-of .result) (c .before .before .before .before .before .before .args .row .now) k in omega (arith, c .before .before .before .loop .inv .small, c .field-length .ensures, kind-few (c .before .before .before .before .before .before .args .kind), c .before .before .before .before .rule-count .ensures)
 
 add-i : tie.Need-add-i Inv-loop μ-loop
 add-i c = omega (arith, kind-few (c .before .before .before .before .before .before .args .kind), c .before .before .before .before .rule-count .ensures)
@@ -48,7 +48,7 @@ loop-less : tie.Need-loop-less Inv-loop μ-loop
 loop-less c = omega arith
 
 loop-again : tie.Need-loop-again Inv-loop μ-loop
-loop-again c = let l : c .before .before .before .loop .i < length (formatOf (c .before .before .before .before .before .before .args .kind)) = omega (arith, c .before .before .before .before .rule-count .ensures, c .before .before .loop-test .taken) in let k = fits-in (c .before .before .before .before .before .before .args .kind) (c .before .before .before .loop .i) (c .before .rule-of .ensures) l (c .before .before .before .before .before .before .pre .0) in let f = formed-rule (formatOf (c .before .before .before .before .before .before .args .kind)) noRule (c .before .before .before .before .before .before .args .row .now) (c .before .before .before .loop .i) (c .before .rule-of .ensures) (c .before .before .before .before .before .before .pre .1) l in let s = field-short (c .before .rule-of .result) (c .before .before .before .before .before .before .args .row .now) k (λ i. c .before .before .before .before .before .shared-slice-known .given i .fits) f in let e = length-next (formatOf (c .before .before .before .before .before .before .args .kind)) noRule (c .before .before .before .loop .i) (c .before .before .before .before .before .before .args .row .now) l (c .before .rule-of .ensures) in record { few = omega arith; small = omega (arith, c .before .before .before .loop .inv .small, c .field-length .ensures); same = omega (arith, e, c .before .before .before .loop .inv .same, c .field-length .ensures) }
+loop-again c = let l : c .before .before .before .loop .i < length (formatOf (c .before .before .before .before .before .before .args .kind)) = omega (arith, c .before .before .before .before .rule-count .ensures, c .before .before .loop-test .taken) in let k = fits-in (c .before .before .before .before .before .before .args .kind) (c .before .before .before .loop .i) (c .before .rule-of .ensures) l (c .before .before .before .before .before .before .pre .0) in let s = field-short (c .before .rule-of .result) (c .before .before .before .before .before .before .args .row .now) k in let e = length-next (formatOf (c .before .before .before .before .before .before .args .kind)) noRule (c .before .before .before .loop .i) (c .before .before .before .before .before .before .args .row .now) l (c .before .rule-of .ensures) in record { few = omega arith; small = omega (arith, c .before .before .before .loop .inv .small, c .field-length .ensures); same = omega (arith, e, c .before .before .before .loop .inv .same, c .field-length .ensures) }
 
 returns : tie.Need-returns Inv-loop μ-loop
 returns c = let d = ap length (write-done (formatOf (c .before .before .before .before .args .kind)) noRule (c .before .loop .i) (c .before .before .before .before .args .row .now) (omega (arith, c .before .before .rule-count .ensures, c .loop-test .left))) in omega (arith, d, c .before .loop .inv .same)

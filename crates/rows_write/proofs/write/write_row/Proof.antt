@@ -3,13 +3,13 @@ use mathlib.Core.List.{List}
 use Prim.Native.Nat.{ℕ, _+_, _-_, _≤_, _<_}
 use native.Mathlib.Nat.{add-zero}
 use lib.ListN.{length, drop}
+use Rattle.prelude.specs.SpliceLaws.{splice-none, write-turn}
 use Rattle.prelude.specs.Part.{splice}
 use Rattle.formats.specs.declared.shape.Rule.{Rule}
 use Rattle.formats.specs.Formats.{formatOf, noRule}
 use Rattle.formats.specs.FormatsLaws.{fits-in, kind-few}
 use Rattle.formats.specs.Rules.{fieldOf, writeBy}
-use Rattle.rows_write.specs.WritingLaws.{write-next, length-next, write-done, write-turn}
-use Rattle.prelude.specs.SpliceLaws.{splice-none}
+use Rattle.rows_write.specs.WritingLaws.{write-next, length-next, write-done}
 use Rattle.rows_write.proofs.Writing.{formed-rule}
 use native.Mathlib.Omega.{arith}
 use borrow.Author.Needs.{needs}
