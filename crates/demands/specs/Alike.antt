@@ -2,9 +2,9 @@
 -- written."
 use mathlib.Core.Path.{_≡_}
 use lib.ListN.{drop}
-use Rattle.prelude.specs.Part.{part, zeros}
+use Rattle.prelude.specs.Part.{part}
 use Rattle.schema.specs.Layout.{attributesLength, classesLength, closureLength}
-use Rattle.schema.specs.Store.{Stores, stores, LongEnough}
+use Rattle.schema.specs.Store.{Stores, LongEnough}
 
 -- both have their lengths, and the bytes up to these are the same
 pub record Alike (s t : Stores) : Type 0 where
@@ -19,7 +19,3 @@ pub record SamePast (s t : Stores) : Type 0 where
   pub attributes : drop attributesLength (s .attributes) ≡ drop attributesLength (t .attributes)
   pub classes : drop classesLength (s .classes) ≡ drop classesLength (t .classes)
   pub closure : drop closureLength (s .closure) ≡ drop closureLength (t .closure)
-
--- empty stores of exactly their lengths
-abbrev pub emptyStores : Stores
-emptyStores = stores (zeros attributesLength) (zeros classesLength) (zeros closureLength)

@@ -21,12 +21,13 @@ use Rattle.tables.specs.SameLaws.{attributes-same, classes-same}
 use Rattle.rules.specs.SameLaws.{judged-same}
 use Rattle.sheet.specs.Reading.{SheetOut, sheetOut, sheetAnswer}
 use Rattle.sheet.specs.FrontLaws.{readAlone, sheet-alone, alone-attributes, alone-classes}
+use Rattle.stores.specs.Filled.{emptyStores}
 use Rattle.keeper.specs.Answering.{firstAnswer}
 use Rattle.keeper.specs.AnsweringLaws.{not-short}
 use Rattle.keeper.specs.Load.{emptied, reading, readAnswer, filled, loaded, load}
 use Rattle.keeper.specs.LoadLaws.{load-long}
 use Rattle.demands.specs.Order.{moved}
-use Rattle.demands.specs.Alike.{Alike, SamePast, emptyStores}
+use Rattle.demands.specs.Alike.{Alike, SamePast}
 
 -- ---- the front of a store replaced
 

@@ -1,19 +1,17 @@
 -- What a load gives. Document 01: "Load never looks at what stood in the stores; it reads left to right and gives 4 or 6, whichever comes first, then judges
 -- 12 to 29; refused by 4 or more, it leaves every store byte zero."
-use mathlib.Core.Path.{_≡_, refl, sym, ap, ap₂, subst, _∙_}
-use mathlib.Core.Bool.{true, false, cond}
+use mathlib.Core.Path.{_≡_, refl, sym, ap, subst, _∙_}
+use mathlib.Core.Bool.{true, false}
 use mathlib.Core.Logic.{_↔_, ⊎-elim}
 use mathlib.Core.List.{List}
 use Prim.Native.Nat.{ℕ, _≤_}
 use native.Mathlib.Omega.{arith}
-use lib.Dec.{eqb}
 use lib.ListN.{length}
-use Rattle.prelude.specs.Part.{splice, zeros}
-use Rattle.prelude.specs.PartLaws.{zeros-length}
-use Rattle.prelude.specs.SpliceLaws.{splice-length, splice-over}
+use Rattle.prelude.specs.Part.{splice}
+use Rattle.prelude.specs.SpliceLaws.{splice-length}
 use Rattle.prelude.specs.SaysLaws.{says-eq, says-split, says-test}
 use Rattle.schema.specs.Layout.{closureLength}
-use Rattle.schema.specs.Store.{Stores, stores, LongEnough, Result, result, anyShort, attributeTable, classTable}
+use Rattle.schema.specs.Store.{Stores, LongEnough, Result, result, anyShort, attributeTable, classTable}
 use Rattle.schema.specs.StoreLaws.{long-enough}
 use Rattle.schema.specs.declared.answer.Answer.{Answer}
 use Rattle.schema.specs.Answers.{done, refused}
@@ -22,12 +20,12 @@ use Rattle.graph.specs.Graph.{closureRows}
 use Rattle.graph.specs.FreshLaws.{closure-rows-length, says-fresh, bytes-fresh}
 use Rattle.sheet.specs.declared.read.SheetRead.{SheetRead}
 use Rattle.sheet.specs.declared.read.SheetRead.the-variants.{Read, Bad, Full}
-use Rattle.sheet.specs.Reading.{SheetOut, sheetOut, readSheet}
+use Rattle.sheet.specs.Reading.{SheetOut, sheetOut}
 use Rattle.shape.specs.ShapeLaws.{says-formed}
 use Rattle.rules.specs.JudgeLaws.{judged-zero, judged-done}
 use Rattle.keeper.specs.AnsweringLaws.{not-short}
-use Rattle.keeper.specs.Load.{emptied, reading, readAnswer, filled, loaded, load}
-use Rattle.keeper.specs.LoadLaws.{read-judged, read-bad, read-full, load-short, load-long, load-accepted, load-rejected, attributes-long, classes-long, reading-formed}
+use Rattle.keeper.specs.Load.{emptied, reading, readAnswer, filled, load}
+use Rattle.keeper.specs.LoadLaws.{read-judged, read-bad, read-full, load-short, load-accepted, load-rejected, attributes-long, classes-long, reading-formed}
 use Rattle.keeper.specs.Audit.{audit}
 use Rattle.demands.specs.Order.{MeetsRules, InOrder}
 use Rattle.demands.specs.OrderLaws.{audit-done}
@@ -121,32 +119,3 @@ module _ (sheet : List ℕ) (s : Stores) where
 
     pub load-audits : audit (load sheet s .left) ≡ done 0 0
     load-audits = audit-done (load sheet s .left) load-order
-
--- ---- "Load never looks at what stood in the stores"
-
--- what is read, and what a store of the closure becomes, comes from the emptied stores alone
-same-read : (sheet : List ℕ) (s t : Stores) → emptied s ≡ emptied t → reading sheet (s .attributes) (s .classes) ≡ reading sheet (t .attributes) (t .classes)
-unfolding reading emptied
-same-read sheet s t e = ap (λ (x : Stores). readSheet sheet (x .attributes) (x .classes)) e
-
-closure-over : (out : SheetOut) (s : Stores) → LongEnough s → splice 0 (closureRows (classTable (out .classes))) (emptied s .closure) ≡ splice 0 (closureRows (classTable (out .classes))) (s .closure)
-unfolding emptied
-closure-over out s h =
-    let room : closureLength ≤ length (s .closure) = h .closure in
-    splice-over 0 (closureRows (classTable (out .classes))) (zeros closureLength) (s .closure) (closure-rows-length (classTable (out .classes)) ∙ sym (zeros-length closureLength)) (omega (arith, room, zeros-length closureLength))
-
-same-filled : (out : SheetOut) (s t : Stores) → LongEnough s → LongEnough t → emptied s ≡ emptied t → filled out s ≡ filled out t
-unfolding filled
-same-filled out s t hs ht e =
-    ap (stores (out .attributes) (out .classes)) (sym (closure-over out s hs) ∙ ap (λ (x : Stores). splice 0 (closureRows (classTable (out .classes))) (x .closure)) e ∙ closure-over out t ht)
-
--- stores that are the same once emptied are loaded the same
-pub load-blind : (sheet : List ℕ) (s t : Stores) → LongEnough s → LongEnough t → emptied s ≡ emptied t → load sheet s ≡ load sheet t
-load-blind sheet s t hs ht e =
-    load-long sheet s (not-short s hs)
-    ∙ ap (λ (o : SheetOut). loaded o s) (same-read sheet s t e)
-    ∙ same-loaded (reading sheet (t .attributes) (t .classes))
-    ∙ sym (load-long sheet t (not-short t ht))
-  where
-    same-loaded : (out : SheetOut) → loaded out s ≡ loaded out t
-    same-loaded out = unfold loaded in (ap₂ (λ (x y : Stores). result (readAnswer out) (cond (eqb (readAnswer out .number) 0) x y)) (same-filled out s t hs ht e) e)

@@ -14,8 +14,9 @@ use Rattle.graph.specs.Graph.{Readable, closureRows}
 use Rattle.formats.specs.ShapesLaws.{Bytes}
 use Rattle.sheet.specs.declared.read.SheetRead.{SheetRead}
 use Rattle.sheet.specs.Reading.{Open, SheetOut, sheetOut, readSheet}
+use Rattle.sheet.specs.ReadingLaws.{emptied-open}
 use Rattle.tables.specs.Shaped.{Shaped}
-use Rattle.keeper.specs.LoadLaws.{load-short, load-accepted, load-rejected, emptied-ready, reading-shaped, reading-readable, attributes-long, classes-long, attributes-again, classes-again}
+use Rattle.keeper.specs.LoadLaws.{load-short, load-accepted, load-rejected, reading-shaped, reading-readable, attributes-long, classes-long, attributes-again, classes-again}
 use Rattle.keeper.specs.Load.{emptied, reading, readAnswer, filled, load}
 
 -- ---- reading and judging
@@ -31,7 +32,7 @@ was-read sheet a c a₁ c₁ {r} {a₂} {c₂} e f t = same ∙ ap₂ (readSheet
 
 -- the emptied stores may be read into
 pub ready : (a c : List ℕ) {a₁ c₁ : List ℕ} → attributesLength ≤ length a → classesLength ≤ length c → a₁ ≡ splice 0 (zeros attributesLength) a → c₁ ≡ splice 0 (zeros classesLength) c → Open a₁ c₁
-ready a c {a₁} {c₁} la lc e f = rw (e, f) (emptied-ready a c la lc)
+ready a c {a₁} {c₁} la lc e f = rw (e, f) (emptied-open a c la lc)
 
 -- what was read can be judged, and its classes walked
 module _ (sheet a c : List ℕ) (bytes : Bytes sheet) (la : attributesLength ≤ length a) (lc : classesLength ≤ length c) where

@@ -17,8 +17,8 @@ use Rattle.formats.specs.ShapesLaws.{Bytes}
 use Rattle.stores.specs.Filled.{attributeStore, classStore}
 use Rattle.stores.specs.FilledLaws.{attributes-length, classes-length}
 use Rattle.sheet.specs.declared.read.SheetRead.the-variants.{Read, Bad, Full}
-use Rattle.sheet.specs.Reading.{SheetOut, sheetOut, sheetAnswer, Open}
-use Rattle.sheet.specs.ReadingLaws.{AllPass, HeldBoth, held-no-attributes, held-no-classes, attributes-few, classes-few, sheet-held}
+use Rattle.sheet.specs.Reading.{SheetOut, sheetOut, sheetAnswer}
+use Rattle.sheet.specs.ReadingLaws.{AllPass, HeldBoth, sheet-held}
 use Rattle.tables.specs.Shaped.{Shaped}
 use Rattle.graph.specs.Graph.{Readable}
 use Rattle.shape.specs.Shape.{attributesFormed, classesFormed, formed}
@@ -87,16 +87,6 @@ module _ (sheet a c : List ℕ) (bytes : Bytes sheet) (la : attributesLength ≤
 
   pub reading-readable : Readable (reading sheet a c .classes)
   reading-readable = formed-readable (reading sheet a c .attributes) _ (omega (arith, attributes-long, la)) (omega (arith, classes-long, lc)) reading-formed
-
--- emptied stores may be read into
-pub emptied-ready : (a c : List ℕ) → attributesLength ≤ length a → classesLength ≤ length c → Open (splice 0 (zeros attributesLength) a) (splice 0 (zeros classesLength) c)
-emptied-ready a c la lc =
-    record {
-      attributesLong = omega (arith, front-length attributesLength (zeros attributesLength) a _ refl (zeros-length attributesLength) la);
-      classesLong = omega (arith, front-length classesLength (zeros classesLength) c _ refl (zeros-length classesLength) lc);
-      attributesFew = attributes-few (held-no-attributes a);
-      classesFew = classes-few (held-no-classes c);
-    }
 
 -- ---- the answer, by what reading came to
 

@@ -10,18 +10,19 @@ use Rattle.schema.specs.Store.{classTable, stores, Result, result}
 use Rattle.formats.specs.ShapesLaws.{Bytes}
 use Rattle.tables.specs.Shaped.{ClassesShaped}
 use Rattle.keeper.specs.Load.{load}
-use Rattle.listing.specs.Listing.{listing, refusedLine, loadedText, blank}
+use Rattle.stores.specs.Filled.{emptyStores}
+use Rattle.listing.specs.Listing.{listing, refusedLine, loadedText}
 use Rattle.listing.specs.ListingLaws.{text-accepted, text-refused, rowsRead, accepted-shaped, accepted-closure}
 use Rattle.graph.specs.FreshLaws.{closure-rows-length}
 
-module _ (sheet : List ℕ) {x : Answer} {a c k : List ℕ} (e : result x (stores a c k) ≡ load sheet blank) where
-  number-is : load sheet blank .answer .number ≡ x .number
+module _ (sheet : List ℕ) {x : Answer} {a c k : List ℕ} (e : result x (stores a c k) ≡ load sheet emptyStores) where
+  number-is : load sheet emptyStores .answer .number ≡ x .number
   number-is = sym (ap (λ (r : Result). r .answer .number) e)
 
-  pub loaded-listing : x .number ≡ 0 → loadedText (load sheet blank) ≡ listing (classTable c) k
+  pub loaded-listing : x .number ≡ 0 → loadedText (load sheet emptyStores) ≡ listing (classTable c) k
   loaded-listing z = ap loadedText (sym e) ∙ text-accepted (result x (stores a c k)) z
 
-  pub loaded-refused : ¬ (x .number ≡ 0) → loadedText (load sheet blank) ≡ refusedLine x
+  pub loaded-refused : ¬ (x .number ≡ 0) → loadedText (load sheet emptyStores) ≡ refusedLine x
   loaded-refused d = ap loadedText (sym e) ∙ text-refused (result x (stores a c k)) d
 
   -- the rows of an accepted sheet can be listed

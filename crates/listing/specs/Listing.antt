@@ -10,16 +10,17 @@ use mathlib.Core.List.{List, [], _∷_, _++_, List·Memᴰ}
 use Prim.Native.Nat.{ℕ, _+_, _*_, _≤_, _<_}
 use lib.Dec.{eqb, ltb}
 use lib.ListN.{length}
-use Rattle.prelude.specs.Part.{part, zeros}
+use Rattle.prelude.specs.Part.{part}
 use Rattle.sets.specs.Sets.{memberCount, countBelow, Rises}
 use Rattle.schema.specs.declared.answer.Answer.{Answer}
 use Rattle.schema.specs.Numbers.{classLimit, attributeLimit}
-use Rattle.schema.specs.Layout.{nameLimit, arcLimit, attributeSet, demandedAt, allowedAt, attributesLength, classesLength, closureLength}
+use Rattle.schema.specs.Layout.{nameLimit, arcLimit, attributeSet, demandedAt, allowedAt, classesLength, closureLength}
 use Rattle.schema.specs.Row.{nameOf, arcCount, arcOf}
-use Rattle.schema.specs.Store.{Table, classTable, closureAt, Stores, stores, Result}
+use Rattle.schema.specs.Store.{Table, classTable, closureAt, Result}
 use Rattle.prelude.specs.Concat.{concatBelow}
 use Rattle.graph.specs.Graph.{demands, allows}
 use Rattle.tables.specs.Shaped.{Bounded}
+use Rattle.stores.specs.Filled.{emptyStores}
 use Rattle.keeper.specs.Load.{load}
 use Rattle.listing.specs.Text.{ascii, decimal, textLine}
 
@@ -75,13 +76,9 @@ sheetLimit = 32768
 unfoldable pub loadedText : Result → List ℕ
 loadedText r = cond (eqb (r .answer .number) 0) (listing (classTable (r .left .classes)) (r .left .closure)) (refusedLine (r .answer))
 
--- the stores of the program: "Load never looks at what stood in the stores"
-unfoldable pub blank : Stores
-blank = stores (zeros attributesLength) (zeros classesLength) (zeros closureLength)
-
--- the text for a sheet
+-- the text for a sheet, loaded into empty stores: "Load never looks at what stood in the stores"
 unfoldable pub listed : List ℕ → List ℕ
-listed sheet = cond (ltb sheetLimit (length sheet)) tooLong (loadedText (load sheet blank))
+listed sheet = cond (ltb sheetLimit (length sheet)) tooLong (loadedText (load sheet emptyStores))
 
 -- ---- the same, from the rows alone: the counts are those of the sets as they are defined
 

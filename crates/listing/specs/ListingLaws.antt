@@ -2,10 +2,11 @@
 use mathlib.Core.Path.{_≡_, sym, ap, ap₂, _∙_}
 use mathlib.Core.Bool.{false}
 use mathlib.Core.Logic.{⊎-elim}
-use mathlib.Core.List.{List, _++_, append-nil}
-use Prim.Native.Nat.{ℕ, _+_, _≤_, _<_}
+use mathlib.Core.List.{List, _++_}
+use Prim.Native.Nat.{ℕ, _≤_, _<_}
 use native.Mathlib.Omega.{arith}
-use lib.ListN.{length, drop-of-length-le}
+use lib.ListN.{length}
+use Rattle.prelude.specs.SpliceLaws.{splice-all}
 use borrow.Author.Tests.{eq-eqb, lt-ltb, le-ltb}
 use Rattle.prelude.specs.ConcatLaws.{concat-same}
 use Rattle.prelude.specs.SaysLaws.{says-eq, says-false}
@@ -22,7 +23,8 @@ use Rattle.graph.specs.Graph.{closureRow, closureRows}
 use Rattle.sheet.specs.Reading.{SheetOut}
 use Rattle.keeper.specs.Load.{reading, readAnswer, filled, loaded, load}
 use Rattle.keeper.specs.LoadLaws.{reading-shaped}
-use Rattle.listing.specs.Listing.{classLine, classLines, headLine, listing, refusedLine, tooLong, sheetLimit, loadedText, blank, listed, definedLine, definedListing}
+use Rattle.stores.specs.Filled.{emptyStores}
+use Rattle.listing.specs.Listing.{classLine, classLines, headLine, listing, refusedLine, tooLong, sheetLimit, loadedText, listed, definedLine, definedListing}
 use Rattle.graph.specs.FreshLaws.{closure-rows-length, closure-rows-at}
 use Rattle.listing.specs.CountsLaws.{must-members, may-members}
 
@@ -32,7 +34,7 @@ pub listed-long : (sheet : List ℕ) → sheetLimit < length sheet → listed sh
 unfolding listed
 listed-long sheet l = rw (lt-ltb sheetLimit (length sheet) l)
 
-pub listed-loaded : (sheet : List ℕ) → length sheet ≤ sheetLimit → listed sheet ≡ loadedText (load sheet blank)
+pub listed-loaded : (sheet : List ℕ) → length sheet ≤ sheetLimit → listed sheet ≡ loadedText (load sheet emptyStores)
 unfolding listed
 listed-loaded sheet l = rw (le-ltb sheetLimit (length sheet) l)
 
@@ -57,74 +59,68 @@ module _ (t : Table) (closure : List ℕ) (few : t .count ≤ classLimit) (fresh
 
 -- ---- a load into the program's stores
 
-blank-long : anyShort blank ≡ false
-blank-long = says-false (says-short blank) (⊎-elim attributes-short (⊎-elim classes-short closure-short))
+emptyStores-long : anyShort emptyStores ≡ false
+emptyStores-long = says-false (says-short emptyStores) (⊎-elim attributes-short (⊎-elim classes-short closure-short))
   where
-    attributes-short : length (blank .attributes) < attributesLength → ⊥
-    attributes-short l = unfold blank in omega (arith, l, zeros-length attributesLength)
+    attributes-short : length (emptyStores .attributes) < attributesLength → ⊥
+    attributes-short l = omega (arith, l, zeros-length attributesLength)
 
-    classes-short : length (blank .classes) < classesLength → ⊥
-    classes-short l = unfold blank in omega (arith, l, zeros-length classesLength)
+    classes-short : length (emptyStores .classes) < classesLength → ⊥
+    classes-short l = omega (arith, l, zeros-length classesLength)
 
-    closure-short : length (blank .closure) < closureLength → ⊥
-    closure-short l = unfold blank in omega (arith, l, zeros-length closureLength)
+    closure-short : length (emptyStores .closure) < closureLength → ⊥
+    closure-short l = omega (arith, l, zeros-length closureLength)
 
--- every byte of a string is replaced
-splice-all : (new s : List ℕ) → length s ≡ length new → splice 0 new s ≡ new
-unfolding splice
-splice-all new s e = let h : length s ≤ 0 + length new = omega arith in rw (drop-of-length-le s h, append-nil)
-
-all-written : (new : List ℕ) → length new ≡ closureLength → splice 0 new (blank .closure) ≡ new
-unfolding blank
+all-written : (new : List ℕ) → length new ≡ closureLength → splice 0 new (emptyStores .closure) ≡ new
 all-written new e = splice-all new (zeros closureLength) (zeros-length closureLength ∙ sym e)
 
 module _ (sheet : List ℕ) where
   -- what is read of it
   abbrev pub rowsRead : SheetOut
-  rowsRead = reading sheet (blank .attributes) (blank .classes)
+  rowsRead = reading sheet (emptyStores .attributes) (emptyStores .classes)
 
-  load-blank : load sheet blank ≡ loaded rowsRead blank
+  load-emptyStores : load sheet emptyStores ≡ loaded rowsRead emptyStores
   unfolding load
-  load-blank = rw blank-long
+  load-emptyStores = rw emptyStores-long
 
-  pub load-answer : load sheet blank .answer ≡ readAnswer rowsRead
+  pub load-answer : load sheet emptyStores .answer ≡ readAnswer rowsRead
   unfolding loaded
-  load-answer = ap (λ (r : Result). r .answer) load-blank
+  load-answer = ap (λ (r : Result). r .answer) load-emptyStores
 
-  load-left : readAnswer rowsRead .number ≡ 0 → load sheet blank .left ≡ filled rowsRead blank
+  load-left : readAnswer rowsRead .number ≡ 0 → load sheet emptyStores .left ≡ filled rowsRead emptyStores
   unfolding loaded
-  load-left z = ap (λ (r : Result). r .left) load-blank ∙ rw (eq-eqb (readAnswer rowsRead .number) 0 z)
+  load-left z = ap (λ (r : Result). r .left) load-emptyStores ∙ rw (eq-eqb (readAnswer rowsRead .number) 0 z)
 
-  module _ (bytes : Bytes sheet) (accepted : load sheet blank .answer .number ≡ 0) where
+  module _ (bytes : Bytes sheet) (accepted : load sheet emptyStores .answer .number ≡ 0) where
     zero-read : readAnswer rowsRead .number ≡ 0
     zero-read = sym (ap (λ (a : Answer). a .number) load-answer) ∙ accepted
 
-    pub accepted-classes : load sheet blank .left .classes ≡ rowsRead .classes
+    pub accepted-classes : load sheet emptyStores .left .classes ≡ rowsRead .classes
     unfolding filled
     accepted-classes = ap (λ (s : Stores). s .classes) (load-left zero-read)
 
-    pub accepted-closure : load sheet blank .left .closure ≡ closureRows (classTable (rowsRead .classes))
+    pub accepted-closure : load sheet emptyStores .left .closure ≡ closureRows (classTable (rowsRead .classes))
     unfolding filled
     accepted-closure = ap (λ (s : Stores). s .closure) (load-left zero-read) ∙ all-written (closureRows (classTable (rowsRead .classes))) (closure-rows-length (classTable (rowsRead .classes)))
 
     rows-shaped : ClassesShaped (rowsRead .classes)
-    rows-shaped = reading-shaped sheet (blank .attributes) (blank .classes) bytes attributes classes .classes
+    rows-shaped = reading-shaped sheet (emptyStores .attributes) (emptyStores .classes) bytes attributes classes .classes
       where
-        attributes : attributesLength ≤ length (blank .attributes)
-        attributes = unfold blank in omega (arith, zeros-length attributesLength)
+        attributes : attributesLength ≤ length (emptyStores .attributes)
+        attributes = omega (arith, zeros-length attributesLength)
 
-        classes : classesLength ≤ length (blank .classes)
-        classes = unfold blank in omega (arith, zeros-length classesLength)
+        classes : classesLength ≤ length (emptyStores .classes)
+        classes = omega (arith, zeros-length classesLength)
 
-    pub accepted-shaped : ClassesShaped (load sheet blank .left .classes)
+    pub accepted-shaped : ClassesShaped (load sheet emptyStores .left .classes)
     accepted-shaped = rw accepted-classes rows-shaped
 
     -- an accepted sheet: the listing of its rows, with counts of the sets as they are defined
     pub accepted-text : length sheet ≤ sheetLimit → listed sheet ≡ definedListing (classTable (rowsRead .classes))
     accepted-text l =
-        listed-loaded sheet l ∙ text-accepted (load sheet blank) accepted ∙ ap₂ (λ (x y : List ℕ). listing (classTable x) y) accepted-classes accepted-closure
+        listed-loaded sheet l ∙ text-accepted (load sheet emptyStores) accepted ∙ ap₂ (λ (x y : List ℕ). listing (classTable x) y) accepted-classes accepted-closure
         ∙ listing-defined (classTable (rowsRead .classes)) (closureRows (classTable (rowsRead .classes))) (rows-shaped .count) (closure-rows-at (classTable (rowsRead .classes)))
 
   -- a refused one: its line
-  pub refused-text : length sheet ≤ sheetLimit → ¬ (load sheet blank .answer .number ≡ 0) → listed sheet ≡ refusedLine (readAnswer rowsRead)
-  refused-text l d = listed-loaded sheet l ∙ text-refused (load sheet blank) d ∙ ap refusedLine load-answer
+  pub refused-text : length sheet ≤ sheetLimit → ¬ (load sheet emptyStores .answer .number ≡ 0) → listed sheet ≡ refusedLine (readAnswer rowsRead)
+  refused-text l d = listed-loaded sheet l ∙ text-refused (load sheet emptyStores) d ∙ ap refusedLine load-answer

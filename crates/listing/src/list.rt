@@ -20,7 +20,8 @@ ghost use Rattle.schema.specs.Store.{classTable};
 ghost use Rattle.tables.specs.Shaped.{ClassesShaped};
 ghost use Rattle.keeper.specs.Load.{load};
 ghost use Rattle.listing.specs.Text.{Written};
-ghost use Rattle.listing.specs.Listing.{listing, refusedLine, textLength, blank, loadedText, listed};
+ghost use Rattle.stores.specs.Filled.{emptyStores};
+ghost use Rattle.listing.specs.Listing.{listing, refusedLine, textLength, loadedText, listed};
 
 // "at most 32,768 bytes"
 pub const SHEET_LIMIT: usize = 32768;
@@ -56,7 +57,7 @@ fn put_refused(answer: Answer, out: &mut [u8]) -> usize
 // Loads a sheet into stores of its own, and writes what came of it.
 fn list_loaded(sheet: &[u8], out: &mut [u8]) -> usize
     requires { ⌜ textLength ≤ length (now out) ⌝ }
-    ensures { λ r. ⌜ Written (loadedText (load (now (sheet .entry)) blank)) 0 r (now (out .entry)) (now (out .exit)) ⌝ }
+    ensures { λ r. ⌜ Written (loadedText (load (now (sheet .entry)) emptyStores)) 0 r (now (out .entry)) (now (out .exit)) ⌝ }
 {
     let mut attributes = [0u8; ATTRIBUTES_LENGTH];
     let mut classes = [0u8; CLASSES_LENGTH];

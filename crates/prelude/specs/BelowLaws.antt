@@ -150,6 +150,11 @@ unfolding anyBelow
 any-cong zero p q h = refl
 any-cong (suc n) p q h = rw (any-cong n p q (λ k l. h k (omega arith)), h n (omega arith))
 
+pub first-cong : (n : ℕ) (p q : ℕ → Bool) → ((k : ℕ) → k < n → p k ≡ q k) → firstBelow n p ≡ firstBelow n q
+unfolding firstBelow
+first-cong zero p q h = refl
+first-cong (suc n) p q h = rw (any-cong n p q (λ k l. h k (omega arith)), first-cong n p q (λ k l. h k (omega arith)), h n (omega arith))
+
 pub all-cong : (n : ℕ) (p q : ℕ → Bool) → ((k : ℕ) → k < n → p k ≡ q k) → allBelow n p ≡ allBelow n q
 unfolding allBelow
 all-cong zero p q h = refl

@@ -15,3 +15,4 @@ pub mod Concat
 pub mod ConcatLaws
 pub mod BigEndian
 pub mod BigEndianLaws
+pub mod FrontLaws

@@ -2,11 +2,9 @@
 use mathlib.Core.Path.{_≡_, refl, sym, ap, ap₂, _∙_}
 use mathlib.Core.Bool.{Bool, _&&_}
 use mathlib.Core.List.{List, [], _∷_, _++_}
-use Prim.Native.Nat.{ℕ, zero, suc, _<_}
-use native.Mathlib.Omega.{arith}
+use Prim.Native.Nat.{ℕ, _<_}
 use lib.Dec.{eqb}
-use Rattle.prelude.specs.Below.{firstBelow}
-use Rattle.prelude.specs.BelowLaws.{any-cong}
+use Rattle.prelude.specs.BelowLaws.{first-cong, any-cong}
 use Rattle.prelude.specs.First.{_when_}
 use Rattle.schema.specs.ClassRow.{namingOf}
 use Rattle.schema.specs.Store.{Table}
@@ -44,11 +42,6 @@ append-same nil h = h
 append-same (cons e g) h = cons e (append-same g h)
 
 -- ---- they are judged the same
-
-first-cong : (n : ℕ) (p q : ℕ → Bool) → ((k : ℕ) → k < n → p k ≡ q k) → firstBelow n p ≡ firstBelow n q
-unfolding firstBelow
-first-cong zero p q h = refl
-first-cong (suc n) p q h = rw (any-cong n p q (λ k l. h k (omega arith)), first-cong n p q (λ k l. h k (omega arith)), h n (omega arith))
 
 judge-rule-same : {n m : ℕ} {r s : RowRule} → SameRule n m r s → (else : Answer) → judgeRule r n m else ≡ judgeRule s n m else
 unfolding judgeRule

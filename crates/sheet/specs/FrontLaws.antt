@@ -1,7 +1,7 @@
 -- Stores that are longer than their lengths (READINGS R36). Only the first bytes of a store are read and written: what a sheet leaves in a longer store is what it
 -- leaves in one of exactly its length, with the bytes behind as they were. So what is read comes from the sheet alone.
 use mathlib.Core.Path.{_≡_, refl, sym, ap, ap₂, subst, _∙_}
-use mathlib.Core.Bool.{Bool, true, false, cond}
+use mathlib.Core.Bool.{Bool, true}
 use mathlib.Core.List.{List, [], _∷_, _++_, append-assoc}
 use Prim.Native.Nat.{ℕ, zero, suc, _+_, _*_, _≤_, _<_}
 use native.Mathlib.Omega.{arith}
@@ -10,8 +10,8 @@ use lib.ListN.{length, getD, drop, List·getD-append}
 use lib.Seq.{take-append-le, drop-append-le}
 use Rattle.prelude.specs.Part.{splice, zeros}
 use Rattle.prelude.specs.PartLaws.{row-fits, zeros-length, zeros-at}
-use Rattle.prelude.specs.SpliceLaws.{splice-length, splice-front}
-use Rattle.prelude.specs.SaysLaws.{says-eq, says-fails}
+use Rattle.prelude.specs.SpliceLaws.{splice-front, splice-length}
+use Rattle.prelude.specs.SaysLaws.{choose-both, says-eq, says-fails}
 use Rattle.prelude.specs.BigEndianLaws.{two-bytes, bytes-length}
 use Rattle.schema.specs.Numbers.{attributeLimit, classLimit}
 use Rattle.schema.specs.Layout.{rowsAt, attributeWidth, classWidth, attributesLength, classesLength}
@@ -117,11 +117,6 @@ module _ (row c : List ℕ) (h : ClassesFit c) (l : classTable c .count < classL
       ∙ put-front classWidth classLimit (classTable c .count) ((classTable c .count + 1) ∷ []) row c l wide (omega arith) (h .long) u
 
 -- ---- a step
-
--- a fact of both branches of two choices is one of the choices
-choose-both : {A B : Type 0} (P : A → B → Type 0) (b : Bool) {x y : A} {z w : B} → (b ≡ true → P x z) → (b ≡ false → P y w) → P (cond b x y) (cond b z w)
-choose-both P true t f = t refl
-choose-both P false t f = f refl
 
 -- a row that was read or refused: the bytes behind the store stay
 row-front : (plus : List ℕ → List ℕ → List ℕ) (phase : Phase) (stop : ℕ) (missing : Bool) (store t row : List ℕ) (r : RowRead) → plus row (splice 0 store t) ≡ splice 0 (plus row store) t

@@ -6,14 +6,12 @@ use mathlib.Core.Logic.{_⊎_, inl, inr}
 use Prim.Native.Nat.{ℕ, _+_, _*_, _≤_, _<_}
 use native.Mathlib.Omega.{arith}
 use lib.Dec.{ltb}
-use lib.ListN.{getD}
 use Rattle.prelude.specs.SaysLaws.{says-lt, says-split, says-true, says-false}
 use Rattle.prelude.specs.Below.{anyBelow}
 use Rattle.prelude.specs.BelowLaws.{any-cong}
 use Rattle.prelude.specs.Part.{part, rowAt}
-use Rattle.prelude.specs.PartLaws.{part-at, part-part, row-fits}
-use Rattle.prelude.specs.BigEndian.{bigEndian}
-use Rattle.prelude.specs.BigEndianLaws.{number-in-part}
+use Rattle.prelude.specs.PartLaws.{row-fits}
+use Rattle.prelude.specs.FrontLaws.{front-byte, front-number, front-part}
 use Rattle.schema.specs.Numbers.{attributeLimit, classLimit}
 use Rattle.schema.specs.Layout.{rowsAt, attributeWidth, classWidth, attributesLength, classesLength}
 use Rattle.schema.specs.Row.{isDefunct}
@@ -55,23 +53,8 @@ module _ {t u : Table} (s : Same t u) where
 -- ---- stores whose first n bytes are the same
 
 module _ (n : ℕ) (a b : List ℕ) (front : part 0 n a ≡ part 0 n b) where
-  front-byte : (i : ℕ) → i < n → getD a i 0 ≡ getD b i 0
-  front-byte i l =
-      let e : 0 + i ≡ i = omega arith in
-      rw e at (sym (part-at 0 n a i l) ∙ ap (λ (s : List ℕ). getD s i 0) front ∙ part-at 0 n b i l)
-
-  front-number : (m i : ℕ) → i + m ≤ n → bigEndian m i a ≡ bigEndian m i b
-  front-number m i h =
-      let e : 0 + i ≡ i = omega arith in
-      rw e at (sym (number-in-part m i 0 n a h) ∙ ap (bigEndian m i) front ∙ number-in-part m i 0 n b h)
-
-  front-part : (i m : ℕ) → i + m ≤ n → part i m a ≡ part i m b
-  front-part i m h =
-      let e : 0 + i ≡ i = omega arith in
-      rw e at (sym (part-part 0 n a i m h) ∙ ap (part i m) front ∙ part-part 0 n b i m h)
-
   front-row : (width limit k : ℕ) → rowsAt + width * limit ≤ n → k < limit → rowAt rowsAt width a k ≡ rowAt rowsAt width b k
-  front-row width limit k h l = front-part (rowsAt + width * k) width (row-fits rowsAt width limit k n h l)
+  front-row width limit k h l = front-part n a b front (rowsAt + width * k) width (row-fits rowsAt width limit k n h l)
 
 -- the attribute store, and the class store: whatever stands past their lengths
 pub attributes-same : (a b : List ℕ) → part 0 attributesLength a ≡ part 0 attributesLength b → attributeTable a .count ≤ attributeLimit → Same (attributeTable a) (attributeTable b)
