@@ -162,16 +162,16 @@ set-then-splice at v new s h =
 pub set-splice-two : (at v w : ℕ) (s : List ℕ) → at + 2 ≤ length s → set (set s at v) (at + 1) w ≡ splice at (v ∷ w ∷ []) s
 set-splice-two at v w s h = set-splice (at + 1) w (set s at v) (simp length-set (omega arith)) ∙ set-then-splice at v (w ∷ []) s (omega arith)
 
--- the front of t replaced by s
-pub splice-front : (s t : List ℕ) → splice 0 s t ≡ s ++ drop (length s) t
-unfolding splice
-splice-front s t = ap (λ (n : ℕ). s ++ drop n t) (zero-add (length s))
+-- ---- at the front
 
--- every byte is replaced
+pub splice-front : (x s : List ℕ) → splice 0 x s ≡ x ++ drop (length x) s
+unfolding splice
+splice-front x s = ap (λ (n : ℕ). x ++ drop n s) (zero-add (length x))
+
+-- every byte is replaced, and none
 pub splice-all : (new s : List ℕ) → length s ≡ length new → splice 0 new s ≡ new
 splice-all new s e = let h : length s ≤ length new = omega arith in splice-front new s ∙ rw (drop-of-length-le s h, append-nil)
 
--- nothing put in its place
 pub splice-none : (at : ℕ) (s : List ℕ) → splice at [] s ≡ s
 unfolding splice
 splice-none at s = rw (add-zero at) (take-append-drop at s)
