@@ -32,7 +32,7 @@ same-length : tie.Need-same-length
 same-length c = search needs
 
 returns : tie.Need-returns
-returns c = write-back (c .before .before .before .before .before .before .before .before .before .before .before .before .before .before .before .args .lengths) _ (c .before .before .before .before .before .before .before .before .before .before .before .before .before .before .before .args .n) (c .before .before .before .before .before .before .before .before .before .before .before .before .before .before .before .args .output .now) (c .before .before .before .before .before .before .before .before .before .lengthen .last .0) (c .before .before .write .last .1 .1 .1 .0) (c .before .before .write .result) (stores (c .before .before .before .before .before .before .part-of .result .now) (c .before .before .before .before .before .part-of2 .result .now) (c .before .before .before .before .part-of3 .result .now)) (c .before .before .before .before .before .before .before .before .before .before .before .before .before .before .before .pre .1) (c .before .before .before .before .before .before .before .before .before .lengthen .ensures) (rw (c .before .before .before .before .before .before .part-of .ensures, c .before .before .before .before .before .part-of2 .ensures, c .before .before .before .before .part-of3 .ensures)) (c .before .before .write .ensures) (c .before .before .write .kept .1 .1 .1 .0)
+returns c = write-back (c .before .before .before .before .before .before .before .before .before .before .before .before .before .before .before .args .lengths) (stores (c .before .before .before .before .before .before .before .before .before .before .before .before .before .before .before .args .attributes .now) (c .before .before .before .before .before .before .before .before .before .before .before .before .before .before .before .args .classes .now) (c .before .before .before .before .before .before .before .before .before .before .before .before .before .before .before .args .closure .now)) (c .before .before .before .before .before .before .before .before .before .before .before .before .before .before .before .args .n) (c .before .before .before .before .before .before .before .before .before .before .before .before .before .before .before .args .output .now) (c .before .before .before .before .before .before .before .before .before .lengthen .last .0) (c .before .before .write .last .1 .1 .1 .0) (c .before .before .write .result) (stores (c .before .before .before .before .before .before .part-of .result .now) (c .before .before .before .before .before .part-of2 .result .now) (c .before .before .before .before .part-of3 .result .now)) (c .before .before .before .before .before .before .before .before .before .before .before .before .before .before .before .pre .1) (c .before .before .before .before .before .before .before .before .before .lengthen .ensures) (rw (c .before .before .before .before .before .before .part-of .ensures, c .before .before .before .before .before .part-of2 .ensures, c .before .before .before .before .part-of3 .ensures)) (c .before .before .write .ensures) (c .before .before .write .kept .1 .1 .1 .0)
 
 pub write-lent-spec : {M : Type 1} → statement M
 write-lent-spec =
