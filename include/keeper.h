@@ -5,7 +5,7 @@
  * memory of its own: every call is lent three byte strings, the stores, and judges or fills them. Link with
  * target/staticlib/libkeeper_c.a (made by `rt staticlib keeper_c`); nothing else is needed, and no heap is used.
  * What each call gives and which bytes it writes is proved for every input; docs/PROOFS.md says where.
- * samples/load.c is a small program that uses it.
+ * examples/load.c is a small program that uses it.
  *
  * What a caller owes. The proof speaks of what stands in the bytes lent, whatever it is; it cannot speak of pointers:
  *   - Each pointer is valid for the length given beside it, and not NULL even where that length is 0.

@@ -5,3 +5,4 @@ pub mod Syntax
 pub mod SyntaxLaws
 pub mod Links
 pub mod LinksLaws
+pub mod SameLaws

@@ -1,21 +1,21 @@
 -- What the tests of syntax and object class say.
 use mathlib.Core.Path.{_≡_, refl}
-use mathlib.Core.Bool.{true}
-use native.Mathlib.Omega.{arith}
-use borrow.Author.Tests.{leb-true}
-use lib.Dec.{leb}
 use mathlib.Core.List.{List}
-use Prim.Native.Nat.{ℕ, _+_, _*_, _<_}
-use lib.ListN.{length, getD}
+use Prim.Native.Nat.{ℕ, _+_, _*_}
+use lib.ListN.{getD}
+use mathlib.Core.Bool.{true, false, not, _||_}
+use mathlib.Core.Logic.{⊎-elim}
+use lib.Dec.{eqb}
+use borrow.Author.Tests.{not-false}
+use Rattle.prelude.specs.Below.{anyBelow, allBelow}
+use Rattle.prelude.specs.Part.{part, padded, zeros}
 use Rattle.prelude.specs.Says.{Says}
-use Rattle.prelude.specs.SaysLaws.{says-and, says-not, says-eq}
-use Rattle.prelude.specs.Part.{rowAt, part, padded, zeros}
-use Rattle.prelude.specs.PartLaws.{says-same-bytes, part-length}
+use Rattle.prelude.specs.SaysLaws.{says-and, says-not, says-eq, says-or, says-false}
 use Rattle.prelude.specs.BelowLaws.{says-any, all-each}
-use Rattle.prelude.specs.Below.{allBelow}
-use Rattle.schema.specs.Row.{countedAt}
+use Rattle.schema.specs.ObjectClasses.{ObjectClassFits, entryCount, objectClasses, entrySyntax, firstObjectClass, HasObjectClass}
+use Rattle.schema.specs.ObjectClassesLaws.{says-object-class-fits, first-fits}
 use Rattle.schema.specs.AttributeRow.{syntaxOf, omSyntaxOf, objectClassOf}
-use Rattle.attribute_rules.specs.Syntax.{syntaxPairs, pairCount, syntaxFits, syntaxWrong, objectClasses, entryWidth, entryCount, objectClassFits, objectClassWrong, SyntaxFits, ObjectClassFits, Entries, valueWidth}
+use Rattle.attribute_rules.specs.Syntax.{syntaxPairs, pairCount, syntaxFits, syntaxWrong, objectClassWrong, SyntaxFits}
 
 pub says-syntax-fits : (syntax omSyntax : ℕ) → Says (syntaxFits syntax omSyntax) (SyntaxFits syntax omSyntax)
 unfolding syntaxFits
@@ -27,30 +27,29 @@ pub says-syntax-wrong : (row : List ℕ) → Says (syntaxWrong row) (¬ (SyntaxF
 unfolding syntaxWrong
 says-syntax-wrong row = says-not (says-syntax-fits (syntaxOf row) (omSyntaxOf row))
 
-pub says-object-class-fits : (syntax : ℕ) (value : List ℕ) → Says (objectClassFits syntax value) (ObjectClassFits syntax value)
-unfolding objectClassFits
-says-object-class-fits syntax value =
-    says-any entryCount (λ i l. says-and (says-eq (getD (rowAt 0 entryWidth objectClasses i) 0 0) syntax) (says-same-bytes value (countedAt 1 (rowAt 0 entryWidth objectClasses i))))
-
 -- rule 27
 pub says-object-class-wrong : (row : List ℕ) → Says (objectClassWrong row) ((omSyntaxOf row ≡ 127) × ¬ (ObjectClassFits (syntaxOf row) (objectClassOf row)))
 unfolding objectClassWrong
 says-object-class-wrong row = says-and (says-eq (omSyntaxOf row) 127) (says-not (says-object-class-fits (syntaxOf row) (objectClassOf row)))
 
--- ---- what the comparison reads
+-- ---- the first value of a syntax, which a row gets that has none
 
--- computed over the table
-all-short : allBelow entryCount (λ i. leb (getD (rowAt 0 entryWidth objectClasses i) 1 0) valueWidth) ≡ true
-unfolding allBelow objectClasses part padded zeros
-all-short = refl
+-- computed over both tables: a syntax that goes with oMSyntax 127 has a right value
+all-have : allBelow pairCount (λ i. not (eqb (getD syntaxPairs (2 * i + 1) 0) 127) || anyBelow entryCount (λ j. eqb (entrySyntax objectClasses j) (getD syntaxPairs (2 * i) 0))) ≡ true
+unfolding allBelow anyBelow objectClasses part padded zeros
+all-have = refl
 
-long : length objectClasses ≡ entryWidth * entryCount
-unfolding objectClasses padded zeros
-long = refl
+object-has : (syntax : ℕ) → SyntaxFits syntax 127 → HasObjectClass syntax
+object-has syntax s =
+    ⊎-elim (λ d. absurd (d (s .is .1))) (λ h. rw (s .is .0) at h)
+    (says-or (says-not (says-eq (getD syntaxPairs (2 * s .at + 1) 0) 127)) (says-any entryCount (λ j l. says-eq (entrySyntax objectClasses j) (getD syntaxPairs (2 * s .at) 0))) .holds
+    (all-each (λ i. not (eqb (getD syntaxPairs (2 * i + 1) 0) 127) || anyBelow entryCount (λ j. eqb (entrySyntax objectClasses j) (getD syntaxPairs (2 * i) 0))) pairCount all-have (s .at) (s .below)))
 
-pub entries : Entries objectClasses
-entries =
-    record { room = omega (arith, long); short = λ i l. leb-true (getD (rowAt 0 entryWidth objectClasses i) 1 0) valueWidth (all-each (λ k. leb (getD (rowAt 0 entryWidth objectClasses k) 1 0) valueWidth) entryCount all-short i l) }
+-- where rule 26 is kept and oMSyntax is 127
+pub kept-has : (row : List ℕ) → syntaxWrong row ≡ false → omSyntaxOf row ≡ 127 → HasObjectClass (syntaxOf row)
+unfolding syntaxWrong
+kept-has row k e = object-has (syntaxOf row) (rw e at (says-syntax-fits (syntaxOf row) (omSyntaxOf row) .holds (not-false (syntaxFits (syntaxOf row) (omSyntaxOf row)) k)))
 
-pub entry-length : (table : List ℕ) (i : ℕ) → Entries table → i < entryCount → length (rowAt 0 entryWidth table i) ≡ entryWidth
-entry-length table i h l = part-length (0 + entryWidth * i) entryWidth table (omega (arith, h .room))
+-- the first value of a syntax that has one keeps rule 27
+pub first-right : (row : List ℕ) → HasObjectClass (syntaxOf row) → objectClassOf row ≡ firstObjectClass (syntaxOf row) → objectClassWrong row ≡ false
+first-right row h e = says-false (says-object-class-wrong row) (λ w. w .1 (rw e (first-fits (syntaxOf row) h)))

@@ -5,6 +5,9 @@ use prelude::part::same;
 use schema::attribute::object_class;
 use schema::attribute::om_syntax;
 use schema::attribute::syntax;
+use schema::object_classes::ENTRY_COUNT;
+use schema::object_classes::ENTRY_WIDTH;
+use schema::object_classes::object_classes;
 use schema::row::counted;
 ghost use mathlib.Core.Path.{_≡_};
 ghost use mathlib.Core.Bool.{_&&_};
@@ -14,7 +17,8 @@ ghost use lib.ListN.{length, getD};
 ghost use Rattle.prelude.specs.Below.{anyBelow};
 ghost use Rattle.schema.specs.Layout.{attributeWidth, objectClassLimit};
 ghost use Rattle.schema.specs.AttributeRow.{objectClassLength};
-ghost use Rattle.attribute_rules.specs.Syntax.{pairCount, syntaxFits, syntaxWrong, entryCount, entrySays, objectClassFits, objectClassWrong, Entries};
+ghost use Rattle.schema.specs.ObjectClasses.{entryCount, entrySays, objectClassFits, Entries};
+ghost use Rattle.attribute_rules.specs.Syntax.{pairCount, syntaxFits, syntaxWrong, objectClassWrong};
 
 // The pairs of a syntax and an oMSyntax that match.
 const PAIR_COUNT: usize = 20;
@@ -60,86 +64,6 @@ const PAIRS: [u8; 40] = [
     65,
     17,
     4,
-];
-
-// The values of oMObjectClass: the syntax, how many bytes, and the bytes, padded to ten.
-const ENTRY_COUNT: usize = 6;
-
-const ENTRY_WIDTH: usize = 12;
-
-const OBJECT_CLASSES: [u8; 72] = [
-    1,
-    9,
-    0x2B,
-    0x0C,
-    0x02,
-    0x87,
-    0x73,
-    0x1C,
-    0x00,
-    0x85,
-    0x4A,
-    0,
-    7,
-    7,
-    0x56,
-    0x06,
-    0x01,
-    0x02,
-    0x05,
-    0x0B,
-    0x1D,
-    0,
-    0,
-    0,
-    7,
-    10,
-    0x2A,
-    0x86,
-    0x48,
-    0x86,
-    0xF7,
-    0x14,
-    0x01,
-    0x01,
-    0x01,
-    0x0B,
-    13,
-    9,
-    0x2B,
-    0x0C,
-    0x02,
-    0x87,
-    0x73,
-    0x1C,
-    0x00,
-    0x85,
-    0x5C,
-    0,
-    14,
-    9,
-    0x2B,
-    0x0C,
-    0x02,
-    0x87,
-    0x73,
-    0x1C,
-    0x00,
-    0x85,
-    0x3E,
-    0,
-    14,
-    10,
-    0x2A,
-    0x86,
-    0x48,
-    0x86,
-    0xF7,
-    0x14,
-    0x01,
-    0x01,
-    0x01,
-    0x0C,
 ];
 
 // Whether pair i of a table is a syntax with an oMSyntax.
@@ -213,7 +137,7 @@ fn has_entry(table: &[u8], syntax: u8, value: &[u8]) -> bool
 fn object_class_fits(syntax: u8, value: &[u8]) -> bool
     ensures { λ r. ⌜ r ≡ objectClassFits syntax (now (value .entry)) ⌝ }
 {
-    let table = OBJECT_CLASSES;
+    let table = object_classes();
     has_entry(&table, syntax, value)
 }
 

@@ -6,3 +6,4 @@ pub mod CategoryLaws
 pub mod Chain
 pub mod ChainLaws
 pub mod StayLaws
+pub mod SameLaws

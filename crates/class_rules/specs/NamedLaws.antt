@@ -3,17 +3,14 @@ use mathlib.Core.Path.{_≡_, refl, ap}
 use mathlib.Core.Bool.{true, false, false≢true}
 use mathlib.Core.List.{List}
 use mathlib.Core.Logic.{_⊎_, inl, inr, ⊎-elim}
-use Prim.Native.Nat.{ℕ, _≤_, _<_}
+use Prim.Native.Nat.{ℕ, _<_}
 use native.Mathlib.Omega.{arith}
-use lib.Dec.{ltb, eqb}
+use lib.Dec.{eqb}
 use Rattle.prelude.specs.Says.{Says}
 use Rattle.prelude.specs.SaysLaws.{says-and, says-or, says-not, says-eq, says-lt, says-test, says-iff, says-split}
 use Rattle.prelude.specs.BelowLaws.{says-any}
 use Rattle.sets.specs.SetsLaws.{says-member}
-use Rattle.schema.specs.Numbers.{attributeLimit, classLimit, classRead}
-use Rattle.schema.specs.declared.number.ClassNumber.{ClassNumber}
-use Rattle.schema.specs.declared.number.ClassRead.{ClassRead}
-use Rattle.schema.specs.declared.number.ClassRead.the-variants.{Class, Beyond}
+use Rattle.schema.specs.Numbers.{attributeLimit, classLimit}
 use Rattle.schema.specs.AttributeRow.{syntaxOf, isSingleValued}
 use Rattle.schema.specs.ClassRow.{superclassOf, namingOf, mandatoryOf, fixedOptionalOf, openOptionalOf, fixedAuxiliaryOf, openAuxiliaryOf, fixedSuperiorOf, openSuperiorOf}
 use Rattle.schema.specs.Store.{Table}
@@ -102,23 +99,3 @@ says-naming-wrong a Absent = record { holds = λ e. absurd (false≢true e); pas
   where
     never : (m : ℕ) → Absent ≡ By (record { 0 = m }) → false ≡ true
     never m e = cc
-
--- ---- a number read as a class number
-
-pub class-read-is : (n : ℕ) (s : ClassNumber) → classRead n ≡ Class s → n ≡ s .0
-class-read-is n s e = go (says-split (says-lt n classLimit)) e
-  where
-    go : ((ltb n classLimit ≡ true) × (n < classLimit)) ⊎ ((ltb n classLimit ≡ false) × ¬ (n < classLimit)) → classRead n ≡ Class s → n ≡ s .0
-    go (inl q) h = let i : Class (record { 0 = n }) ≡ Class s = rw (q .0) at h in ap classNumber i
-      where
-        classNumber : ClassRead → ℕ
-        classNumber (Class x) = x .0
-        classNumber Beyond = 0
-    go (inr q) h = let b : Beyond ≡ Class s = rw (q .0) at h in absurd (let z : _≡_ {A = ℕ} 0 1 = cc in omega arith)
-
-pub class-read-beyond : (n : ℕ) → classRead n ≡ Beyond → classLimit ≤ n
-class-read-beyond n e = go (says-split (says-lt n classLimit)) e
-  where
-    go : ((ltb n classLimit ≡ true) × (n < classLimit)) ⊎ ((ltb n classLimit ≡ false) × ¬ (n < classLimit)) → classRead n ≡ Beyond → classLimit ≤ n
-    go (inl q) h = let b : Class (record { 0 = n }) ≡ Beyond = rw (q .0) at h in absurd (let z : _≡_ {A = ℕ} 0 1 = cc in omega arith)
-    go (inr q) h = omega (arith, q .1)

@@ -7,3 +7,4 @@ pub mod Rules
 pub mod RulesLaws
 pub mod Formats
 pub mod FormatsLaws
+pub mod ShortLaws

@@ -1,7 +1,7 @@
 -- Laws of the shapes. A value that is accepted is stored as the bytes of a cell, these can be stored, and they stand for the value; bytes that can
 -- be stored stand for a value that is accepted, and are what it is stored as.
-use mathlib.Core.Path.{_≡_, refl, sym, ap, _∙_}
-use mathlib.Core.Bool.{Bool, true, false, not, false≢true}
+use mathlib.Core.Path.{_≡_, refl, ap, _∙_}
+use mathlib.Core.Bool.{Bool, true, false, false≢true}
 use mathlib.Core.List.{List, [], _∷_, append-nil}
 use Prim.Native.Nat.{ℕ, zero, suc, _+_, _-_, _*_, _/_, _%_, _≤_, _<_}
 use native.Mathlib.Omega.{arith}
@@ -10,7 +10,7 @@ use lib.Dec.{leb, ltb}
 use lib.ListN.{length, getD, drop, take, length-drop, take-append-drop}
 use lib.Seq.{take-append-seam, drop-append-seam, length-take-le}
 use Rattle.prelude.specs.Says.{Says}
-use Rattle.prelude.specs.SaysLaws.{says-and, says-not, says-eq, says-le, says-lt, says-false, says-fails, says-test}
+use Rattle.prelude.specs.SaysLaws.{says-and, says-not, says-eq, says-le, says-lt, says-false, says-fails, says-test, says-not-test}
 use Rattle.prelude.specs.Part.{part, padded, zeros, isZero}
 use Rattle.prelude.specs.PartLaws.{part-length, part-all, part-bytes, padded-length, zeros-at, says-zero, zeros-zero, zero-zeros}
 use Rattle.prelude.specs.BigEndian.{bigEndian, bigEndianBytes}
@@ -69,17 +69,13 @@ Holds (Counted least most) cell = (least ≤ getD cell 0 0) × ((getD cell 0 0 �
 Holds (Arcs most) cell = (getD cell 0 0 ≤ most) × (isZero (drop (getD cell 0 0 * 4 + 1) cell) ≡ true)
 Holds (Entries bytes) cell = isEmpty cell ≡ false
 
-says-false-test : (b : Bool) → Says (not b) (b ≡ false)
-says-false-test true = record { holds = λ e. sym e; passes = λ e. sym e }
-says-false-test false = record { holds = λ e. refl; passes = λ e. refl }
-
 pub says-holds : (shape : Shape) (cell : List ℕ) → Says (holds shape cell) (Holds shape cell)
 unfolding holds
 says-holds (Plain len test) cell = says-test (passes test cell)
 says-holds (Number limit) cell = says-lt (getD cell 0 0) limit
 says-holds (Counted least most) cell = says-and (says-le least (getD cell 0 0)) (says-and (says-le (getD cell 0 0) most) (says-test (isZero (drop (getD cell 0 0 + 1) cell))))
 says-holds (Arcs most) cell = says-and (says-le (getD cell 0 0) most) (says-test (isZero (drop (getD cell 0 0 * 4 + 1) cell)))
-says-holds (Entries bytes) cell = says-false-test (isEmpty cell)
+says-holds (Entries bytes) cell = says-not-test (isEmpty cell)
 
 -- ---- a value behind its count
 
@@ -228,7 +224,7 @@ pub image-nonzero : (shape : Shape) (v : List ℕ) → skippable shape ≡ true 
 unfolding skippable image passes
 image-nonzero (Plain len Any) v s h = absurd (false≢true s)
 image-nonzero (Plain len (Below limit)) v s h = absurd (false≢true s)
-image-nonzero (Plain len NotZero) v s h = says-false-test (isZero v) .holds (h .1)
+image-nonzero (Plain len NotZero) v s h = says-not-test (isZero v) .holds (h .1)
 image-nonzero (Plain len OpenList) v s h = absurd (false≢true s)
 image-nonzero (Number limit) v s h = absurd (false≢true s)
 image-nonzero (Counted least most) v s h =

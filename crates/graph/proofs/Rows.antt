@@ -1,8 +1,7 @@
 -- A row of the closure store written as three parts, and the store row by row.
-use mathlib.Core.Path.{_≡_, refl, sym, ap, ap₂, _∙_}
+use mathlib.Core.Path.{_≡_, sym, ap, ap₂, _∙_}
 use mathlib.Core.List.{List, [], _++_, append-assoc, append-nil}
-use Prim.Native.Nat.{ℕ, zero, suc, _+_, _-_, _*_, _≤_}
-use native.Mathlib.Numerals.{add-one}
+use Prim.Native.Nat.{ℕ, _+_, _-_, _*_, _≤_}
 use native.Mathlib.Omega.{arith}
 use lib.ListN.{length, take, drop, length-append, length-drop, drop-of-length-le}
 use lib.Seq.{take-at, drop-at, length-take-le}
@@ -10,12 +9,15 @@ use Rattle.prelude.specs.Part.{splice, padded}
 use Rattle.prelude.specs.PartLaws.{padded-full}
 use Rattle.prelude.specs.SpliceLaws.{splice-append, splice-length}
 use Rattle.prelude.specs.LentLaws.{lent-back}
+use Rattle.prelude.specs.Concat.{concatBelow}
+use Rattle.prelude.specs.ConcatLaws.{concat-none, concat-more, concat-length}
 use Rattle.sets.specs.Sets.{member, setOf}
 use Rattle.sets.specs.SetsLaws.{set-length}
 use Rattle.schema.specs.Numbers.{classLimit}
 use Rattle.schema.specs.Layout.{classSet, attributeSet, closureWidth, mandatoryAt, demandedAt, allowedAt}
 use Rattle.schema.specs.Store.{Table}
-use Rattle.graph.specs.Graph.{reaches, demands, allows, demandedSet, closureRow, closureRows, concatBelow}
+use Rattle.graph.specs.FreshLaws.{closure-row-length}
+use Rattle.graph.specs.Graph.{reaches, demands, allows, demandedSet, closureRow, closureRows}
 use Rattle.graph.specs.Collect.{collected, collectedOptional}
 use Rattle.graph.proofs.Gather.{demanded-is, allowed-is}
 
@@ -49,11 +51,6 @@ row-written t c row bits x y z l few r p q s =
     three-parts row x y z (ap length ex ∙ set-length classSet (reaches t c)) (ap length ey ∙ set-length attributeSet (demands t c)) (ap length ez ∙ set-length attributeSet (allows t c)) l
     ∙ ap₂ (λ (a b : List ℕ). a ++ b) ex (ap₂ (λ (a b : List ℕ). a ++ b) ey ez)
 
-pub closure-row-length : (t : Table) (c : ℕ) → length (closureRow t c) ≡ closureWidth
-unfolding closureRow
-closure-row-length t c =
-    simp (length-append, set-length)
-
 -- ---- the part of the store at one class
 
 pub refreshed : (t : Table) (c at end : ℕ) (closure back : List ℕ) → at ≡ closureWidth * c → end ≡ at + closureWidth → back ≡ closureRow t c
@@ -63,31 +60,28 @@ refreshed t c at end closure back e f q =
 
 -- ---- all rows
 
-pub concat-length : (f : ℕ → List ℕ) (w : ℕ) → ((k : ℕ) → length (f k) ≡ w) → (n : ℕ) → length (concatBelow n f) ≡ w * n
-unfolding concatBelow
-concat-length f w h zero = omega arith
-concat-length f w h (suc n) = length-append (concatBelow n f) (f n) ∙ ap₂ (λ (x y : ℕ). x + y) (concat-length f w h n) (h n) ∙ omega arith
-
 module _ (t : Table) (o : List ℕ) where
   -- the first c rows are afresh
   abbrev pub Refreshed : ℕ → List ℕ → Type 0
   Refreshed c now = now ≡ splice 0 (concatBelow c (closureRow t)) o
 
+  rows-long : (c : ℕ) → length (concatBelow c (closureRow t)) ≡ closureWidth * c
+  rows-long c = concat-length (closureRow t) closureWidth c (λ k l. closure-row-length t k)
+
   pub refresh-none : Refreshed 0 o
-  unfolding concatBelow splice
-  refresh-none = refl
+  unfolding splice
+  refresh-none = rw (concat-none (closureRow t))
 
   pub refresh-more : (c : ℕ) (now r : List ℕ) → closureWidth * c + closureWidth ≤ length o → Refreshed c now → r ≡ splice (closureWidth * c) (closureRow t c) now → Refreshed (c + 1) r
-  unfolding concatBelow
   refresh-more c now r h p q =
-      let long : length (concatBelow c (closureRow t)) ≡ closureWidth * c = concat-length (closureRow t) closureWidth (closure-row-length t) c in
+      let long : length (concatBelow c (closureRow t)) ≡ closureWidth * c = rows-long c in
       let at : closureWidth * c ≡ 0 + length (concatBelow c (closureRow t)) = omega arith in
       q ∙ ap (λ (n : ℕ). splice n (closureRow t c) now) at ∙ ap (splice (0 + length (concatBelow c (closureRow t))) (closureRow t c)) p
       ∙ splice-append 0 (concatBelow c (closureRow t)) o (omega arith) (closureRow t c)
-      ∙ ap (λ (n : ℕ). splice 0 (concatBelow n (closureRow t)) o) (sym (add-one c))
+      ∙ ap (λ (v : List ℕ). splice 0 v o) (sym (concat-more (closureRow t) c))
 
   pub refresh-length : (c : ℕ) (now : List ℕ) → closureWidth * c ≤ length o → Refreshed c now → length now ≡ length o
-  refresh-length c now h p = ap length p ∙ splice-length 0 (concatBelow c (closureRow t)) o (omega (arith, concat-length (closureRow t) closureWidth (closure-row-length t) c))
+  refresh-length c now h p = ap length p ∙ splice-length 0 (concatBelow c (closureRow t)) o (omega (arith, rows-long c))
 
   pub refresh-end : (c : ℕ) (now : List ℕ) → c ≤ classLimit → classLimit ≤ c → Refreshed c now → now ≡ splice 0 (closureRows t) o
   unfolding closureRows

@@ -9,7 +9,7 @@ use native.Mathlib.Omega.{arith}
 use native.Mathlib.Decide.{ℕ-discrete}
 use lib.ListN.{length, getD}
 use Rattle.prelude.specs.Says.{Says}
-use Rattle.prelude.specs.SaysLaws.{says-and, says-or, says-eq, says-le, says-test, says-iff, says-same, says-true, says-false}
+use Rattle.prelude.specs.SaysLaws.{says-and, says-or, says-eq, says-le, says-test, says-iff, says-same, says-true, says-false, says-not-test}
 use Rattle.prelude.specs.BelowLaws.{says-any}
 use Rattle.prelude.specs.Part.{zeros}
 use Rattle.sets.specs.Sets.{flag, bit, member, setOf, withMember, from, countBelow}
@@ -27,7 +27,7 @@ use Rattle.schema.specs.declared.number.ClassNumber.{ClassNumber}
 use Rattle.graph.specs.declared.reach.NextClass.{NextClass}
 use Rattle.graph.specs.declared.reach.NextClass.the-variants.{Class, Nothing}
 use Rattle.graph.proofs.Next.{Found, class-is, none-is}
-use Rattle.graph.proofs.Past.{Past, Added, unseen-not, says-avoiding, past-added, past-on, visit-new, walk-more}
+use Rattle.graph.proofs.Past.{Past, Added, says-avoiding, past-added, past-on, visit-new, walk-more}
 
 -- a set of 16 bytes
 pub record ClassBytes (b : List ℕ) : Type 0 where
@@ -43,7 +43,7 @@ module _ (t : Table) where
   says-past : (s : ℕ → Bool) (c x : ℕ) → Says (reachesPast t s c x) (PastOf s c x)
   unfolding reachesPast
   says-past s c x =
-      says-iff (says-and (unseen-not (s c)) (says-reaches (t .count) (avoiding s (names t)) c x))
+      says-iff (says-and (says-not-test (s c)) (says-reaches (t .count) (avoiding s (names t)) c x))
       (λ q. record { unseen = q .0; reach = q .1 }, λ p. (p .unseen, p .reach))
 
   says-visit : (s : ℕ → Bool) (c k : ℕ) → Says (afterVisit t s c k) ((s k ≡ true) ⊎ PastOf s c k)
@@ -176,7 +176,7 @@ module _ (t : Table) where
       where
         none : (k : ℕ) → PastAuxiliary (member b) c i k → ⊥
         none k p =
-            true≢false (sym (says-true (says-and (says-le i (p .0)) (says-and (says-test (auxiliary t c (p .0))) (unseen-not (member b (p .0))))) (p .1 .0, (p .1 .1, p .2 .unseen)))
+            true≢false (sym (says-true (says-and (says-le i (p .0)) (says-and (says-test (auxiliary t c (p .0))) (says-not-test (member b (p .0))))) (p .1 .0, (p .1 .1, p .2 .unseen)))
             ∙ h (p .0) (p .2 .reach .present))
 
     -- d is the next auxiliary, and is visited; the walk goes on behind it
@@ -186,7 +186,7 @@ module _ (t : Table) where
     walk-on c i d b u r e l p before q w = w ∙ set-cong classSet (afterWalk t (member u) c (d + 1)) (afterWalk t (member b) c i) (λ k m. says-same (whole k) (says-walk (member b) c i k))
       where
         next : (x : ℕ) → Says (from i (λ x. auxiliary t c x && not (member b x)) x) ((i ≤ x) × ((auxiliary t c x ≡ true) × (member b x ≡ false)))
-        next x = says-and (says-le i x) (says-and (says-test (auxiliary t c x)) (unseen-not (member b x)))
+        next x = says-and (says-le i x) (says-and (says-test (auxiliary t c x)) (says-not-test (member b x)))
 
         at : (i ≤ d) × ((auxiliary t c d ≡ true) × (member b d ≡ false))
         at = next d .holds p
@@ -235,7 +235,7 @@ unfoldable pub unvisitedCount : List ℕ → ℕ
 unvisitedCount b = countBelow classLimit (λ k. not (member b k))
 
 unmarked : (b u : List ℕ) → ((k : ℕ) → member b k ≡ true → member u k ≡ true) → (k : ℕ) → not (member u k) ≡ true → not (member b k) ≡ true
-unmarked b u h k e = ap not (says-false (says-test (member b k)) (λ q. true≢false (sym (h k q) ∙ unseen-not (member u k) .holds e)))
+unmarked b u h k e = ap not (says-false (says-test (member b k)) (λ q. true≢false (sym (h k q) ∙ says-not-test (member u k) .holds e)))
 
 module _ (t : Table) (few : t .count ≤ classLimit) (b u : List ℕ) (c : ℕ) (long : length b ≡ classSet) where
   -- marking a class leaves one fewer, and a visit no more

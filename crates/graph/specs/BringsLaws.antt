@@ -4,7 +4,6 @@ use mathlib.Core.Path.{_≡_}
 use mathlib.Core.Logic.{_⊎_, inl, inr, ⊎-elim, ⊎-map, _↔_}
 use Prim.Native.Nat.{ℕ, _<_}
 use native.Mathlib.Decide.{ℕ-discrete}
-use Rattle.prelude.specs.SaysLaws.{says}
 use Rattle.graph.specs.Walk.{Rel, Reach, here, step, Brings, Grown, Extended}
 use Rattle.graph.specs.WalkLaws.{join, widen, grown-keep, reach-grown, old-below, reach-old, reach-new, Off, off-walk, walk-split}
 

@@ -2,14 +2,14 @@
 -- Here e and f are the tests of naming, and o and p of the own lists, before and after.
 use mathlib.Core.Path.{_≡_, sym, _∙_}
 use mathlib.Core.Logic.{_⊎_, inl, inr, ⊎-elim, ⊎-map, _↔_}
-use mathlib.Core.Bool.{Bool, true, false, not, _&&_, _||_}
+use mathlib.Core.Bool.{Bool, true, false, _&&_, _||_}
 use Prim.Native.Nat.{ℕ, suc, _<_}
 use native.Mathlib.Omega.{arith}
 use lib.Dec.{eqb}
 use Rattle.prelude.specs.SaysLaws.{says-and, says-or, says-eq, says-iff, says-same, says-test, says-fails}
 use Rattle.prelude.specs.Below.{anyBelow, Some}
 use Rattle.prelude.specs.BelowLaws.{says-any, last-or-less}
-use Rattle.graph.specs.Walk.{Reach, step, Grown, Extended}
+use Rattle.graph.specs.Walk.{Reach, Grown, Extended}
 use Rattle.graph.specs.WalkLaws.{off-walk, walk-split, walk-to, widen, reach-grown, grown-keep, reach-old, reach-new}
 use Rattle.graph.specs.BringsLaws.{off-same, brings-apart, brings-grown, brings-keep, brings-old, brings-new, brings-listed}
 use Rattle.graph.specs.Graph.{Edge, Reaches, Collects, reachesBy, collectsBy}

@@ -20,7 +20,6 @@ use Rattle.schema.specs.ClassRow.{superclassOf, mandatoryOf, fixedOptionalOf, o
 use Rattle.schema.specs.Store.{Table, withRow, plusRow}
 use Rattle.schema.specs.StoreLaws.{with-same, with-other, plus-other}
 use Rattle.graph.specs.Walk.{Grown, here}
-use Rattle.graph.specs.WalkLaws.{one}
 use Rattle.graph.specs.Graph.{Edge, reachesBy, collectsBy, auxiliary, names, listsMandatory, listsOptional, reaches, demands, allows, demandedSet, closureRow, mandatoryDiffers}
 use Rattle.graph.specs.GraphLaws.{says-reaches, says-collects}
 use Rattle.graph.specs.Changes.{SameLists, SameNames, AuxiliaryMore, OptionalMore}

@@ -3,12 +3,13 @@
 -- passed over. *Afresh* means by these definitions, from the rows alone." A defunct row counts like any other.
 use mathlib.Core.Path.{_≡_}
 use mathlib.Core.Bool.{Bool, true, not, _&&_, _||_}
-use mathlib.Core.List.{List, [], _++_}
-use Prim.Native.Nat.{ℕ, zero, suc, _≤_, _<_}
+use mathlib.Core.List.{List, _++_}
+use Prim.Native.Nat.{ℕ, _≤_, _<_}
 use lib.Dec.{eqb, ltb}
 use lib.ListN.{length}
 use Rattle.prelude.specs.Below.{anyBelow, allBelow}
 use Rattle.prelude.specs.Part.{sameBytes}
+use Rattle.prelude.specs.Concat.{concatBelow}
 use Rattle.sets.specs.Sets.{member, setOf}
 use Rattle.schema.specs.Numbers.{classLimit}
 use Rattle.schema.specs.Layout.{classSet, attributeSet, classesLength}
@@ -84,11 +85,6 @@ demandedSet t c = setOf attributeSet (demands t c)
 -- the three kept sets of c afresh. Without a row c reaches nothing, so they are zero: "zero for unused rows"
 unfoldable pub closureRow : Table → ℕ → List ℕ
 closureRow t c = setOf classSet (reaches t c) ++ (setOf attributeSet (demands t c) ++ setOf attributeSet (allows t c))
-
--- f 0, f 1, .. f (n - 1), one after the other
-unfoldable pub concatBelow : ℕ → (ℕ → List ℕ) → List ℕ
-concatBelow zero f = []
-concatBelow (suc n) f = concatBelow n f ++ f n
 
 -- the whole closure store afresh
 unfoldable pub closureRows : Table → List ℕ

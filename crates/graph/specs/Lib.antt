@@ -12,4 +12,7 @@ pub mod Depth
 pub mod DepthLaws
 pub mod Changes
 pub mod ClosureLaws
+pub mod FreshLaws
+pub mod SameLaws
+pub mod FrontLaws
 pub mod Pieces

@@ -1,18 +1,16 @@
 -- What a call knows once its stores were checked: the answer, or that they are in shape and the rest of its answers decides.
 use mathlib.Core.Path.{_≡_, refl, sym, ap, _∙_}
-use mathlib.Core.Bool.{Bool, true, false, not}
-use mathlib.Core.List.{List, [], _++_, _∷_}
-use native.Mathlib.Omega.{arith}
-use Rattle.schema.specs.Store.{Stores, anyShort}
+use mathlib.Core.List.{List, _++_, _∷_}
+use Rattle.schema.specs.Store.{Stores}
 use Rattle.schema.specs.declared.answer.Answer.{Answer}
-use Rattle.schema.specs.Answers.{done, refused}
+use Rattle.schema.specs.Answers.{done}
 use Rattle.shape.specs.Shape.{formed}
 use Rattle.shape.specs.ShapeLaws.{says-formed, formed-shaped, formed-readable}
 use Rattle.sheet_write.specs.Writing.{Writable}
 use Rattle.tables.specs.Shaped.{Shaped}
 use Rattle.graph.specs.Graph.{Readable}
-use Rattle.keeper.specs.Answering.{answerIf, firstAnswer, AllPass, shapeAnswers}
-use Rattle.keeper.specs.AnsweringLaws.{if-holds, if-fails, first-refused, first-passed, first-last, zero-iff-pass, append-passed, append-refused, InShape, shape-passed}
+use Rattle.keeper.specs.Answering.{firstAnswer, AllPass, shapeAnswers}
+use Rattle.keeper.specs.AnsweringLaws.{first-refused, first-passed, zero-iff-pass, append-passed, append-refused, InShape, shape-passed}
 
 -- the same number
 number-is : {a b : Answer} → a ≡ b → b .number ≡ 0 → a .number ≡ 0
@@ -27,31 +25,7 @@ module _ {a r : Answer} (is : r ≡ a) (answers : List Answer) (last : Answer) w
   pub found-passed : r .number ≡ 0 → firstAnswer (a ∷ answers) last ≡ firstAnswer answers last
   found-passed z = first-passed a answers last (number-is (sym is) z)
 
--- a condition that was tested
-module _ {b : Bool} (a : Answer) (answers : List Answer) (last : Answer) where
-  pub tested-holds : ¬ (a .number ≡ 0) → b ≡ true → firstAnswer (answerIf b a ∷ answers) last ≡ a
-  tested-holds d e = ap (λ (x : Answer). firstAnswer (x ∷ answers) last) (if-holds b a e) ∙ first-refused a answers last d
-
-  pub tested-fails : b ≡ false → firstAnswer (answerIf b a ∷ answers) last ≡ firstAnswer answers last
-  tested-fails e = ap (λ (x : Answer). firstAnswer (x ∷ answers) last) (if-fails b a e) ∙ first-passed (done 0 0) answers last refl
-
 -- ---- the stores
-
-pub not-true : (b : Bool) → b ≡ false → not b ≡ true
-not-true b e = ap not e
-
-pub not-holds : (b : Bool) → b ≡ true → not b ≡ false
-not-holds b e = ap not e
-
-module _ (s : Stores) where
-  pub short-stores : anyShort s ≡ true → refused 1 ≡ firstAnswer (shapeAnswers s) (done 0 0)
-  short-stores e = sym (tested-holds (refused 1) _ (done 0 0) (λ z. omega arith) e)
-
-  pub broken-stores : anyShort s ≡ false → formed (s .attributes) (s .classes) ≡ false → refused 2 ≡ firstAnswer (shapeAnswers s) (done 0 0)
-  broken-stores e f = sym (tested-fails (refused 1) _ (done 0 0) e ∙ tested-holds (refused 2) [] (done 0 0) (λ z. omega arith) (not-true (formed (s .attributes) (s .classes)) f))
-
-  pub formed-stores : anyShort s ≡ false → formed (s .attributes) (s .classes) ≡ true → done 0 0 ≡ firstAnswer (shapeAnswers s) (done 0 0)
-  formed-stores e f = sym (tested-fails (refused 1) _ (done 0 0) e ∙ tested-fails (refused 2) [] (done 0 0) (not-holds (formed (s .attributes) (s .classes)) f) ∙ first-last (done 0 0))
 
 -- what the check of the stores has given
 module _ (s : Stores) {r : Answer} (is : r ≡ firstAnswer (shapeAnswers s) (done 0 0)) where

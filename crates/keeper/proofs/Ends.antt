@@ -1,3 +1,4 @@
+use mathlib.Core.Bool.{not}
 -- How the calls end: the answer that was found is the first of their lists.
 use mathlib.Core.Path.{_≡_, sym, ap, ap₂, _∙_}
 use mathlib.Core.List.{List, []}
@@ -11,10 +12,10 @@ use Rattle.schema.specs.declared.answer.Answer.{Answer}
 use Rattle.schema.specs.Answers.{answer, done, refused}
 use Rattle.graph.specs.Depth.{depthOf, depthAnswer}
 use Rattle.keeper.specs.Answering.{firstAnswer, shapeAnswers}
-use Rattle.keeper.specs.AnsweringLaws.{first-last}
+use Rattle.keeper.specs.AnsweringLaws.{first-last, tested-holds, tested-fails}
 use Rattle.keeper.specs.Write.{sheetOf, written, writeAnswer, write}
 use Rattle.keeper.specs.Depth.{depth}
-use Rattle.keeper.proofs.Checked.{shape-refused, shape-onward, tested-holds, tested-fails, not-true, not-holds}
+use Rattle.keeper.proofs.Checked.{shape-refused, shape-onward}
 
 -- ---- depth
 
@@ -25,11 +26,11 @@ module _ (s : Stores) (c : ℕ) {r : Answer} (is : r ≡ firstAnswer (shapeAnswe
 
   pub depth-absent : r .number ≡ 0 → classTable (s .classes) .count ≤ c → refused 5 ≡ depth s c
   unfolding depth
-  depth-absent z l = sym (shape-onward s is z _ _ ∙ tested-holds (refused 5) [] _ (λ e. omega arith) (not-true _ (says-false (says-lt c (classTable (s .classes) .count)) (λ m. omega arith))))
+  depth-absent z l = sym (shape-onward s is z _ _ ∙ tested-holds (refused 5) [] _ (λ e. omega arith) (ap not (says-false (says-lt c (classTable (s .classes) .count)) (λ m. omega arith))))
 
   pub depth-present : r .number ≡ 0 → c < classTable (s .classes) .count → depthAnswer (depthOf (classTable (s .classes)) c) ≡ depth s c
   unfolding depth
-  depth-present z l = sym (shape-onward s is z _ _ ∙ tested-fails (refused 5) [] _ (not-holds _ (says-true (says-lt c (classTable (s .classes) .count)) l)) ∙ first-last _)
+  depth-present z l = sym (shape-onward s is z _ _ ∙ tested-fails (refused 5) [] _ (ap not (says-true (says-lt c (classTable (s .classes) .count)) l)) ∙ first-last _)
 
 -- ---- write
 

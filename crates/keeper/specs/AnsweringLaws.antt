@@ -7,7 +7,7 @@ use Prim.Native.Nat.{ℕ, _<_}
 use native.Mathlib.Omega.{arith}
 use Rattle.prelude.specs.SaysLaws.{says-eq, says-true, says-false, says-split}
 use Rattle.schema.specs.Store.{Stores, LongEnough, anyShort}
-use Rattle.schema.specs.StoreLaws.{long-enough}
+use Rattle.schema.specs.StoreLaws.{says-short, long-enough}
 use Rattle.schema.specs.declared.answer.Answer.{Answer}
 use Rattle.schema.specs.Answers.{done, refused}
 use Rattle.shape.specs.Shape.{formed}
@@ -45,6 +45,14 @@ first-last last = refl
 refuses-or-not : (a : Answer) → ¬ (a .number ≡ 0) ⊎ (a .number ≡ 0)
 refuses-or-not a = ⊎-elim (λ q. inr (q .1)) (λ q. inl (q .1)) (says-split (says-eq (a .number) 0))
 
+-- a condition that was tested
+module _ {b : Bool} (a : Answer) (answers : List Answer) (last : Answer) where
+  pub tested-holds : ¬ (a .number ≡ 0) → b ≡ true → firstAnswer (answerIf b a ∷ answers) last ≡ a
+  tested-holds d e = ap (λ (x : Answer). firstAnswer (x ∷ answers) last) (if-holds b a e) ∙ first-refused a answers last d
+
+  pub tested-fails : b ≡ false → firstAnswer (answerIf b a ∷ answers) last ≡ firstAnswer answers last
+  tested-fails e = ap (λ (x : Answer). firstAnswer (x ∷ answers) last) (if-fails b a e) ∙ first-passed (done 0 0) answers last refl
+
 -- ---- what the answer is
 
 pub passed-last : (answers : List Answer) (last : Answer) → AllPass answers → firstAnswer answers last ≡ last
@@ -80,7 +88,7 @@ pub record InShape (s : Stores) : Type 0 where
   pub long : LongEnough s
   pub formed : formed (s .attributes) (s .classes) ≡ true
 
-not-false : (b : Bool) → not b ≡ false → b ≡ true
+pub not-false : (b : Bool) → not b ≡ false → b ≡ true
 not-false true e = refl
 not-false false e = absurd (let no : _≡_ {A = ℕ} 0 1 = cc in omega arith)
 
@@ -90,3 +98,24 @@ shape-passed s h =
       long = long-enough s (if-passed (anyShort s) (refused 1) (omega arith) (h .0));
       formed = not-false (formed (s .attributes) (s .classes)) (if-passed (not (formed (s .attributes) (s .classes))) (refused 2) (omega arith) (h .1 .0));
     }
+
+-- and the converse: stores in shape pass
+pub not-short : (s : Stores) → LongEnough s → anyShort s ≡ false
+not-short s h =
+    says-false (says-short s) (⊎-elim (λ l. omega (arith, h .attributes)) (⊎-elim (λ l. omega (arith, h .classes)) (λ l. omega (arith, h .closure))))
+
+pub passed-shape : (s : Stores) → InShape s → AllPass (shapeAnswers s)
+passed-shape s h = (
+  ap (λ (x : Answer). x .number) (if-fails (anyShort s) (refused 1) (not-short s (h .long))),
+  (ap (λ (x : Answer). x .number) (if-fails (not (formed (s .attributes) (s .classes))) (refused 2) (ap not (h .formed))), tt),
+)
+
+module _ (s : Stores) where
+  pub short-stores : anyShort s ≡ true → refused 1 ≡ firstAnswer (shapeAnswers s) (done 0 0)
+  short-stores e = sym (tested-holds (refused 1) _ (done 0 0) (λ z. omega arith) e)
+
+  pub broken-stores : anyShort s ≡ false → formed (s .attributes) (s .classes) ≡ false → refused 2 ≡ firstAnswer (shapeAnswers s) (done 0 0)
+  broken-stores e f = sym (tested-fails (refused 1) _ (done 0 0) e ∙ tested-holds (refused 2) [] (done 0 0) (λ z. omega arith) (ap not f))
+
+  pub formed-stores : anyShort s ≡ false → formed (s .attributes) (s .classes) ≡ true → done 0 0 ≡ firstAnswer (shapeAnswers s) (done 0 0)
+  formed-stores e f = sym (tested-fails (refused 1) _ (done 0 0) e ∙ tested-fails (refused 2) [] (done 0 0) (ap not f) ∙ first-last (done 0 0))

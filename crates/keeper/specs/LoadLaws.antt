@@ -1,6 +1,6 @@
 -- What reading a sheet gives: stores in shape, as long as they were, and empty again once they are emptied.
 use mathlib.Core.Path.{_≡_, refl, sym, ap, ap₂, _∙_}
-use mathlib.Core.Bool.{Bool, true, _&&_}
+use mathlib.Core.Bool.{Bool, true, false, _&&_}
 use mathlib.Core.List.{List, [], _∷_}
 use Prim.Native.Nat.{ℕ, zero, suc, _+_, _≤_, _<_}
 use native.Mathlib.Omega.{arith}
@@ -8,18 +8,25 @@ use lib.ListN.{length, getD}
 use Rattle.prelude.specs.Part.{splice, zeros}
 use Rattle.prelude.specs.PartLaws.{zeros-length}
 use Rattle.prelude.specs.SpliceLaws.{splice-length, splice-over}
+use Rattle.prelude.specs.SaysLaws.{says-eq, says-true, says-false}
+use Rattle.schema.specs.Store.{Stores, result, anyShort, attributeTable, classTable}
+use Rattle.schema.specs.declared.answer.Answer.{Answer}
+use Rattle.schema.specs.Answers.{answer, refused, unreadable}
 use Rattle.schema.specs.Layout.{attributesLength, classesLength}
 use Rattle.formats.specs.ShapesLaws.{Bytes}
 use Rattle.stores.specs.Filled.{attributeStore, classStore}
 use Rattle.stores.specs.FilledLaws.{attributes-length, classes-length}
-use Rattle.sheet.specs.Reading.{Open}
-use Rattle.sheet.specs.ReadingLaws.{AllPass, HeldBoth, held-no-attributes, held-no-classes, attributes-few, classes-few, sheet-held}
+use Rattle.sheet.specs.declared.read.SheetRead.the-variants.{Read, Bad, Full}
+use Rattle.sheet.specs.Reading.{SheetOut, sheetOut, sheetAnswer}
+use Rattle.sheet.specs.ReadingLaws.{AllPass, HeldBoth, sheet-held}
 use Rattle.tables.specs.Shaped.{Shaped}
 use Rattle.graph.specs.Graph.{Readable}
 use Rattle.shape.specs.Shape.{attributesFormed, classesFormed, formed}
 use Rattle.shape.specs.ShapeLaws.{formed-shaped, formed-readable}
 use Rattle.shape.specs.FilledShapeLaws.{filled-attributes, filled-classes}
-use Rattle.keeper.specs.Load.{reading}
+use Rattle.rules.specs.Judge.{judged}
+use Rattle.keeper.specs.AnsweringLaws.{first-refused, first-passed, first-last}
+use Rattle.keeper.specs.Load.{readAnswer, loaded, load, filled, emptied, reading}
 
 -- every row passes: each by its number
 pass-each : (test : List ℕ → Bool) (rows : List (List ℕ)) → AllPass test rows → (k : ℕ) → k < length rows → test (getD rows k []) ≡ true
@@ -81,12 +88,44 @@ module _ (sheet a c : List ℕ) (bytes : Bytes sheet) (la : attributesLength ≤
   pub reading-readable : Readable (reading sheet a c .classes)
   reading-readable = formed-readable (reading sheet a c .attributes) _ (omega (arith, attributes-long, la)) (omega (arith, classes-long, lc)) reading-formed
 
--- emptied stores may be read into
-pub emptied-ready : (a c : List ℕ) → attributesLength ≤ length a → classesLength ≤ length c → Open (splice 0 (zeros attributesLength) a) (splice 0 (zeros classesLength) c)
-emptied-ready a c la lc =
-    record {
-      attributesLong = omega (arith, front-length attributesLength (zeros attributesLength) a _ refl (zeros-length attributesLength) la);
-      classesLong = omega (arith, front-length classesLength (zeros classesLength) c _ refl (zeros-length classesLength) lc);
-      attributesFew = attributes-few (held-no-attributes a);
-      classesFew = classes-few (held-no-classes c);
-    }
+-- ---- the answer, by what reading came to
+
+module _ (a c : List ℕ) where
+  abbrev verdict : Answer
+  verdict = judged (attributeTable a) (classTable c)
+
+  pub read-judged : verdict ≡ readAnswer (sheetOut Read a c)
+  unfolding readAnswer
+  read-judged = sym (first-passed (sheetAnswer Read) [] verdict refl ∙ first-last verdict)
+
+  pub read-bad : (at : ℕ) → unreadable at ≡ readAnswer (sheetOut (Bad at) a c)
+  unfolding readAnswer
+  read-bad at = sym (first-refused (sheetAnswer (Bad at)) [] verdict (λ z. omega arith))
+
+  pub read-full : (table limit : ℕ) → answer 6 table limit ≡ readAnswer (sheetOut (Full table limit) a c)
+  unfolding readAnswer
+  read-full table limit = sym (first-refused (sheetAnswer (Full table limit)) [] verdict (λ z. omega arith))
+
+-- ---- the whole load, by its three cases
+
+module _ (sheet : List ℕ) (s : Stores) where
+  abbrev out : SheetOut
+  out = reading sheet (s .attributes) (s .classes)
+
+  -- a store is too short: nothing is touched
+  pub load-short : anyShort s ≡ true → load sheet s ≡ result (refused 1) s
+  unfolding load
+  load-short e = rw e
+
+  module _ (long : anyShort s ≡ false) where
+    pub load-long : load sheet s ≡ loaded out s
+    unfolding load
+    load-long = rw long
+
+    -- accepted: the rows that were read, and their closure
+    pub load-accepted : readAnswer out .number ≡ 0 → load sheet s ≡ result (readAnswer out) (filled out s)
+    load-accepted z = load-long ∙ (unfold loaded in (rw (says-true (says-eq (readAnswer out .number) 0) z)))
+
+    -- refused: every store byte zero
+    pub load-rejected : ¬ (readAnswer out .number ≡ 0) → load sheet s ≡ result (readAnswer out) (emptied s)
+    load-rejected d = load-long ∙ (unfold loaded in (rw (says-false (says-eq (readAnswer out .number) 0) d)))

@@ -56,9 +56,6 @@ module _ (p : ℕ → Bool) where
   all-says : (n : ℕ) → Says (allBelow n p) ((k : ℕ) → k < n → p k ≡ true)
   all-says n = says-all n (λ k l. says-test (p k))
 
-  pub any-some : (n : ℕ) → anyBelow n p ≡ true → Some n (λ k. p k ≡ true)
-  any-some n = any-says n .holds
-
   pub any-none : (n : ℕ) → anyBelow n p ≡ false → (k : ℕ) → k < n → p k ≡ false
   any-none n e k l = says-false (says-test (p k)) (λ q. says-fails (any-says n) e (record { at = k; below = l; is = q }))
 
@@ -67,9 +64,6 @@ module _ (p : ℕ → Bool) where
 
   pub all-each : (n : ℕ) → allBelow n p ≡ true → (k : ℕ) → k < n → p k ≡ true
   all-each n = all-says n .holds
-
-  pub all-true : (n : ℕ) → ((k : ℕ) → k < n → p k ≡ true) → allBelow n p ≡ true
-  all-true n = all-says n .passes
 
   -- ---- for a loop that leaves with true at the first that passes
 
@@ -155,6 +149,11 @@ pub any-cong : (n : ℕ) (p q : ℕ → Bool) → ((k : ℕ) → k < n → p k �
 unfolding anyBelow
 any-cong zero p q h = refl
 any-cong (suc n) p q h = rw (any-cong n p q (λ k l. h k (omega arith)), h n (omega arith))
+
+pub first-cong : (n : ℕ) (p q : ℕ → Bool) → ((k : ℕ) → k < n → p k ≡ q k) → firstBelow n p ≡ firstBelow n q
+unfolding firstBelow
+first-cong zero p q h = refl
+first-cong (suc n) p q h = rw (any-cong n p q (λ k l. h k (omega arith)), first-cong n p q (λ k l. h k (omega arith)), h n (omega arith))
 
 pub all-cong : (n : ℕ) (p q : ℕ → Bool) → ((k : ℕ) → k < n → p k ≡ q k) → allBelow n p ≡ allBelow n q
 unfolding allBelow

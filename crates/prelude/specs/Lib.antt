@@ -11,5 +11,8 @@ pub mod Part
 pub mod PartLaws
 pub mod SpliceLaws
 pub mod LentLaws
+pub mod Concat
+pub mod ConcatLaws
 pub mod BigEndian
 pub mod BigEndianLaws
+pub mod FrontLaws

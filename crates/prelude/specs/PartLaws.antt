@@ -7,8 +7,8 @@ use native.Mathlib.Omega.{arith}
 use native.Mathlib.Numerals.{add-one}
 use native.Mathlib.Nat.{mul-le-mul-left}
 use native.Mathlib.Decide.{decLt}
-use lib.ListN.{length, take, drop, getD, length-append, length-take, length-drop, length-replicate, List·getD-eq-default, List·getD-append}
-use lib.Seq.{drop-at, drop-drop, take-take, take-append-seam, take-add, take-all, getD-take, getD-drop, drop-cons, take-suc, getD-append-add, ext-getD}
+use lib.ListN.{length, take, drop, getD, length-append, length-take, length-drop, length-replicate, List·getD-eq-default}
+use lib.Seq.{drop-at, drop-drop, take-take, take-append-seam, take-add, take-all, getD-take, getD-drop, drop-cons, take-suc, ext-getD}
 use Rattle.prelude.specs.Says.{Says}
 use Rattle.prelude.specs.SaysLaws.{says-iff, says-and, says-eq}
 use Rattle.prelude.specs.BelowLaws.{says-all}
@@ -20,6 +20,11 @@ module _ (at n : ℕ) (s : List ℕ) where
   pub part-length : at + n ≤ length s → length (part at n s) ≡ n
   unfolding part
   part-length h = simp (length-take, length-drop) (omega arith)
+
+  -- wherever it begins
+  pub part-short : (length (part at n s) ≤ n) × (length (part at n s) ≤ length s)
+  unfolding part
+  part-short = (simp (length-take, length-drop) (omega arith), simp (length-take, length-drop) (omega arith))
 
   pub part-at : (i : ℕ) → i < n → getD (part at n s) i 0 ≡ getD s (at + i) 0
   unfolding part
@@ -120,29 +125,10 @@ pub padded-length : (n : ℕ) (s : List ℕ) → length s ≤ n → length (padd
 unfolding padded
 padded-length n s h = simp (length-append, zeros-length) (omega arith)
 
-pub padded-at : (n : ℕ) (s : List ℕ) (i : ℕ) → getD (padded n s) i 0 ≡ getD s i 0
-unfolding padded
-padded-at n s i = go (decLt i (length s))
-  where
-    z : List ℕ
-    z = zeros (n - length s)
-
-    go : Dec (i < length s) → getD (s ++ z) i 0 ≡ getD s i 0
-    go (yes l) = List·getD-append s z 0 i l
-    go (no g) =
-        let e : i ≡ length s + (i - length s) = omega arith in
-        let past : getD s i 0 ≡ 0 = List·getD-eq-default s 0 (omega arith) in
-        ap (λ (j : ℕ). getD (s ++ z) j 0) e ∙ getD-append-add s z (i - length s) 0 ∙ zeros-at (n - length s) (i - length s) ∙ sym past
-
 -- padding that adds nothing
 pub padded-full : (n : ℕ) (s : List ℕ) → length s ≡ n → padded n s ≡ s
 unfolding padded zeros
 padded-full n s e = let z : n - length s ≡ 0 = omega arith in rw (z, append-nil)
-
--- padding of nothing
-pub padded-nil : (n : ℕ) → padded n [] ≡ zeros n
-unfolding padded
-padded-nil n = let z : n - 0 ≡ n = omega arith in rw z
 
 -- ---- two byte strings
 

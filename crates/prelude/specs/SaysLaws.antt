@@ -1,6 +1,6 @@
 -- Rules of `Says`, one for each shape of a test: `search says` applies them. Then what follows from a test that says a statement.
 use mathlib.Core.Path.{_≡_, refl, sym, _∙_}
-use mathlib.Core.Bool.{Bool, true, false, not, _&&_, _||_, true≢false, false≢true}
+use mathlib.Core.Bool.{Bool, true, false, cond, not, _&&_, _||_, true≢false, false≢true}
 use mathlib.Core.Logic.{_⊎_, inl, inr, ⊎-elim, _↔_}
 use Prim.Native.Nat.{ℕ, _≤_, _<_}
 use lib.Dec.{leb, ltb, eqb}
@@ -23,6 +23,11 @@ says-or {a = false} s u = record { holds = λ e. inr (u .holds e); passes = ⊎-
 pub says-not : {a : Bool} {P : Type 0} → Says a P → Says (not a) (¬ P)
 says-not {a = true} s = record { holds = λ e. absurd (false≢true e); passes = λ n. absurd (n (s .holds refl)) }
 says-not {a = false} s = record { holds = λ e p. false≢true (s .passes p); passes = λ n. refl }
+
+-- that a test fails
+pub says-not-test : (b : Bool) → Says (not b) (b ≡ false)
+says-not-test true = record { holds = λ e. sym e; passes = λ e. sym e }
+says-not-test false = record { holds = λ e. refl; passes = λ e. refl }
 
 pub says-le : (m n : ℕ) → Says (leb m n) (m ≤ n)
 says-le m n = record { holds = leb-true m n; passes = le-leb m n }
@@ -62,3 +67,18 @@ says-same {a = false} s u = sym (says-false u (λ p. false≢true (s .passes p))
 pub says-split : {b : Bool} {P : Type 0} → Says b P → ((b ≡ true) × P) ⊎ ((b ≡ false) × ¬ P)
 says-split {b = true} s = inl (refl, s .holds refl)
 says-split {b = false} s = inr (refl, says-fails s refl)
+
+-- neither of two tests passes
+pub neither : (a b : Bool) → (a || b) ≡ false → (a ≡ false) × (b ≡ false)
+neither true b e = absurd (true≢false e)
+neither false b e = (refl, e)
+
+-- what holds of both values of a choice, each where it is chosen
+pub choose : {A : Type 0} (P : A → Type 0) (b : Bool) {x y : A} → (b ≡ true → P x) → (b ≡ false → P y) → P (cond b x y)
+choose P true t f = t refl
+choose P false t f = f refl
+
+-- the same of two choices at once
+pub choose-both : {A B : Type 0} (P : A → B → Type 0) (b : Bool) {x y : A} {z w : B} → (b ≡ true → P x z) → (b ≡ false → P y w) → P (cond b x y) (cond b z w)
+choose-both P true t f = t refl
+choose-both P false t f = f refl

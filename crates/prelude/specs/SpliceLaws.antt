@@ -1,12 +1,12 @@
 -- Laws of a part replaced: the length, what is read before, inside and after it, and undoing it.
 use mathlib.Core.Path.{_≡_, refl, sym, ap, _∙_}
-use mathlib.Core.List.{List, [], _∷_, _++_, append-assoc}
+use mathlib.Core.List.{List, [], _∷_, _++_, append-assoc, append-nil}
 use Prim.Native.Nat.{ℕ, _+_, _-_, _≤_, _<_}
 use native.Mathlib.Omega.{arith}
-use native.Mathlib.Nat.{add-assoc}
+use native.Mathlib.Nat.{add-assoc, add-zero, zero-add}
 use native.Mathlib.Numerals.{add-one}
 use native.Mathlib.Decide.{decLt}
-use lib.ListN.{length, take, drop, getD, set, length-set, length-append, length-take, length-drop, take-append-drop}
+use lib.ListN.{length, take, drop, drop-of-length-le, getD, set, length-set, length-append, length-take, length-drop, take-append-drop}
 use lib.Seq.{take-append-le, drop-append-add, take-at, drop-at, drop-drop, take-take, take-add, take-append-seam, length-take-le, getD-take, getD-drop, set-split, ext-getD}
 use Rattle.prelude.specs.Part.{part, splice}
 use Rattle.prelude.specs.PartLaws.{part-length, part-at}
@@ -161,3 +161,17 @@ set-then-splice at v new s h =
 -- two bytes stored one after the other
 pub set-splice-two : (at v w : ℕ) (s : List ℕ) → at + 2 ≤ length s → set (set s at v) (at + 1) w ≡ splice at (v ∷ w ∷ []) s
 set-splice-two at v w s h = set-splice (at + 1) w (set s at v) (simp length-set (omega arith)) ∙ set-then-splice at v (w ∷ []) s (omega arith)
+
+-- ---- at the front
+
+pub splice-front : (x s : List ℕ) → splice 0 x s ≡ x ++ drop (length x) s
+unfolding splice
+splice-front x s = ap (λ (n : ℕ). x ++ drop n s) (zero-add (length x))
+
+-- every byte is replaced, and none
+pub splice-all : (new s : List ℕ) → length s ≡ length new → splice 0 new s ≡ new
+splice-all new s e = let h : length s ≤ length new = omega arith in splice-front new s ∙ rw (drop-of-length-le s h, append-nil)
+
+pub splice-none : (at : ℕ) (s : List ℕ) → splice at [] s ≡ s
+unfolding splice
+splice-none at s = rw (add-zero at) (take-append-drop at s)

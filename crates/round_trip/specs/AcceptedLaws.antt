@@ -7,7 +7,7 @@ use native.Mathlib.Nat.{zero-add}
 use native.Mathlib.Omega.{arith}
 use lib.Dec.{eqb}
 use lib.ListN.{length, getD}
-use Rattle.prelude.specs.SaysLaws.{says-and, says-eq, says-test, says-fails}
+use Rattle.prelude.specs.SaysLaws.{says-and, says-eq, says-test, says-fails, choose}
 use Rattle.prelude.specs.Part.{part, zeros}
 use Rattle.prelude.specs.PartLaws.{part-add, part-cons, part-none, part-all, zeros-length}
 use Rattle.wire.specs.declared.FieldRead.{FieldRead}
@@ -17,7 +17,7 @@ use Rattle.wire.specs.WireLaws.{field-is, field-back}
 use Rattle.schema.specs.Numbers.{attributeLimit, classLimit}
 use Rattle.schema.specs.Layout.{attributeWidth, classWidth, attributesLength, classesLength}
 use Rattle.schema.specs.Store.{Table, attributeTable, classTable}
-use Rattle.graph.specs.Graph.{concatBelow}
+use Rattle.prelude.specs.Concat.{concatBelow}
 use Rattle.formats.specs.declared.table.Kind.{Kind}
 use Rattle.formats.specs.declared.table.Kind.the-variants.{Attribute, Class}
 use Rattle.formats.specs.ShapesLaws.{Bytes}
@@ -36,7 +36,7 @@ use Rattle.sheet.specs.declared.read.Phase.the-variants.{Heading, Attributes, C
 use Rattle.sheet.specs.declared.read.Turn.{Turn}
 use Rattle.sheet.specs.declared.read.Turn.the-variants.{On, Stop}
 use Rattle.sheet.specs.Reading.{Open, HasRoom, headingOpen, attributesOpen, isHeading, headingTurn, rowStep, rowOut, attributeStep, classStep, Step, step, taggedStep, fieldStep, fullTable, stepAt, SheetOut, sheetOut, onward, readFrom, readSheet}
-use Rattle.sheet.specs.ReadingLaws.{choose, has-room}
+use Rattle.sheet.specs.ReadingLaws.{has-room}
 use Rattle.sheet_write.specs.Writing.{heading, rowField, rowFields, sheetBytes}
 use Rattle.round_trip.specs.Exact.{placeOf, rawAttribute}
 use Rattle.round_trip.specs.ExactLaws.{ExactSheet, next-place}
@@ -69,11 +69,11 @@ After s k (Stop read) a c = ¬ (read ≡ Read)
 abbrev Sound : List ℕ → ℕ → Step → Type 0
 Sound s k x = After s k (x .turn) (x .attributes) (x .classes)
 
-never-read : (read : SheetRead) (n : ℕ) → read ≡ Bad n → ¬ (read ≡ Read)
-never-read read n p q = let no : _≡_ {A = ℕ} 0 1 = cc in omega arith
+bad-refused : (at : ℕ) → ¬ (Bad at ≡ Read)
+bad-refused at e = let no : _≡_ {A = ℕ} 0 1 = cc in omega arith
 
-never-full : (read : SheetRead) (n m : ℕ) → read ≡ Full n m → ¬ (read ≡ Read)
-never-full read n m p q = let no : _≡_ {A = ℕ} 0 1 = cc in omega arith
+full-refused : (table limit : ℕ) → ¬ (Full table limit ≡ Read)
+full-refused table limit e = let no : _≡_ {A = ℕ} 0 1 = cc in omega arith
 
 -- ---- one row more in the sheet
 
@@ -157,9 +157,6 @@ row-after P plus phase stop missing store o more bad = go (o .answer) refl
     go (rows.Bad place) e = unfold rowStep in (bad place)
 
 module _ (s : List ℕ) (bytes : Bytes s) (exact : ExactSheet s) (k : ℕ) (below : k < length s) (at : ℕ) (phase : Phase) (missing : Bool) (a c : List ℕ) (b : Between s k at phase missing a c) where
-  stopped : (place : ℕ) → ¬ (Bad place ≡ Read)
-  stopped place = never-read (Bad place) place refl
-
   module _ (start stop : ℕ) where
     heading-after : fieldAt s at (length s) ≡ fields.Field 1 start stop → Sound s (suc k) (step (headingTurn s at start stop phase) a c)
     unfolding headingTurn
@@ -167,7 +164,7 @@ module _ (s : List ℕ) (bytes : Bytes s) (exact : ExactSheet s) (k : ℕ) (belo
         choose (λ (t : Turn). Sound s (suc k) (step t a c)) (headingOpen phase && isHeading s start stop)
         (λ e. (let h = says-and (says-test (headingOpen phase)) (says-test (isHeading s start stop)) .holds e in
         record { place = next-place s k at 1 start stop (b .place) f; lent = b .lent; state = heading-state s bytes at phase a c (b .lent) start stop missing f (h .0) (h .1) (b .state) }))
-        (λ e. stopped at)
+        (λ e. bad-refused at)
 
     attribute-after : fieldAt s at (length s) ≡ fields.Field 32 start stop → attributesOpen phase ≡ true → attributeTable a .count < attributeLimit
         → Sound s (suc k) (step (attributeStep s start stop missing a .turn) (attributeStep s start stop missing a .store) c)
@@ -190,7 +187,7 @@ module _ (s : List ℕ) (bytes : Bytes s) (exact : ExactSheet s) (k : ℕ) (belo
           };
           state = attribute-state s bytes at phase a c (b .lent) start stop row missing f o l wide value (b .state);
         }))
-        stopped
+        bad-refused
 
     class-after : fieldAt s at (length s) ≡ fields.Field 48 start stop → classTable c .count < classLimit
         → Sound s (suc k) (step (classStep s start stop missing c .turn) a (classStep s start stop missing c .store))
@@ -212,23 +209,23 @@ module _ (s : List ℕ) (bytes : Bytes s) (exact : ExactSheet s) (k : ℕ) (belo
           };
           state = class-state s bytes at phase a c (b .lent) start stop row missing f l wide value (b .state);
         }))
-        stopped
+        bad-refused
 
     tagged-after : (tag : ℕ) → fieldAt s at (length s) ≡ fields.Field tag start stop → HasRoom tag a c → Sound s (suc k) (taggedStep s at phase missing a c tag start stop)
     unfolding taggedStep
     tagged-after tag f room =
         choose (Sound s (suc k)) (eqb tag 1) (λ e. heading-after (known 1 e))
         (λ d. choose (Sound s (suc k)) (eqb tag 32)
-        (λ e. choose (Sound s (suc k)) (attributesOpen phase) (λ o. attribute-after (known 32 e) o (room .attribute (says-eq tag 32 .holds e))) (λ o. stopped at))
-        (λ g. choose (Sound s (suc k)) (eqb tag 48) (λ e. class-after (known 48 e) (room .class (says-eq tag 48 .holds e))) (λ e. stopped at)))
+        (λ e. choose (Sound s (suc k)) (attributesOpen phase) (λ o. attribute-after (known 32 e) o (room .attribute (says-eq tag 32 .holds e))) (λ o. bad-refused at))
+        (λ g. choose (Sound s (suc k)) (eqb tag 48) (λ e. class-after (known 48 e) (room .class (says-eq tag 48 .holds e))) (λ e. bad-refused at)))
       where
         known : (n : ℕ) → eqb tag n ≡ true → fieldAt s at (length s) ≡ fields.Field n start stop
         known n e = f ∙ ap (λ (x : ℕ). fields.Field x start stop) (says-eq tag n .holds e)
 
   field-after : HasRoom (getD s at 0) a c → (r : FieldRead) → fieldAt s at (length s) ≡ r → Sound s (suc k) (fieldStep s at phase missing a c r)
   unfolding fieldStep
-  field-after room fields.End e = stopped at
-  field-after room (fields.Bad place) e = stopped place
+  field-after room fields.End e = bad-refused at
+  field-after room (fields.Bad place) e = bad-refused place
   field-after room (fields.Field tag start stop) e =
       let w = field-is s at (length s) tag start stop e in
       tagged-after start stop tag e (subst (λ (t : ℕ). HasRoom t a c) (sym (w .tag-is)) room)
@@ -236,8 +233,8 @@ module _ (s : List ℕ) (bytes : Bytes s) (exact : ExactSheet s) (k : ℕ) (belo
   step-after : Sound s (suc k) (stepAt s at phase missing a c)
   unfolding stepAt
   step-after =
-      choose (Sound s (suc k)) (eqb (fullTable s at a c) 1) (λ e. never-full (Full 1 attributeLimit) 1 attributeLimit refl)
-      (λ d. choose (Sound s (suc k)) (eqb (fullTable s at a c) 2) (λ e. never-full (Full 2 classLimit) 2 classLimit refl)
+      choose (Sound s (suc k)) (eqb (fullTable s at a c) 1) (λ e. full-refused 1 attributeLimit)
+      (λ d. choose (Sound s (suc k)) (eqb (fullTable s at a c) 2) (λ e. full-refused 2 classLimit)
       (λ f. field-after (has-room s at a c (fullTable s at a c) (getD s at 0) refl (says-fails (says-eq (fullTable s at a c) 1) d) (says-fails (says-eq (fullTable s at a c) 2) f) refl (b .lent .attributesFew) (b .lent .classesFew)) (fieldAt s at (length s)) refl))
 
 -- ---- all fields
@@ -249,13 +246,13 @@ Same s x = x .answer ≡ Read → sheetBytes (attributeTable (x .attributes)) (c
 module _ (s : List ℕ) (bytes : Bytes s) (exact : ExactSheet s) where
   -- at the end of the sheet
   end-same : (at : ℕ) (phase : Phase) (missing : Bool) (a c : List ℕ) → State s at phase missing a c → at ≡ length s → Same s (sheetOut (cond missing (Bad at) Read) a c)
-  end-same at phase true a c w e q = absurd (never-read (Bad at) at refl q)
+  end-same at phase true a c w e q = absurd (bad-refused at q)
   end-same at phase false a c w e q = sym (w .same) ∙ ap (λ (n : ℕ). part 0 n s) e ∙ part-all (length s) s (omega arith)
 
   from-same : (n k at : ℕ) (phase : Phase) (missing : Bool) (a c : List ℕ) → k + n ≡ length s → Between s k at phase missing a c → Same s (readFrom n s at phase missing a c)
   unfolding readFrom
   from-same zero k at phase missing a c h b =
-      choose (λ (r : SheetRead). Same s (sheetOut r a c)) (eqb at (length s)) (λ e. end-same at phase missing a c (b .state) (says-eq at (length s) .holds e)) (λ d q. absurd (never-read (Bad at) at refl q))
+      choose (λ (r : SheetRead). Same s (sheetOut r a c)) (eqb at (length s)) (λ e. end-same at phase missing a c (b .state) (says-eq at (length s) .holds e)) (λ d q. absurd (bad-refused at q))
   from-same (suc n) k at phase missing a c h b =
       choose (Same s) (eqb at (length s)) (λ e. end-same at phase missing a c (b .state) (says-eq at (length s) .holds e))
       (λ d. onward-same (readFrom n s) (λ at phase missing a c. from-same n (suc k) at phase missing a c (omega arith)) (stepAt s at phase missing a c .turn) (stepAt s at phase missing a c .attributes) (stepAt s at phase missing a c .classes) (step-after s bytes exact k (omega arith) at phase missing a c b))

@@ -1,7 +1,7 @@
 -- One row more in a store is one field more in its sheet.
-use mathlib.Core.Path.{_≡_, refl, sym, ap, ap₂, _∙_}
+use mathlib.Core.Path.{_≡_, sym, ap, ap₂, _∙_}
 use mathlib.Core.List.{List, [], _∷_, _++_}
-use Prim.Native.Nat.{ℕ, zero, suc, _+_, _*_, _≤_, _<_}
+use Prim.Native.Nat.{ℕ, _+_, _*_, _≤_, _<_}
 use native.Mathlib.Omega.{arith}
 use native.Mathlib.Numerals.{add-one}
 use lib.ListN.{length}
@@ -12,16 +12,12 @@ use Rattle.prelude.specs.BigEndianLaws.{bytes-length}
 use Rattle.schema.specs.Numbers.{attributeLimit, classLimit}
 use Rattle.schema.specs.Layout.{rowsAt, attributeWidth, classWidth, attributesLength, classesLength}
 use Rattle.schema.specs.Store.{attributeTable, classTable}
-use Rattle.graph.specs.Graph.{concatBelow}
+use Rattle.prelude.specs.Concat.{concatBelow}
+use Rattle.prelude.specs.ConcatLaws.{concat-same}
 use Rattle.formats.specs.declared.table.Kind.the-variants.{Attribute, Class}
 use Rattle.stores.specs.Filled.{attributeHeader, plusAttribute, plusClass}
 use Rattle.stores.specs.FilledLaws.{attribute-plus-count, class-plus-count}
 use Rattle.sheet_write.specs.Writing.{rowField, rowFields}
-
-concat-same : (n : ℕ) (f g : ℕ → List ℕ) → ((k : ℕ) → k < n → f k ≡ g k) → concatBelow n f ≡ concatBelow n g
-unfolding concatBelow
-concat-same zero f g h = refl
-concat-same (suc n) f g h = ap₂ (λ (x y : List ℕ). x ++ y) (concat-same n f g (λ k l. h k (omega arith))) (h n (omega arith))
 
 -- ---- a store of either table: row n is put in its place, and a header over the first bytes
 

@@ -7,15 +7,15 @@ use Prim.Native.Nat.{ℕ, _≤_}
 use native.Mathlib.Omega.{arith}
 use lib.ListN.{length}
 use Rattle.prelude.specs.Part.{part, splice, zeros}
-use Rattle.prelude.specs.PartLaws.{zeros-length}
 use Rattle.prelude.specs.SaysLaws.{says-and, says-test}
-use Rattle.prelude.specs.SpliceLaws.{splice-length, splice-part}
+use Rattle.prelude.specs.SpliceLaws.{splice-part}
 use Rattle.schema.specs.Layout.{attributesLength, classesLength}
 use Rattle.schema.specs.Store.{attributeTable, classTable}
 use Rattle.formats.specs.ShapesLaws.{Bytes}
 use Rattle.stores.specs.FilledLaws.{attributes-count, classes-count, no-attributes, no-classes}
 use Rattle.sheet.specs.declared.read.SheetRead.the-variants.{Read}
 use Rattle.sheet.specs.Reading.{Open, sheetOut, readSheet}
+use Rattle.sheet.specs.ReadingLaws.{emptied-open}
 use Rattle.sheet_write.specs.Writing.{sheetBytes}
 use Rattle.shape.specs.Shape.{attributesFormed, classesFormed, formed}
 use Rattle.shape.specs.ShapeLaws.{says-formed}
@@ -41,18 +41,13 @@ no-classes-yet : (c c₂ : List ℕ) → classesTo c c₂ 0 ≡ emptyClasses c�
 unfolding rowsBelow
 no-classes-yet c c₂ = ap (λ (x : List ℕ). splice 0 x c₂) no-classes
 
-module _ (a c : List ℕ) (la : attributesLength ≤ length a) (lc : classesLength ≤ length c) where
-  no-rows : (attributeTable (emptyAttributes a) .count ≡ 0) × (classTable (emptyClasses c) .count ≡ 0)
-  no-rows = (
-    ap (λ (x : List ℕ). attributeTable (splice 0 x a) .count) (sym no-attributes) ∙ attributes-count [] a tt (omega arith),
-    ap (λ (x : List ℕ). classTable (splice 0 x c) .count) (sym no-classes) ∙ classes-count [] c tt (omega arith),
-  )
+-- they hold no rows
+module _ (a c : List ℕ) where
+  attributes-none : attributeTable (emptyAttributes a) .count ≡ 0
+  attributes-none = ap (λ (x : List ℕ). attributeTable (splice 0 x a) .count) (sym no-attributes) ∙ attributes-count [] a tt (omega arith)
 
-  empty-open : Open (emptyAttributes a) (emptyClasses c)
-  empty-open =
-      let long : length (emptyAttributes a) ≡ length a = splice-length 0 (zeros attributesLength) a (omega (arith, zeros-length attributesLength)) in
-      let broad : length (emptyClasses c) ≡ length c = splice-length 0 (zeros classesLength) c (omega (arith, zeros-length classesLength)) in
-      record { attributesLong = omega arith; classesLong = omega arith; attributesFew = omega (arith, no-rows .0); classesFew = omega (arith, no-rows .1) }
+  classes-none : classTable (emptyClasses c) .count ≡ 0
+  classes-none = ap (λ (x : List ℕ). classTable (splice 0 x c) .count) (sym no-classes) ∙ classes-count [] c tt (omega arith)
 
 -- ---- tables, sheet, tables
 
@@ -68,7 +63,7 @@ module _ (a c : List ℕ) (ba : Bytes a) (bc : Bytes c) (la : attributesLength �
   written-read a₂ c₂ la₂ lc₂ =
       let s : List ℕ = sheetBytes (attributeTable a) (classTable c) in
       let r = says-formed a c la lc .holds f in
-      let ready : Open (attributesTo a a₂ 0) (classesTo c c₂ 0) = rw (no-attributes-yet a a₂, no-classes-yet c c₂) (empty-open a₂ c₂ la₂ lc₂) in
+      let ready : Open (attributesTo a a₂ 0) (classesTo c c₂ 0) = rw (no-attributes-yet a a₂, no-classes-yet c c₂) (emptied-open a₂ c₂ la₂ lc₂) in
       ap₂ (λ (x y : List ℕ). readSheet s x y) (sym (no-attributes-yet a a₂)) (sym (no-classes-yet c c₂))
       ∙ all-read a c ba bc la lc (r .0) (r .1) a₂ c₂ ready
       ∙ ap₂ (λ (x y : List ℕ). sheetOut Read (splice 0 x a₂) (splice 0 y c₂)) (sym (attributes-held a ba la (both-formed .0))) (sym (classes-held c bc lc (both-formed .1)))
@@ -79,8 +74,9 @@ module _ (a c : List ℕ) (ba : Bytes a) (bc : Bytes c) (la : attributesLength �
 
 -- ---- sheet, tables, sheet
 
--- a sheet that is accepted, with 08 exactly where oMSyntax is 127, is what the stores are written as after it was read into them
+-- a sheet that is accepted, with 08 exactly where oMSyntax is 127 (`says-exact` has it with quantifiers), is what the stores are written as after it was read
+-- into them
 pub read-written : (s a c : List ℕ) → Bytes s → attributesLength ≤ length a → classesLength ≤ length c → exactSheet s ≡ true → readSheet s (emptyAttributes a) (emptyClasses c) .answer ≡ Read
     → sheetBytes (attributeTable (readSheet s (emptyAttributes a) (emptyClasses c) .attributes)) (classTable (readSheet s (emptyAttributes a) (emptyClasses c) .classes)) ≡ s
 read-written s a c bytes la lc exact =
-    accepted-same s bytes (says-exact s .holds exact) (emptyAttributes a) (emptyClasses c) (empty-open a c la lc) (no-rows a c la lc .0) (no-rows a c la lc .1)
+    accepted-same s bytes (says-exact s .holds exact) (emptyAttributes a) (emptyClasses c) (emptied-open a c la lc) (attributes-none a c) (classes-none a c)

@@ -1,17 +1,16 @@
 -- The rows of a table, written one after the other, are read back one after the other. Once for both tables.
 use mathlib.Core.Path.{_≡_, refl, ap, subst, _∙_}
 use mathlib.Core.Bool.{false}
-use mathlib.Core.Logic.{⊎-elim}
-use mathlib.Core.List.{List, [], _++_, append-assoc, append-nil}
+use mathlib.Core.List.{List, _++_, append-assoc, append-nil}
 use Prim.Native.Nat.{ℕ, zero, suc, _+_, _≤_, _<_}
 use native.Mathlib.Omega.{arith}
 use lib.ListN.{length, length-append}
-use Rattle.prelude.specs.BelowLaws.{last-or-less}
 use Rattle.prelude.specs.Part.{zeros}
 use Rattle.wire.specs.declared.FieldRead.the-variants as fields
 use Rattle.wire.specs.Wire.{fieldAt, headerBytes, fieldBytes}
 use Rattle.wire.specs.WireLaws.{header-length, field-read}
-use Rattle.graph.specs.Graph.{concatBelow}
+use Rattle.prelude.specs.Concat.{concatBelow}
+use Rattle.prelude.specs.ConcatLaws.{concat-behind}
 use Rattle.formats.specs.declared.table.Kind.{Kind}
 use Rattle.formats.specs.Rules.{writeBy}
 use Rattle.formats.specs.Formats.{formatOf, widthOf}
@@ -23,7 +22,7 @@ use Rattle.sheet.specs.declared.read.Turn.the-variants.{On}
 use Rattle.sheet.specs.Reading.{Open, rowOut, Step, step, stepAt}
 use Rattle.sheet.proofs.Walk.{Reading, reading-on}
 use Rattle.sheet_write.specs.Writing.{rowField}
-use Rattle.sheet_write.proofs.Short.{written-short}
+use Rattle.formats.specs.ShortLaws.{written-short}
 use Rattle.sheet_write.proofs.Rows.{row-field-length}
 
 -- ---- one row
@@ -69,22 +68,6 @@ pub record Come (s a₀ c₀ : List ℕ) (Ready : Phase → Type 0) (a c : List 
   pub ready : Ready phase
   pub reading : Reading s a₀ c₀ a c at phase false
 
--- the fields of a table from row k on
-record Behind (n k : ℕ) (f : ℕ → List ℕ) : Type 0 where
-  rest : List ℕ
-  is : concatBelow n f ≡ concatBelow k f ++ (f k ++ rest)
-
-behind : (n k : ℕ) (f : ℕ → List ℕ) → k < n → Behind n k f
-unfolding concatBelow
-behind zero k f l = absurd (omega arith)
-behind (suc n) k f l = ⊎-elim (λ m. further (behind n k f m)) last (last-or-less l)
-  where
-    further : Behind n k f → Behind (suc n) k f
-    further b = record { rest = b .rest ++ f n; is = ap (λ (x : List ℕ). x ++ f n) (b .is) ∙ simp append-assoc }
-
-    last : k ≡ n → Behind (suc n) k f
-    last e = record { rest = []; is = rw (e, append-nil) }
-
 -- the fields of the rows, by their numbers
 abbrev written : Kind → ℕ → (ℕ → List ℕ) → ℕ → List ℕ
 written kind tag row k = rowField kind tag (row k)
@@ -115,7 +98,7 @@ module _ {kind : Kind} {tag : ℕ} {s : List ℕ} {row : ℕ → List ℕ} {n : 
   unfolding concatBelow
   rows-come p q e h zero l = rw append-nil h
   rows-come p q e h (suc k) l =
-      let b = behind n k (written kind tag row) l in
+      let b = concat-behind (written kind tag row) n k l in
       let apart : s ≡ (p ++ concatBelow k (written kind tag row)) ++ (written kind tag row k ++ (b .rest ++ q)) = e ∙ ap (λ (x : List ℕ). p ++ (x ++ q)) (b .is) ∙ simp append-assoc in
       subst (λ (x : List ℕ). Come s a₀ c₀ Ready (A (suc k)) (C (suc k)) (length x)) (append-assoc p (concatBelow k (written kind tag row)) (written kind tag row k))
       (come-more k l (p ++ concatBelow k (written kind tag row)) (b .rest ++ q) apart (rows-come p q e h k (omega arith)))

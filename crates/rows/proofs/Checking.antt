@@ -9,12 +9,13 @@ use lib.Dec.{eqb}
 use lib.ListN.{length, getD, take, drop, length-drop, drop-of-length-le}
 use lib.Seq.{take-all, drop-cons}
 use Rattle.prelude.specs.Part.{part, isZero}
+use Rattle.schema.specs.ObjectClasses.{firstObjectClass}
 use Rattle.schema.specs.AttributeRow.{syntaxOf, omSyntaxOf, objectClassLength}
 use Rattle.prelude.specs.SaysLaws.{says-eq, says-true, says-false}
 use Rattle.formats.specs.declared.shape.Rule.{Rule}
 use Rattle.formats.specs.Shapes.{image, holds}
 use Rattle.formats.specs.Rules.{mark, width, cellAt, hasValue, wellFormedCell, wellFormedBy}
-use Rattle.rows.specs.ObjectClass.{firstObjectClass, objectClassCell, isSettled}
+use Rattle.rows.specs.ObjectClass.{objectClassCell, isSettled}
 
 -- a cell from a place on, as the language cuts it
 pub rest-of : (at : ℕ) (cell : List ℕ) → take (length cell - at) (drop at cell) ≡ drop at cell

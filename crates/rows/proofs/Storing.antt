@@ -6,7 +6,7 @@ use Prim.Native.Nat.{ℕ, suc, _+_, _-_, _*_, _/_, _%_, _≤_, _<_}
 use native.Mathlib.Omega.{arith}
 use lib.ListN.{length, take, drop, set, length-set, length-drop, length-take, length-append}
 use lib.Seq.{take-length, drop-length}
-use Rattle.prelude.specs.Part.{part, splice, zeros, padded}
+use Rattle.prelude.specs.Part.{splice, zeros, padded}
 use Rattle.formats.specs.declared.shape.Presence.{Presence}
 use Rattle.formats.specs.declared.shape.Presence.the-variants.{Required, Optional, Marked, Never}
 use Rattle.formats.specs.declared.shape.Rule.{Rule}

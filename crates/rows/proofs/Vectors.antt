@@ -3,11 +3,12 @@ use mathlib.Core.Path.{_≡_, refl}
 use mathlib.Core.List.{List, [], _∷_, _++_}
 use Prim.Native.Nat.{ℕ}
 use lib.ListN.{length, replicate}
-use Rattle.prelude.specs.Below.{allBelow}
+use Rattle.prelude.specs.Below.{anyBelow, allBelow, firstBelow}
 use Rattle.prelude.specs.Part.{part, splice, zeros, padded, isZero}
 use Rattle.prelude.specs.BigEndian.{bigEndian, bigEndianBytes}
 use Rattle.sets.specs.Sets.{digitsOf, setOf}
 use Rattle.wire.specs.Wire.{fieldAt, headerBytes, fieldBytes}
+use Rattle.schema.specs.ObjectClasses.{objectClasses, firstObjectClass}
 use Rattle.schema.specs.Layout.{objectClassAt, mandatoryAt, openAuxiliaryAt}
 use Rattle.formats.specs.declared.table.Kind.{Kind}
 use Rattle.formats.specs.declared.table.Kind.the-variants.{Attribute, Class, NewAttribute, NewClass, Range, Name, Target, Entry}
@@ -18,7 +19,7 @@ use Rattle.formats.specs.Formats.{commonFields, attributeFields, classFields, r
 use Rattle.rows.specs.declared.read.RowRead.{RowRead}
 use Rattle.rows.specs.declared.read.RowRead.the-variants.{Read, Bad}
 use Rattle.rows.specs.Reading.{turnOf, tookOf, rowOf, onward, readBy}
-use Rattle.rows.specs.ObjectClass.{firstObjectClass, objectClassCell, settled, finished, finish, readRow}
+use Rattle.rows.specs.ObjectClass.{objectClassCell, settled, finished, finish, readRow}
 
 -- a value read into a row of zeros
 answer : Kind → List ℕ → RowRead
@@ -103,5 +104,5 @@ Vectors =
     × (answer Entry (target ++ (field 33 (23 ∷ []) ++ field 34 (255 ∷ 255 ∷ []))) ≡ Read)
 
 vectors : Vectors
-unfolding answer stored readRow finish finished settled firstObjectClass objectClassCell readBy onward turnOf tookOf rowOf fieldAt headerBytes fieldBytes bigEndian bigEndianBytes takes possible required cellOf lead mark width room accepts passes image entries risesBelow among setOf digitsOf allBelow isZero part splice zeros padded formatOf widthOf commonFields attributeFields classFields rangeFields nameFields targetFields entryFields
+unfolding answer stored readRow finish finished settled firstObjectClass objectClasses firstBelow anyBelow objectClassCell readBy onward turnOf tookOf rowOf fieldAt headerBytes fieldBytes bigEndian bigEndianBytes takes possible required cellOf lead mark width room accepts passes image entries risesBelow among setOf digitsOf allBelow isZero part splice zeros padded formatOf widthOf commonFields attributeFields classFields rangeFields nameFields targetFields entryFields
 vectors = (refl, refl, refl, refl, refl, refl, refl, refl, refl, refl, refl, refl, refl, refl, refl, refl, refl, refl, refl, refl, refl, refl, refl, refl, refl, refl, refl, refl, refl, refl, refl, refl, refl, refl, refl, refl, refl, refl, refl, refl, refl)

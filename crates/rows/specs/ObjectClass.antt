@@ -1,11 +1,12 @@
 -- oMObjectClass. Document 01, rule 27: "Absent, the first is stored. With any other oMSyntax it is read and dropped."
 use mathlib.Core.Bool.{Bool, false, cond, not, _||_}
-use mathlib.Core.List.{List, [], _∷_}
+use mathlib.Core.List.{List, []}
 use Prim.Native.Nat.{ℕ, _+_}
 use lib.Dec.{eqb}
 use lib.ListN.{length}
 use Rattle.prelude.specs.Part.{splice}
 use Rattle.schema.specs.Layout.{objectClassLimit, objectClassAt}
+use Rattle.schema.specs.ObjectClasses.{firstObjectClass}
 use Rattle.schema.specs.AttributeRow.{syntaxOf, omSyntaxOf, objectClassLength}
 use Rattle.formats.specs.declared.shape.Shape.the-variants.{Counted}
 use Rattle.formats.specs.declared.table.Kind.{Kind}
@@ -15,19 +16,6 @@ use Rattle.formats.specs.Formats.{formatOf}
 use Rattle.rows.specs.declared.read.RowRead.{RowRead}
 use Rattle.rows.specs.declared.read.RowRead.the-variants.{Read, Bad}
 use Rattle.rows.specs.Reading.{Out, out, readBy}
-
--- the first value of a syntax: 1: 2B0C0287731C00854A. 7: 56060102050B1D. 13: 2B0C0287731C00855C. 14: 2B0C0287731C00853E. Others have none.
-unfoldable pub firstObjectClass : ℕ → List ℕ
-firstObjectClass syntax =
-    cond (eqb syntax 1)
-    (43 ∷ 12 ∷ 2 ∷ 135 ∷ 115 ∷ 28 ∷ 0 ∷ 133 ∷ 74 ∷ [])
-    (cond (eqb syntax 7)
-    (86 ∷ 6 ∷ 1 ∷ 2 ∷ 5 ∷ 11 ∷ 29 ∷ [])
-    (cond (eqb syntax 13)
-    (43 ∷ 12 ∷ 2 ∷ 135 ∷ 115 ∷ 28 ∷ 0 ∷ 133 ∷ 92 ∷ [])
-    (cond (eqb syntax 14)
-    (43 ∷ 12 ∷ 2 ∷ 135 ∷ 115 ∷ 28 ∷ 0 ∷ 133 ∷ 62 ∷ [])
-    [])))
 
 -- oMSyntax 127
 abbrev pub isObject : List ℕ → Bool

@@ -9,6 +9,8 @@ use lib.ListN.{length}
 use Rattle.prelude.specs.Part.{splice, zeros, padded}
 use Rattle.prelude.specs.PartLaws.{padded-length}
 use Rattle.prelude.specs.SpliceLaws.{splice-length}
+use Rattle.schema.specs.ObjectClasses.{firstObjectClass}
+use Rattle.schema.specs.ObjectClassesLaws.{first-short}
 use Rattle.schema.specs.Layout.{objectClassAt, objectClassLimit}
 use Rattle.schema.specs.AttributeRow.{syntaxOf, omSyntaxOf, objectClassLength}
 use Rattle.prelude.specs.SaysLaws.{says-eq, says-true, says-false}
@@ -18,7 +20,7 @@ use Rattle.formats.specs.Formats.{formatOf}
 use Rattle.rows.specs.declared.read.RowRead.{RowRead}
 use Rattle.rows.specs.declared.read.RowRead.the-variants.{Read, Bad}
 use Rattle.rows.specs.Reading.{Out, readBy}
-use Rattle.rows.specs.ObjectClass.{objectClassWidth, isObject, firstObjectClass, objectClassCell, settled, finished, finish, readRow}
+use Rattle.rows.specs.ObjectClass.{objectClassWidth, isObject, objectClassCell, settled, finished, finish, readRow}
 
 -- ---- the three cases
 
@@ -40,18 +42,6 @@ unfolding settled
 settled-given row e d = rw (says-true (says-eq (omSyntaxOf row) 127) e, says-false (says-eq (objectClassLength row) 0) d)
 
 -- ---- the cell
-
-either-short : (b : Bool) (x y : List ℕ) → length x ≤ objectClassLimit → length y ≤ objectClassLimit → length (cond b x y) ≤ objectClassLimit
-either-short true x y h k = h
-either-short false x y h k = k
-
-pub first-short : (syntax : ℕ) → length (firstObjectClass syntax) ≤ objectClassLimit
-unfolding firstObjectClass
-first-short syntax =
-    either-short (eqb syntax 1) _ _ (omega arith)
-    (either-short (eqb syntax 7) _ _ (omega arith)
-    (either-short (eqb syntax 13) _ _ (omega arith)
-    (either-short (eqb syntax 14) _ _ (omega arith) (omega arith))))
 
 pub cell-long : (v : List ℕ) → length v ≤ objectClassLimit → length (objectClassCell v) ≡ objectClassWidth
 unfolding objectClassCell image

@@ -8,6 +8,7 @@ use lib.Dec.{eqb}
 use lib.ListN.{length, take}
 use lib.Seq.{take-take}
 use borrow.Author.Tests.{eqb-true}
+use Rattle.prelude.specs.SaysLaws.{neither}
 use Rattle.prelude.specs.Part.{part, splice, zeros}
 use Rattle.prelude.specs.PartLaws.{part-none, part-part, part-add, part-bytes, zeros-length}
 use Rattle.prelude.specs.SpliceLaws.{splice-length, splice-before, part-splice-same}
@@ -43,10 +44,6 @@ front n at w a h = let z : 0 + at ≡ at = omega arith in unfold part in rw z at
 pub front-part : (n at w : ℕ) (a b : List ℕ) → at + w ≤ n → take n a ≡ take n b → part at w a ≡ part at w b
 front-part n at w a b h e = sym (front n at w a h) ∙ ap (part at w) e ∙ front n at w b h
 
-or-false : (a b : Bool) → (a || b) ≡ false → (a ≡ false) × (b ≡ false)
-or-false true b h = let no : _≡_ {A = ℕ} 0 1 = cc in absurd (omega arith)
-or-false false b h = (refl, h)
-
 -- the end of the table
 back-end : (s : List ℕ) (end o n at : ℕ) (m : Bool) (row new : List ℕ) → readBy s end [] at m row ≡ out Read new → Back s end [] o at m row new
 unfolding readBy wellFormedBy writeBy
@@ -80,7 +77,7 @@ module _ (s : List ℕ) (end : ℕ) (r : Rule) (rs : List Rule) (o n at : ℕ) (
   back-passed : Back s end rs (o + width r) at (required (r .presence) || m) (splice (r .at) (zeros (width r)) row) new → Back s end (r ∷ rs) o at m row new
   unfolding writeBy
   back-passed b =
-      let absent = or-false (required (r .presence)) m (b .none) in
+      let absent = neither (required (r .presence)) m (b .none) in
       let c = cell-stays (zeros (width r)) (zeros-length (width r)) (b .before) (b .long) in
       let none : hasValue (r .presence) (cellAt r new) ≡ false = ap (hasValue (r .presence)) (c .0) ∙ absent-value (r .presence) (width r) (absent .0) in
       record {

@@ -4,17 +4,19 @@ use mathlib.Core.Path.{_≡_, refl, sym, ap, _∙_}
 use mathlib.Core.Bool.{Bool, true, false, not, _||_, false≢true}
 use mathlib.Core.Logic.{_⊎_, inl, inr}
 use mathlib.Core.List.{List, [], _∷_}
-use Prim.Native.Nat.{ℕ, zero, _+_, _≤_, _<_}
+use Prim.Native.Nat.{ℕ, _+_, _≤_, _<_, _-_}
 use native.Mathlib.Omega.{arith}
 use native.Mathlib.Decide.{ℕ-discrete}
 use lib.Dec.{eqb}
 use lib.ListN.{length, getD}
 use Rattle.prelude.specs.SaysLaws.{says-and, says-eq, says-test, says-true, says-false, says-split}
-use Rattle.prelude.specs.Part.{part, splice, zeros, isZero}
-use Rattle.prelude.specs.PartLaws.{part-at, part-length, zero-zeros}
-use Rattle.prelude.specs.SpliceLaws.{splice-part, splice-at-before, splice-at-same, splice-at-after}
+use Rattle.prelude.specs.Part.{part, splice, zeros, isZero, padded}
+use Rattle.prelude.specs.PartLaws.{part-at, part-length, zero-zeros, part-part, part-between}
+use Rattle.prelude.specs.SpliceLaws.{splice-part, splice-at-before, splice-at-same, splice-at-after, part-splice-same}
+use Rattle.schema.specs.ObjectClasses.{firstObjectClass}
+use Rattle.schema.specs.ObjectClassesLaws.{first-short}
 use Rattle.schema.specs.Layout.{objectClassLimit, syntaxAt, omSyntaxAt, objectClassAt, singleValuedAt, attributeWidth}
-use Rattle.schema.specs.AttributeRow.{syntaxOf, omSyntaxOf, objectClassLength}
+use Rattle.schema.specs.AttributeRow.{syntaxOf, omSyntaxOf, objectClassLength, objectClassOf}
 use Rattle.formats.specs.declared.shape.Rule.{Rule}
 use Rattle.formats.specs.declared.shape.Shape.the-variants.{Counted}
 use Rattle.formats.specs.declared.shape.Presence.the-variants.{Optional}
@@ -26,8 +28,8 @@ use Rattle.formats.specs.Rules.{lead, mark, required, possible, width, takes, c
 use Rattle.formats.specs.RulesLaws.{formed-at, cell-replaced, absent-formed, taken-formed, sound-rule, soundRule, clear}
 use Rattle.formats.specs.Formats.{rule, commonFields, attributeFields, formatOf, widthOf, noRule}
 use Rattle.formats.specs.FormatsLaws.{kind-laid}
-use Rattle.rows.specs.ObjectClass.{objectClassWidth, firstObjectClass, objectClassCell, settled, isSettled}
-use Rattle.rows.specs.ObjectClassLaws.{settled-none, settled-first, settled-given, first-short, cell-long, no-cell}
+use Rattle.rows.specs.ObjectClass.{objectClassWidth, objectClassCell, settled, isSettled}
+use Rattle.rows.specs.ObjectClassLaws.{settled-none, settled-first, settled-given, cell-long, no-cell}
 use Rattle.rows.specs.WellFormed.{wellFormedAttribute, wellFormedClass, standsExactly}
 
 -- ---- the two tests, taken apart
@@ -134,6 +136,18 @@ put-bytes v row fits h =
     count : (v : List ℕ) → getD (objectClassCell v) 0 0 ≡ length v
     count v = unfold objectClassCell image in refl
 
+-- and what is read back
+put-value : (v row : List ℕ) → attributeWidth ≤ length row → length v ≤ objectClassLimit → objectClassOf (splice objectClassAt (objectClassCell v) row) ≡ v
+put-value v row fits h =
+    let cell : List ℕ = objectClassCell v in
+    let new : List ℕ = splice objectClassAt cell row in
+    let inside : objectClassAt + length cell ≤ length row = omega (arith, cell-long v h) in
+    let whole : part objectClassAt objectClassWidth new ≡ cell = part-splice-same objectClassAt cell row inside objectClassWidth (sym (cell-long v h)) in
+    ap (λ (n : ℕ). part (objectClassAt + 1) n new) (put-bytes v row fits h .1 .1) ∙ sym (part-part objectClassAt objectClassWidth new 1 (length v) (omega arith)) ∙ ap (part 1 (length v)) whole ∙ value
+  where
+    value : part 1 (length v) (objectClassCell v) ≡ v
+    value = unfold objectClassCell image padded in part-between (length v ∷ []) v (zeros (objectClassLimit - length v)) 1 (length v) refl refl
+
 put-none : (row : List ℕ) → attributeWidth ≤ length row → ¬ (omSyntaxOf row ≡ 127) → isSettled (splice objectClassAt (objectClassCell []) row) ≡ true
 unfolding isSettled
 put-none row fits d = let b = put-bytes [] row fits (omega arith) in rw (b .0, says-false (says-eq (omSyntaxOf row) 127) d, b .1 .1)
@@ -175,6 +189,22 @@ settled-same row fits f = go (ℕ-discrete (omSyntaxOf row) 127) (ℕ-discrete (
     go (yes e) (yes z) =
         settled-first row e z ∙ ap (λ (v : List ℕ). splice objectClassAt (objectClassCell v) row) (settled-without row e z (p .1))
         ∙ ap (λ (x : List ℕ). splice objectClassAt x row) no-cell ∙ no-class row fits (p .0) z
+
+-- settling leaves both syntaxes
+pub settled-syntaxes : (row : List ℕ) → attributeWidth ≤ length row → (omSyntaxOf (settled row) ≡ omSyntaxOf row) × (syntaxOf (settled row) ≡ syntaxOf row)
+settled-syntaxes row fits = go (ℕ-discrete (omSyntaxOf row) 127) (ℕ-discrete (objectClassLength row) 0)
+  where
+    put : (v : List ℕ) → length v ≤ objectClassLimit → settled row ≡ splice objectClassAt (objectClassCell v) row → (omSyntaxOf (settled row) ≡ omSyntaxOf row) × (syntaxOf (settled row) ≡ syntaxOf row)
+    put v h e = let b = put-bytes v row fits h in (ap omSyntaxOf e ∙ b .0, ap syntaxOf e ∙ b .1 .0)
+
+    go : Dec (omSyntaxOf row ≡ 127) → Dec (objectClassLength row ≡ 0) → (omSyntaxOf (settled row) ≡ omSyntaxOf row) × (syntaxOf (settled row) ≡ syntaxOf row)
+    go (no d) n = put [] (omega arith) (settled-none row d ∙ ap (λ (x : List ℕ). splice objectClassAt x row) (sym no-cell))
+    go (yes e) (no d) = (ap omSyntaxOf (settled-given row e d), ap syntaxOf (settled-given row e d))
+    go (yes e) (yes z) = put (firstObjectClass (syntaxOf row)) (first-short (syntaxOf row)) (settled-first row e z)
+
+-- and stores the first value where there is none
+pub settled-value : (row : List ℕ) → attributeWidth ≤ length row → omSyntaxOf row ≡ 127 → objectClassLength row ≡ 0 → objectClassOf (settled row) ≡ firstObjectClass (syntaxOf row)
+settled-value row fits e z = ap objectClassOf (settled-first row e z) ∙ put-value (firstObjectClass (syntaxOf row)) row fits (first-short (syntaxOf row))
 
 -- and one that was settled is
 pub settled-settled : (row : List ℕ) → attributeWidth ≤ length row → isSettled (settled row) ≡ true

@@ -2,9 +2,8 @@
 use mathlib.Core.Path.{_≡_, ap, _∙_}
 use mathlib.Core.List.{List, [], _++_}
 use Prim.Native.Nat.{ℕ, _+_, _<_, _≤_}
-use native.Mathlib.Nat.{add-zero}
 use native.Mathlib.Numerals.{add-one}
-use lib.ListN.{length, getD, drop, length-append, drop-of-length-le, take-append-drop}
+use lib.ListN.{length, getD, drop, length-append, drop-of-length-le}
 use lib.Seq.{drop-cons}
 use Rattle.prelude.specs.Part.{splice}
 use Rattle.prelude.specs.SpliceLaws.{splice-append}
@@ -23,10 +22,6 @@ module _ (table : List Rule) (none : Rule) (i : ℕ) (row : List ℕ) where
   pub write-done : length table ≤ i → writeBy (drop i table) row ≡ []
   unfolding writeBy
   write-done l = rw (drop-of-length-le table l)
-
-pub splice-none : (at : ℕ) (s : List ℕ) → splice at [] s ≡ s
-unfolding splice
-splice-none at s = rw (add-zero at) (take-append-drop at s)
 
 -- bytes written, and then what is left to write after them
 pub write-turn : (at next : ℕ) (u v out out′ : List ℕ) → at + length u ≤ length out → next ≡ at + length u → out′ ≡ splice at u out → splice next v out′ ≡ splice at (u ++ v) out

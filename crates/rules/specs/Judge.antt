@@ -1,6 +1,6 @@
 -- The judge of all rows. Document 01: "Load and audit name the table and lowest row that break the rule found, attributes first".
 use mathlib.Core.Path.{_≡_}
-use mathlib.Core.Bool.{false, cond, _||_}
+use mathlib.Core.Bool.{Bool, true, false, cond, _||_}
 use mathlib.Core.List.{List, [], _∷_}
 use Prim.Native.Nat.{ℕ, _<_}
 use Rattle.prelude.specs.Below.{anyBelow, firstBelow}
@@ -38,3 +38,15 @@ pub record Kept (r : RowRule) (n m : ℕ) : Type 0 where
 abbrev pub AllKept : List RowRule → ℕ → ℕ → Type 0
 AllKept [] n m = Unit {0}
 AllKept (r ∷ rs) n m = Kept r n m × AllKept rs n m
+
+-- k is the lowest number below n that passes
+pub record Lowest (p : ℕ → Bool) (n k : ℕ) : Type 0 where
+  pub below : k < n
+  pub passes : p k ≡ true
+  pub none : (j : ℕ) → j < k → p j ≡ false
+
+-- the answer names the first rule of the list that some row breaks, "the table and lowest row that break the rule found, attributes first"
+pub data FirstBroken (n m : ℕ) : List RowRule → Answer → Type 0 where
+  attribute : {r : RowRule} {rs : List RowRule} (k : ℕ) → Lowest (r .attribute) n k → FirstBroken n m (r ∷ rs) (answer (r .number) 1 k)
+  class : {r : RowRule} {rs : List RowRule} (k : ℕ) → ((j : ℕ) → j < n → r .attribute j ≡ false) → Lowest (r .class) m k → FirstBroken n m (r ∷ rs) (answer (r .number) 2 k)
+  later : {r : RowRule} {rs : List RowRule} {x : Answer} → Kept r n m → FirstBroken n m rs x → FirstBroken n m (r ∷ rs) x

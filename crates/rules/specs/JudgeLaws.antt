@@ -1,12 +1,12 @@
 -- What the judge's answer is: its number is the first rule that some row breaks; 0 exactly where no row breaks any; the place is the lowest row.
-use mathlib.Core.Path.{_≡_, refl, sym, ap, _∙_}
+use mathlib.Core.Path.{_≡_, refl, sym, ap, subst, _∙_}
 use mathlib.Core.Bool.{Bool, true, false, _||_}
 use mathlib.Core.List.{List, [], _∷_}
-use mathlib.Core.Logic.{_↔_}
+use mathlib.Core.Logic.{_↔_, _⊎_, inl, inr}
 use Prim.Native.Nat.{ℕ, _+_, _≤_, _<_}
 use lib.ListN.{length, getD, drop}
 use native.Mathlib.Omega.{arith}
-use Rattle.prelude.specs.SaysLaws.{says-true, says-false, says-lt}
+use Rattle.prelude.specs.SaysLaws.{says-true, says-false, says-lt, neither}
 use Rattle.prelude.specs.Below.{anyBelow, firstBelow}
 use Rattle.prelude.specs.BelowLaws.{first-some, any-none, any-false, first-any}
 use Rattle.prelude.specs.First.{_when_, firstOf, NoneHolds, Rising}
@@ -16,13 +16,7 @@ use Rattle.schema.specs.Store.{Table}
 use Rattle.schema.specs.declared.answer.Answer.{Answer}
 use Rattle.rules.specs.Rules.{RowRule, schemaRules, numbered, rulesOf}
 use Rattle.rules.specs.RulesLaws.{rules-next, rules-end, numbered-number}
-use Rattle.rules.specs.Judge.{judgeRule, judgeRules, judged, brokenCases, AllKept}
-
--- k is the lowest number below n that passes
-pub record Lowest (p : ℕ → Bool) (n k : ℕ) : Type 0 where
-  pub below : k < n
-  pub passes : p k ≡ true
-  pub none : (j : ℕ) → j < k → p j ≡ false
+use Rattle.rules.specs.Judge.{judgeRule, judgeRules, judged, brokenCases, Kept, AllKept, Lowest, FirstBroken}
 
 lowest : (p : ℕ → Bool) (n : ℕ) → anyBelow n p ≡ true → Lowest p n (firstBelow n p)
 lowest p n e = let f = first-some p n e in record { below = f .0; passes = f .1; none = f .2 }
@@ -41,13 +35,6 @@ module _ (r : RowRule) (n m : ℕ) (else : Answer) where
   pub judge-neither : anyBelow n (r .attribute) ≡ false → anyBelow m (r .class) ≡ false → judgeRule r n m else ≡ else
   unfolding judgeRule
   judge-neither e f = rw (e, f)
-
-  -- the place is the lowest row that breaks the rule
-  pub lowest-attribute : anyBelow n (r .attribute) ≡ true → Lowest (r .attribute) n (judgeRule r n m else .place)
-  lowest-attribute e = rw (judge-attribute e) (lowest (r .attribute) n e)
-
-  pub lowest-class : anyBelow n (r .attribute) ≡ false → anyBelow m (r .class) ≡ true → Lowest (r .class) m (judgeRule r n m else .place)
-  lowest-class e f = rw (judge-class e f) (lowest (r .class) m f)
 
 pub judge-none : (n m : ℕ) → judgeRules [] n m ≡ done 0 0
 unfolding judgeRules
@@ -77,10 +64,6 @@ judge-number (r ∷ rs) n m = ap (λ (x : Answer). x .number) (judge-more r rs n
         ∙ sym (first-miss (r .number when (anyBelow n (r .attribute) || anyBelow m (r .class))) (brokenCases rs n m) (ap (λ (b : Bool). b || anyBelow m (r .class)) p ∙ q))
 
 -- no case holds exactly where every rule is kept
-both-false : (x y : Bool) → (x || y) ≡ false → (x ≡ false) × (y ≡ false)
-both-false true y e = (e, absurd (let z : _≡_ {A = ℕ} 0 1 = cc in omega arith))
-both-false false y e = (refl, e)
-
 pub kept-none : (rs : List RowRule) (n m : ℕ) → AllKept rs n m → NoneHolds (brokenCases rs n m)
 kept-none [] n m h = tt
 kept-none (r ∷ rs) n m h =
@@ -89,7 +72,7 @@ kept-none (r ∷ rs) n m h =
 pub none-kept : (rs : List RowRule) (n m : ℕ) → NoneHolds (brokenCases rs n m) → AllKept rs n m
 none-kept [] n m h = tt
 none-kept (r ∷ rs) n m h =
-    let s = both-false (anyBelow n (r .attribute)) (anyBelow m (r .class)) (h .0) in
+    let s = neither (anyBelow n (r .attribute)) (anyBelow m (r .class)) (h .0) in
     (record { attributes = any-none (r .attribute) n (s .0); classes = any-none (r .class) m (s .1) }, none-kept rs n m (h .1))
 
 -- ---- one number after the other
@@ -169,3 +152,29 @@ judged-zero a c =
       λ e. none-kept rs (a .count) (c .count) (zero-iff-none (brokenCases rs (a .count) (c .count)) (omega arith) .0 (sym (judge-number rs (a .count) (c .count)) ∙ e)),
       λ h. judge-number rs (a .count) (c .count) ∙ zero-iff-none (brokenCases rs (a .count) (c .count)) (omega arith) .1 (kept-none rs (a .count) (c .count) h),
     )
+
+-- and then no table and no place is named
+kept-done : (rs : List RowRule) (n m : ℕ) → AllKept rs n m → judgeRules rs n m ≡ done 0 0
+kept-done [] n m h = judge-none n m
+kept-done (r ∷ rs) n m h =
+    judge-more r rs n m ∙ judge-neither r n m (judgeRules rs n m) (any-false (r .attribute) n (h .0 .attributes)) (any-false (r .class) m (h .0 .classes)) ∙ kept-done rs n m (h .1)
+
+pub judged-done : (a c : Table) → AllKept (schemaRules a c) (a .count) (c .count) → judged a c ≡ done 0 0
+unfolding judged
+judged-done a c = kept-done (schemaRules a c) (a .count) (c .count)
+
+-- either no row breaks a rule, or the answer names the first rule that is broken and the lowest row that breaks it
+first-or-kept : (rs : List RowRule) (n m : ℕ) → AllKept rs n m ⊎ FirstBroken n m rs (judgeRules rs n m)
+first-or-kept [] n m = inl tt
+first-or-kept (r ∷ rs) n m = subst (λ (x : Answer). AllKept (r ∷ rs) n m ⊎ FirstBroken n m (r ∷ rs) x) (sym (judge-more r rs n m)) (go (first-or-kept rs n m) (anyBelow n (r .attribute)) (anyBelow m (r .class)) refl refl)
+  where
+    go : AllKept rs n m ⊎ FirstBroken n m rs (judgeRules rs n m) → (x y : Bool) → anyBelow n (r .attribute) ≡ x → anyBelow m (r .class) ≡ y
+        → AllKept (r ∷ rs) n m ⊎ FirstBroken n m (r ∷ rs) (judgeRule r n m (judgeRules rs n m))
+    go ih true y p q = inr (subst (FirstBroken n m (r ∷ rs)) (sym (judge-attribute r n m (judgeRules rs n m) p)) (FirstBroken.attribute (firstBelow n (r .attribute)) (lowest (r .attribute) n p)))
+    go ih false true p q = inr (subst (FirstBroken n m (r ∷ rs)) (sym (judge-class r n m (judgeRules rs n m) p q)) (FirstBroken.class (firstBelow m (r .class)) (any-none (r .attribute) n p) (lowest (r .class) m q)))
+    go (inl k) false false p q = inl (record { attributes = any-none (r .attribute) n p; classes = any-none (r .class) m q }, k)
+    go (inr f) false false p q = inr (subst (FirstBroken n m (r ∷ rs)) (sym (judge-neither r n m (judgeRules rs n m) p q)) (FirstBroken.later (record { attributes = any-none (r .attribute) n p; classes = any-none (r .class) m q }) f))
+
+pub judged-first : (a c : Table) → AllKept (schemaRules a c) (a .count) (c .count) ⊎ FirstBroken (a .count) (c .count) (schemaRules a c) (judged a c)
+unfolding judged
+judged-first a c = first-or-kept (schemaRules a c) (a .count) (c .count)

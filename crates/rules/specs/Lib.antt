@@ -5,4 +5,6 @@ pub mod Judge
 pub mod JudgeLaws
 pub mod Change
 pub mod ChangeLaws
+pub mod SameLaws
+pub mod ReadLaws
 pub mod Pieces

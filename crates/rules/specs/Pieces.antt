@@ -20,7 +20,8 @@ use Rattle.names.specs.Name.{between, isLetter, isNameByte, validName, folded, 
 use Rattle.tables.specs.Live.{live}
 use Rattle.unique.specs.Unique.{sameKey, rivalIn, heldIn, attributeTaken, classTaken, numberTaken}
 use Rattle.attribute_rules.specs.Range.{signed, endsCrossed, rangeWrong}
-use Rattle.attribute_rules.specs.Syntax.{syntaxFits, syntaxWrong, objectClasses, objectClassFits, objectClassWrong}
+use Rattle.attribute_rules.specs.Syntax.{syntaxFits, syntaxWrong, objectClassWrong}
+use Rattle.schema.specs.ObjectClasses.{objectClasses, objectClassFits}
 use Rattle.attribute_rules.specs.Links.{isBackLink, isForwardOf, forwardMissing}
 use Rattle.class_rules.specs.Named.{lists, namedBy, namesAttribute, namesClass, attributeNotLive, classNotLive, superclassLate, classWrong, namingWrong}
 use Rattle.class_rules.specs.Category.{class88, structural, abstract, auxiliary, categoryWrong, inheritance, rootInheritance, inheritanceOf, inheritanceWrong}

@@ -3,8 +3,11 @@ pub mod Numbers
 pub mod Answers
 pub mod Layout
 pub mod Row
+pub mod RowLaws
 pub mod AttributeRow
 pub mod ClassRow
+pub mod ObjectClasses
+pub mod ObjectClassesLaws
 pub mod Store
 pub mod StoreLaws
 pub mod NumbersLaws

@@ -21,11 +21,15 @@ withRow t k new = record { count = t .count; row = λ j. cond (eqb j k) new (t .
 unfoldable pub plusRow : Table → List ℕ → Table
 plusRow t new = record { count = suc (t .count); row = λ j. cond (eqb j (t .count)) new (t .row j) }
 
+-- the first n rows of a store whose rows are width bytes wide
+abbrev pub tableOf : ℕ → List ℕ → ℕ → Table
+tableOf width s n = record { count = n; row = rowAt rowsAt width s }
+
 abbrev pub attributeTable : List ℕ → Table
-attributeTable s = record { count = bigEndian 2 0 s; row = rowAt rowsAt attributeWidth s }
+attributeTable s = tableOf attributeWidth s (bigEndian 2 0 s)
 
 abbrev pub classTable : List ℕ → Table
-classTable s = record { count = getD s 0 0; row = rowAt rowsAt classWidth s }
+classTable s = tableOf classWidth s (getD s 0 0)
 
 -- the three kept sets of class c as they stand in the closure store
 abbrev pub closureAt : List ℕ → ℕ → List ℕ

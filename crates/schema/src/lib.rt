@@ -5,5 +5,6 @@ pub mod attribute;
 pub mod class;
 pub mod layout;
 pub mod number;
+pub mod object_classes;
 pub mod row;
 pub mod store;

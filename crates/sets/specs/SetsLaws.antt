@@ -15,8 +15,8 @@ use Rattle.prelude.specs.Says.{Says}
 use Rattle.prelude.specs.Below.{Some}
 use Rattle.prelude.specs.BelowLaws.{says-any, says-all}
 use Rattle.prelude.specs.SaysLaws.{says-iff, says-or, says-not, says-eq, says-true, says-false, says-same, says-test, says-split}
-use Rattle.prelude.specs.Part.{zeros, part, sameBytes}
-use Rattle.prelude.specs.PartLaws.{zeros-at, part-at, says-same-bytes}
+use Rattle.prelude.specs.Part.{zeros, sameBytes}
+use Rattle.prelude.specs.PartLaws.{zeros-at, says-same-bytes}
 use Rattle.sets.specs.Sets.{flag, digit, bit, member, digitsOf, setOf, withMember, withoutMember, union, subset, isEmpty}
 
 -- ---- digits
@@ -98,12 +98,6 @@ says-member s n = says-eq (bit s n) 1
 
 pub member-true : (s : List ℕ) (n : ℕ) → member s n ≡ true → bit s n ≡ 1
 member-true s n = says-member s n .holds
-
-pub member-false : (s : List ℕ) (n : ℕ) → member s n ≡ false → bit s n ≡ 0
-member-false s n e = ⊎-elim (λ z. z) (λ o. absurd (false-true (sym e ∙ says-member s n .passes o))) (bit-cases s n)
-  where
-    false-true : false ≡ true → ⊥
-    false-true q = let z : _≡_ {A = ℕ} 0 1 = cc in omega arith
 
 -- the number is the test's
 pub bit-flag : (s : List ℕ) (n : ℕ) → bit s n ≡ flag (member s n)
@@ -265,14 +259,6 @@ without-length n s = set-length (length s) (λ k. member s k && not (eqb k n))
 pub bit-zeros : (n k : ℕ) → bit (zeros n) k ≡ 0
 unfolding bit
 bit-zeros n k = ap (λ (x : ℕ). digit x (k % 8)) (zeros-at n (k / 8)) ∙ no-digit (k % 8)
-
--- a member of a part is one of the whole, further up
-pub bit-part : (at n : ℕ) (s : List ℕ) (k : ℕ) → k < n * 8 → bit (part at n s) k ≡ bit s (at * 8 + k)
-unfolding bit
-bit-part at n s k l =
-    let q : (at * 8 + k) / 8 ≡ at + k / 8 = omega arith in
-    let r : (at * 8 + k) % 8 ≡ k % 8 = omega arith in
-    rw (part-at at n s (k / 8) (omega arith), q, r)
 
 pub says-subset : (a b : List ℕ) → Says (subset a b) ((k : ℕ) → bit a k ≤ bit b k)
 unfolding subset

@@ -2,3 +2,4 @@
 pub mod Shape
 pub mod ShapeLaws
 pub mod FilledShapeLaws
+pub mod FrontLaws

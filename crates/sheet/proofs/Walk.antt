@@ -7,7 +7,7 @@ use native.Mathlib.Omega.{arith}
 use lib.Dec.{eqb}
 use lib.ListN.{length}
 use borrow.Author.Tests.{eq-eqb, ne-eqb}
-use Rattle.prelude.specs.SaysLaws.{says-eq, says-fails}
+use Rattle.prelude.specs.SaysLaws.{says-eq, says-fails, choose}
 use Rattle.schema.specs.Numbers.{attributeLimit, classLimit}
 use Rattle.schema.specs.Layout.{attributesLength, classesLength}
 use Rattle.schema.specs.Store.{attributeTable, classTable}
@@ -26,7 +26,7 @@ use Rattle.sheet.specs.declared.read.Phase.the-variants.{Heading, Attrib
 use Rattle.sheet.specs.declared.read.Turn.{Turn}
 use Rattle.sheet.specs.declared.read.Turn.the-variants.{On, Stop}
 use Rattle.sheet.specs.Reading.{Open, HasRoom, headingOpen, attributesOpen, isHeading, headingTurn, rowStep, attributeStep, classStep, Step, step, taggedStep, fieldStep, fullTable, stepAt, stoppedAt, sheetOut, onward, readFrom, readSheet}
-use Rattle.sheet.specs.ReadingLaws.{choose, has-room}
+use Rattle.sheet.specs.ReadingLaws.{has-room}
 
 -- ---- one turn
 

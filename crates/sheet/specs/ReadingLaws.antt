@@ -1,6 +1,6 @@
 -- What reading a sheet leaves in the stores: rows, each well-formed, at most as many as the tables hold.
 use mathlib.Core.Path.{_≡_, refl, sym, ap, subst, _∙_}
-use mathlib.Core.Bool.{Bool, true, false, cond}
+use mathlib.Core.Bool.{Bool, true}
 use mathlib.Core.List.{List, [], _∷_, _++_}
 use Prim.Native.Nat.{ℕ, zero, suc, _≤_, _<_}
 use native.Mathlib.Omega.{arith}
@@ -9,7 +9,8 @@ use lib.ListN.{length, getD, length-append}
 use borrow.Author.Tests.{eq-eqb, ne-eqb}
 use Rattle.prelude.specs.Part.{splice, zeros}
 use Rattle.prelude.specs.PartLaws.{zeros-length}
-use Rattle.prelude.specs.SaysLaws.{says-eq, says-fails}
+use Rattle.prelude.specs.SpliceLaws.{splice-length}
+use Rattle.prelude.specs.SaysLaws.{says-eq, says-fails, choose}
 use Rattle.schema.specs.Numbers.{attributeLimit, classLimit}
 use Rattle.schema.specs.Layout.{attributeWidth, classWidth, attributesLength, classesLength}
 use Rattle.schema.specs.Store.{attributeTable, classTable}
@@ -31,12 +32,7 @@ use Rattle.sheet.specs.declared.read.Phase.{Phase}
 use Rattle.sheet.specs.declared.read.Phase.the-variants.{Heading, Attributes, Classes}
 use Rattle.sheet.specs.declared.read.Turn.{Turn}
 use Rattle.sheet.specs.declared.read.Turn.the-variants.{On, Stop}
-use Rattle.sheet.specs.Reading.{HasRoom, attributesOpen, rowStep, rowOut, attributeStep, classStep, Step, step, taggedStep, fieldStep, fullTable, stepAt, SheetOut, onward, readFrom, readSheet}
-
--- a fact of both branches is one of the choice
-pub choose : {A : Type 0} (P : A → Type 0) (b : Bool) {x y : A} → (b ≡ true → P x) → (b ≡ false → P y) → P (cond b x y)
-choose P true t f = t refl
-choose P false t f = f refl
+use Rattle.sheet.specs.Reading.{Open, HasRoom, attributesOpen, rowStep, rowOut, attributeStep, classStep, Step, taggedStep, fieldStep, fullTable, stepAt, SheetOut, onward, readFrom, readSheet}
 
 -- ---- no free row
 
@@ -222,3 +218,13 @@ pub sheet-held : (s a c : List ℕ) → Bytes s
     → HeldBoth a c (readSheet s (splice 0 (zeros attributesLength) a) (splice 0 (zeros classesLength) c) .attributes) (readSheet s (splice 0 (zeros attributesLength) a) (splice 0 (zeros classesLength) c) .classes)
 unfolding readSheet
 sheet-held s a c bytes = from-held s bytes (length s) 0 Heading true _ _ (record { attributes = held-no-attributes a; classes = held-no-classes c })
+
+-- emptied stores may be read into
+pub emptied-open : (a c : List ℕ) → attributesLength ≤ length a → classesLength ≤ length c → Open (splice 0 (zeros attributesLength) a) (splice 0 (zeros classesLength) c)
+emptied-open a c la lc =
+    record {
+      attributesLong = omega (arith, splice-length 0 (zeros attributesLength) a (omega (arith, zeros-length attributesLength)));
+      classesLong = omega (arith, splice-length 0 (zeros classesLength) c (omega (arith, zeros-length classesLength)));
+      attributesFew = attributes-few (held-no-attributes a);
+      classesFew = classes-few (held-no-classes c);
+    }

@@ -1,30 +1,29 @@
 -- The rows of a table, field by field, and the sheet as its parts.
-use mathlib.Core.Path.{_≡_, refl, sym, ap, ap₂, _∙_}
+use mathlib.Core.Path.{_≡_, sym, ap, ap₂, _∙_}
 use mathlib.Core.Bool.{true}
 use mathlib.Core.List.{List, [], _∷_, _++_}
-use Prim.Native.Nat.{ℕ, zero, suc, _+_, _-_, _*_, _≤_, _<_}
+use Prim.Native.Nat.{ℕ, _+_, _*_, _≤_, _<_}
 use native.Mathlib.Omega.{arith}
-use native.Mathlib.Nat.{add-zero, zero-add}
-use native.Mathlib.Numerals.{add-one}
+use native.Mathlib.Nat.{zero-add}
 use lib.ListN.{length, length-append}
 use Rattle.prelude.specs.Part.{rowAt, splice}
 use Rattle.prelude.specs.PartLaws.{part-length, row-fits}
-use Rattle.prelude.specs.SpliceLaws.{splice-length}
+use Rattle.prelude.specs.SpliceLaws.{splice-length, splice-none}
 use Rattle.wire.specs.Wire.{headerBytes}
 use Rattle.wire.specs.WireLaws.{field-length}
 use Rattle.schema.specs.Numbers.{attributeLimit, classLimit}
 use Rattle.schema.specs.Layout.{rowsAt, attributeWidth, classWidth}
-use Rattle.schema.specs.Store.{Table, attributeTable, classTable}
-use Rattle.graph.specs.Graph.{concatBelow}
+use Rattle.schema.specs.Store.{Table, tableOf, attributeTable, classTable}
+use Rattle.prelude.specs.ConcatLaws.{concat-none, concat-more, concat-more-length, concat-within, concat-next-within, concat-short}
 use Rattle.formats.specs.declared.table.Kind.{Kind}
 use Rattle.formats.specs.declared.table.Kind.the-variants.{Attribute, Class}
 use Rattle.formats.specs.Rules.{wellFormedBy, writeBy}
 use Rattle.formats.specs.Formats.{formatOf, widthOf}
 use Rattle.rows.specs.WellFormedLaws.{attribute-parts, class-parts}
-use Rattle.rows_write.specs.WritingLaws.{splice-none, write-turn}
+use Rattle.rows_write.specs.WritingLaws.{write-turn}
 use Rattle.rows_write.proofs.Writing.{field-put}
-use Rattle.sheet_write.specs.Writing.{heading, rowField, rowFields, sheetBytes, tableOf, WritableRow, WritableRows, Writable}
-use Rattle.sheet_write.proofs.Short.{written-short}
+use Rattle.sheet_write.specs.Writing.{heading, rowField, rowFields, sheetBytes, WritableRow, WritableRows, Writable}
+use Rattle.formats.specs.ShortLaws.{written-short}
 
 -- ---- one row
 
@@ -63,41 +62,34 @@ row-put kind tag at n next row out head whole e m h p q =
 
 module _ (kind : Kind) (tag : ℕ) (s : List ℕ) where
   abbrev pub fields : ℕ → List ℕ
-  fields n = rowFields kind tag (tableOf kind s n)
+  fields n = rowFields kind tag (tableOf (widthOf kind) s n)
 
   abbrev pub fieldOfRow : ℕ → List ℕ
   fieldOfRow k = rowField kind tag (rowAt rowsAt (widthOf kind) s k)
 
   pub rows-none : fields 0 ≡ []
-  unfolding rowFields concatBelow
-  rows-none = refl
+  unfolding rowFields
+  rows-none = concat-none fieldOfRow
 
   pub rows-more : (k : ℕ) → fields (k + 1) ≡ fields k ++ fieldOfRow k
-  unfolding rowFields concatBelow
-  rows-more k = rw (add-one k)
+  unfolding rowFields
+  rows-more = concat-more fieldOfRow
 
   pub more-length : (k : ℕ) → length (fields (k + 1)) ≡ length (fields k) + length (fieldOfRow k)
-  more-length k = ap length (rows-more k) ∙ length-append (fields k) (fieldOfRow k)
-
-  -- the first rows take no more than all
-  rows-fit : (k m : ℕ) → length (fields k) ≤ length (fields (k + m))
-  rows-fit k zero = omega (arith, ap (λ (n : ℕ). length (fields n)) (add-zero k))
-  rows-fit k (suc m) =
-      let e : k + suc m ≡ k + m + 1 = omega arith in
-      omega (arith, rows-fit k m, more-length (k + m), ap (λ (n : ℕ). length (fields n)) e)
+  unfolding rowFields
+  more-length = concat-more-length fieldOfRow
 
   pub rows-within : (k n : ℕ) → k ≤ n → length (fields k) ≤ length (fields n)
-  rows-within k n l =
-      let e : n ≡ k + (n - k) = omega arith in
-      omega (arith, rows-fit k (n - k), ap (λ (m : ℕ). length (fields m)) e)
+  unfolding rowFields
+  rows-within = concat-within fieldOfRow
 
   pub next-fits : (k n : ℕ) → k < n → length (fields k) + length (fieldOfRow k) ≤ length (fields n)
-  next-fits k n l = omega (arith, more-length k, rows-within (k + 1) n (omega arith))
+  unfolding rowFields
+  next-fits = concat-next-within fieldOfRow
 
   pub rows-short : (n : ℕ) → length (fields n) ≤ 65539 * n
-  rows-short zero = omega (arith, ap length rows-none)
-  rows-short (suc n) =
-      omega (arith, rows-short n, more-length n, ap (λ (m : ℕ). length (fields m)) (add-one n), row-field-length kind tag (rowAt rowsAt (widthOf kind) s n), written-short kind (rowAt rowsAt (widthOf kind) s n))
+  unfolding rowFields
+  rows-short n = concat-short fieldOfRow 65539 n (λ k l. omega (arith, row-field-length kind tag (rowAt rowsAt (widthOf kind) s k), written-short kind (rowAt rowsAt (widthOf kind) s k)))
 
   -- one row more is written behind the others
   pub put-more : (k at next : ℕ) (o out r : List ℕ) → at + length (fields k) ≤ length o → next ≡ at + length (fields k) → out ≡ splice at (fields k) o
@@ -112,11 +104,11 @@ module _ (kind : Kind) (tag : ℕ) (s : List ℕ) where
 
 -- ---- the two tables
 
-attribute-rows : (a : List ℕ) (tag : ℕ) {n : ℕ} → n ≡ attributeTable a .count → rowFields Attribute tag (tableOf Attribute a n) ≡ rowFields Attribute tag (attributeTable a)
+attribute-rows : (a : List ℕ) (tag : ℕ) {n : ℕ} → n ≡ attributeTable a .count → rowFields Attribute tag (tableOf (widthOf Attribute) a n) ≡ rowFields Attribute tag (attributeTable a)
 unfolding widthOf
 attribute-rows a tag e = rw e
 
-class-rows : (c : List ℕ) (tag : ℕ) {n : ℕ} → n ≡ classTable c .count → rowFields Class tag (tableOf Class c n) ≡ rowFields Class tag (classTable c)
+class-rows : (c : List ℕ) (tag : ℕ) {n : ℕ} → n ≡ classTable c .count → rowFields Class tag (tableOf (widthOf Class) c n) ≡ rowFields Class tag (classTable c)
 unfolding widthOf
 class-rows c tag e = rw e
 
@@ -164,6 +156,6 @@ module _ (ta tc : Table) where
       ∙ write-turn 0 first heading (u ++ v) o p (omega (arith, sheet-size, heading-length)) (e ∙ sym (zero-add (length heading))) x
 
 -- by the counts that were read
-pub sheet-is : (a c : List ℕ) {n m : ℕ} → n ≡ attributeTable a .count → m ≡ classTable c .count → sheetBytes (tableOf Attribute a n) (tableOf Class c m) ≡ sheetBytes (attributeTable a) (classTable c)
+pub sheet-is : (a c : List ℕ) {n m : ℕ} → n ≡ attributeTable a .count → m ≡ classTable c .count → sheetBytes (tableOf (widthOf Attribute) a n) (tableOf (widthOf Class) c m) ≡ sheetBytes (attributeTable a) (classTable c)
 unfolding sheetBytes
 sheet-is a c e f = ap₂ (λ (u v : List ℕ). heading ++ (u ++ v)) (attribute-rows a 32 e) (class-rows c 48 f)

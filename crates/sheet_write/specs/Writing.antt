@@ -9,7 +9,7 @@ use Rattle.wire.specs.Wire.{fieldBytes}
 use Rattle.schema.specs.Numbers.{attributeLimit}
 use Rattle.schema.specs.Layout.{rowsAt}
 use Rattle.schema.specs.Store.{Table, attributeTable, classTable}
-use Rattle.graph.specs.Graph.{concatBelow}
+use Rattle.prelude.specs.Concat.{concatBelow}
 use Rattle.formats.specs.declared.table.Kind.{Kind}
 use Rattle.formats.specs.declared.table.Kind.the-variants.{Attribute, Class}
 use Rattle.formats.specs.Rules.{wellFormedBy, writeBy}
@@ -36,10 +36,6 @@ unfoldable pub sheetBytes : Table → Table → List ℕ
 sheetBytes attributes classes = heading ++ (rowFields Attribute 32 attributes ++ rowFields Class 48 classes)
 
 -- ---- what the code asks
-
--- the first n rows of a store, by the kind of its rows
-abbrev pub tableOf : Kind → List ℕ → ℕ → Table
-tableOf kind s n = record { count = n; row = rowAt rowsAt (widthOf kind) s }
 
 -- row k of a store lies within it and is well-formed
 pub record WritableRow (kind : Kind) (s : List ℕ) (k : ℕ) : Type 0 where

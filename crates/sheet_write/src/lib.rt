@@ -18,9 +18,9 @@ ghost use Prim.Native.Nat.{ℕ, _+_, _≤_};
 ghost use lib.ListN.{length};
 ghost use Rattle.prelude.specs.Part.{rowAt, splice};
 ghost use Rattle.schema.specs.Layout.{rowsAt};
-ghost use Rattle.schema.specs.Store.{attributeTable, classTable};
+ghost use Rattle.schema.specs.Store.{tableOf, attributeTable, classTable};
 ghost use Rattle.formats.specs.Formats.{widthOf};
-ghost use Rattle.sheet_write.specs.Writing.{heading, rowField, rowFields, sheetBytes, tableOf, WritableRow, WritableRows, Writable};
+ghost use Rattle.sheet_write.specs.Writing.{heading, rowField, rowFields, sheetBytes, WritableRow, WritableRows, Writable};
 
 // How long the field of row k of a store is, whatever its tag.
 fn field_length(kind: Kind, store: &[u8], k: usize) -> usize
@@ -33,7 +33,7 @@ fn field_length(kind: Kind, store: &[u8], k: usize) -> usize
 // How long the fields of the first n rows are.
 fn rows_length(kind: Kind, store: &[u8], n: usize) -> usize
     requires { ⌜ WritableRows kind (now store) n ⌝ }
-    ensures { λ r. ⌜ ((tag : ℕ) → r ≡ length (rowFields kind tag (tableOf kind (now (store .entry)) n))) ⌝ }
+    ensures { λ r. ⌜ ((tag : ℕ) → r ≡ length (rowFields kind tag (tableOf (widthOf kind) (now (store .entry)) n))) ⌝ }
 {
     let mut total = 0;
     let mut k = 0;
@@ -68,9 +68,9 @@ fn put_row(kind: Kind, tag: u8, store: &[u8], k: usize, out: &mut [u8], at: usiz
 
 // Writes the fields of the first n rows at a place, and gives the place after them.
 fn put_rows(kind: Kind, tag: u8, store: &[u8], n: usize, out: &mut [u8], at: usize) -> usize
-    requires { ⌜ WritableRows kind (now store) n × (at + length (rowFields kind tag (tableOf kind (now store) n)) ≤ length (now out)) ⌝ }
-    ensures { λ r. ⌜ (r ≡ at + length (rowFields kind tag (tableOf kind (now (store .entry)) n)))
-        × (now (out .exit) ≡ splice at (rowFields kind tag (tableOf kind (now (store .entry)) n)) (now (out .entry))) ⌝ }
+    requires { ⌜ WritableRows kind (now store) n × (at + length (rowFields kind tag (tableOf (widthOf kind) (now store) n)) ≤ length (now out)) ⌝ }
+    ensures { λ r. ⌜ (r ≡ at + length (rowFields kind tag (tableOf (widthOf kind) (now (store .entry)) n)))
+        × (now (out .exit) ≡ splice at (rowFields kind tag (tableOf (widthOf kind) (now (store .entry)) n)) (now (out .entry))) ⌝ }
 {
     let mut next = at;
     let mut k = 0;

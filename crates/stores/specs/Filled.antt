@@ -3,10 +3,10 @@ use mathlib.Core.Path.{_≡_}
 use mathlib.Core.List.{List, [], _∷_, _++_}
 use Prim.Native.Nat.{ℕ, _+_, _*_}
 use lib.ListN.{length}
-use Rattle.prelude.specs.Part.{splice, padded}
+use Rattle.prelude.specs.Part.{splice, zeros, padded}
 use Rattle.prelude.specs.BigEndian.{bigEndianBytes}
-use Rattle.schema.specs.Layout.{rowsAt, attributeWidth, classWidth, attributesLength, classesLength}
-use Rattle.schema.specs.Store.{attributeTable, classTable}
+use Rattle.schema.specs.Layout.{rowsAt, attributeWidth, classWidth, attributesLength, classesLength, closureLength}
+use Rattle.schema.specs.Store.{Stores, stores, attributeTable, classTable}
 
 -- rows one after the other
 unfoldable pub joined : List (List ℕ) → List ℕ
@@ -38,3 +38,7 @@ plusAttribute row s = splice 0 (attributeHeader (attributeTable s .count + 1)) (
 
 unfoldable pub plusClass : List ℕ → List ℕ → List ℕ
 plusClass row s = splice 0 ((classTable s .count + 1) ∷ []) (splice (rowsAt + classWidth * classTable s .count) row s)
+
+-- the three stores without a row, of exactly their lengths
+abbrev pub emptyStores : Stores
+emptyStores = stores (zeros attributesLength) (zeros classesLength) (zeros closureLength)

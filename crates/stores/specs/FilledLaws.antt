@@ -2,11 +2,12 @@
 use mathlib.Core.Path.{_≡_, refl, sym, ap, ap₂, _∙_}
 use mathlib.Core.List.{List, [], _∷_, _++_, append-assoc, append-nil}
 use Prim.Native.Nat.{ℕ, zero, suc, _+_, _-_, _*_, _≤_, _<_}
-use native.Mathlib.Nat.{zero-add, mul-le-mul-left}
+use native.Mathlib.Nat.{mul-le-mul-left}
 use native.Mathlib.Omega.{arith}
 use lib.ListN.{length, getD, take, drop, length-append, replicate-append-replicate}
 use lib.Seq.{take-at, drop-at, drop-append-add}
 use Rattle.prelude.specs.Part.{part, rowAt, splice, zeros, padded}
+use Rattle.prelude.specs.SpliceLaws.{splice-front}
 use Rattle.prelude.specs.PartLaws.{part-between, zeros-length, padded-length}
 use Rattle.prelude.specs.BigEndian.{bigEndian, bigEndianBytes}
 use Rattle.prelude.specs.BigEndianLaws.{bytes-length, number-of-bytes}
@@ -47,10 +48,6 @@ joined-row w (r ∷ rows) q (suc k) h l =
 pub zeros-add : (m n : ℕ) → zeros (m + n) ≡ zeros m ++ zeros n
 unfolding zeros
 zeros-add m n = sym (replicate-append-replicate m n 0)
-
-splice-front : (x s : List ℕ) → splice 0 x s ≡ x ++ drop (length x) s
-unfolding splice
-splice-front x s = ap (λ (n : ℕ). x ++ drop n s) (zero-add (length x))
 
 module _ (h : List ℕ) (w n : ℕ) (rows : List (List ℕ)) (two : length h ≡ rowsAt) (wide : AllWide w rows) (few : length rows ≤ n) where
   -- rows that are not in use

@@ -7,11 +7,7 @@ use Rattle.schema.specs.Numbers.{attributeLimit, classLimit}
 use Rattle.schema.specs.Layout.{nameLimit, arcLimit, objectClassLimit, commonWidth, rowsAt, attributesLength, classesLength}
 use Rattle.schema.specs.Row.{nameLength, arcCount}
 use Rattle.schema.specs.AttributeRow.{objectClassLength}
-use Rattle.schema.specs.Store.{Table, attributeTable, classTable}
-
--- n rows that are width bytes wide
-abbrev pub tableOf : ℕ → List ℕ → ℕ → Table
-tableOf width s n = record { count = n; row = rowAt rowsAt width s }
+use Rattle.schema.specs.Store.{attributeTable, classTable}
 
 -- the parts that a row bounds itself lie within it
 pub record Bounded (row : List ℕ) : Type 0 where

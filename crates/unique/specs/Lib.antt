@@ -2,3 +2,4 @@
 pub mod Unique
 pub mod UniqueLaws
 pub mod RivalLaws
+pub mod SameLaws

@@ -2,7 +2,7 @@
 use mathlib.Core.Path.{_≡_}
 use mathlib.Core.Bool.{false, _||_}
 use mathlib.Core.List.{[]}
-use mathlib.Core.Logic.{_⊎_, inl, inr, ⊎-elim, _↔_}
+use mathlib.Core.Logic.{_⊎_, inl, inr, ⊎-elim, ⊎-swap, _↔_}
 use Prim.Native.Nat.{ℕ, _<_}
 use native.Mathlib.Omega.{arith}
 use native.Mathlib.Decide.{ℕ-discrete}
@@ -19,10 +19,6 @@ use Rattle.unique.specs.UniqueLaws.{says-attribute-taken, says-class-tak
 -- row k of t has a rival in its own table or in the other
 abbrev pub Taken : Counting → Key → Table → Table → ℕ → Type 0
 Taken counts key t o k = RivalIn counts key t k (t .row k) ⊎ HeldIn counts key o (t .row k)
-
-swap : {A B : Type 0} → A ⊎ B → B ⊎ A
-swap (inl x) = inr x
-swap (inr x) = inl x
 
 module _ (counts : Counting) (key : Key) {k : ℕ} {t u : Table} (h : ChangedAt k t u) (o : Table) (calm : (j : ℕ) → j < t .count → ¬ (Taken counts key t o j))
     (calmOther : (j : ℕ) → j < o .count → ¬ (Taken counts key o t j)) where
@@ -71,7 +67,7 @@ module _ (counts : Counting) (key : Key) where
   attribute-says a c j = says-attribute-taken counts key a c j
 
   class-says : (a c : Table) (j : ℕ) → Says (classTaken counts key a c j) (Taken counts key c a j)
-  class-says a c j = says-iff (says-class-taken counts key a c j) (swap, swap)
+  class-says a c j = says-iff (says-class-taken counts key a c j) (⊎-swap, ⊎-swap)
 
   -- rules 13, 15 and 16 after a change of an attribute
   pub attribute-rival : {k : ℕ} {a u : Table} (c : Table) → ChangedAt k a u → ((j : ℕ) → j < a .count → attributeTaken counts key a c j ≡ false)
@@ -90,7 +86,7 @@ module _ (counts : Counting) (key : Key) where
   class-rival a {k} {c} {u} h e f =
       let here = taken-here counts key h a (λ j l. says-fails (class-says a c j) (f j l)) (λ j l. says-fails (attribute-says a c j) (e j l)) in
       says-same
-      (says-iff (says-or (says-any (a .count) (λ j l. attribute-says a u j)) (says-any (u .count) (λ j l. class-says a u j))) (λ s. here .0 (swap s), λ q. swap (here .1 q)))
+      (says-iff (says-or (says-any (a .count) (λ j l. attribute-says a u j)) (says-any (u .count) (λ j l. class-says a u j))) (λ s. here .0 (⊎-swap s), λ q. ⊎-swap (here .1 q)))
       (class-says a u k)
 
   -- rules 24 and 28 after a change of an attribute: as if there were no other table

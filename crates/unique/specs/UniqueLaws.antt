@@ -1,17 +1,17 @@
 -- What the tests of uniqueness say, and that having the same key is symmetric.
 use mathlib.Core.Path.{_≡_, sym, _∙_}
-use mathlib.Core.Bool.{false}
 use mathlib.Core.List.{List}
 use mathlib.Core.Logic.{_⊎_}
-use Prim.Native.Nat.{ℕ, _≤_, _<_}
+use Prim.Native.Nat.{ℕ, _≤_, _<_, _+_, _*_}
 use native.Mathlib.Omega.{arith}
-use lib.ListN.{length}
+use lib.ListN.{length, getD}
+use Rattle.schema.specs.RowLaws.{same-arcs}
 use Rattle.prelude.specs.Says.{Says}
-use Rattle.prelude.specs.SaysLaws.{says, says-and, says-or, says-not, says-eq, says-test, says-false}
+use Rattle.prelude.specs.SaysLaws.{says, says-and, says-or, says-not, says-eq, says-test, says-false, says-iff}
 use Rattle.prelude.specs.BelowLaws.{says-any, any-cong}
-use Rattle.prelude.specs.PartLaws.{says-same-bytes}
-use Rattle.schema.specs.Row.{nameOf, identifierOf, guidOf}
-use Rattle.schema.specs.Layout.{commonWidth, attributeWidth, classWidth}
+use Rattle.prelude.specs.PartLaws.{says-same-bytes, part-bytes}
+use Rattle.schema.specs.Row.{nameOf, identifierOf, guidOf, HasArcs, SameArcs}
+use Rattle.schema.specs.Layout.{commonWidth, attributeWidth, classWidth, rowsAt}
 use Rattle.schema.specs.Store.{Table, attributeTable, classTable}
 use Rattle.tables.specs.Shaped.{Bounded, AttributesShaped, ClassesShaped}
 use Rattle.schema.specs.StoreLaws.{attribute-row-length, class-row-length}
@@ -28,6 +28,10 @@ says-same-key Identifier a b = says-same-bytes (identifierOf a) (identifierOf b)
 says-same-key Guid a b = says-same-bytes (guidOf a) (guidOf b)
 says-same-key Mapi a b = search says
 says-same-key Link a b = search says
+
+-- (R50) "Identifiers are equal if all arcs are, and as many."
+pub says-same-identifier : {a b : List ℕ} → HasArcs a → HasArcs b → Says (sameKey Identifier a b) (SameArcs a b)
+says-same-identifier {a} {b} h k = says-iff (says-same-key Identifier a b) (same-arcs h k)
 
 module _ (counts : Counting) (key : Key) where
   pub says-clash : (a b : List ℕ) → Says (clash counts key a b) (Clash counts key a b)
@@ -89,7 +93,22 @@ key-attribute Guid = omega arith
 key-attribute Mapi = omega arith
 key-attribute Link = omega arith
 
--- a row of shaped stores has every key
+-- a row of shaped stores has its arcs
+pub attribute-arcs : {s : List ℕ} → AttributesShaped s → ((i : ℕ) → getD s i 0 < 256) → (k : ℕ) → k < attributeTable s .count → HasArcs (attributeTable s .row k)
+attribute-arcs {s} h bytes k l = record {
+  long = omega (arith, attribute-row-length s k (h .long) (omega (arith, h .count)));
+  few = h .bounded k l .arcs;
+  bytes = part-bytes (rowsAt + attributeWidth * k) attributeWidth s bytes;
+}
+
+pub class-arcs : {s : List ℕ} → ClassesShaped s → ((i : ℕ) → getD s i 0 < 256) → (k : ℕ) → k < classTable s .count → HasArcs (classTable s .row k)
+class-arcs {s} h bytes k l = record {
+  long = omega (arith, class-row-length s k (h .long) (omega (arith, h .count)));
+  few = h .bounded k l .arcs;
+  bytes = part-bytes (rowsAt + classWidth * k) classWidth s bytes;
+}
+
+-- and every key
 pub attribute-has : {s : List ℕ} → AttributesShaped s → (key : Key) (k : ℕ) → k < attributeTable s .count → (keyWidth key ≤ length (attributeTable s .row k)) × Bounded (attributeTable s .row k)
 attribute-has {s} h key k l = (omega (arith, key-attribute key, attribute-row-length s k (h .long) (omega (arith, h .count))), h .bounded k l)
 

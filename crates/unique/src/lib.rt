@@ -23,8 +23,8 @@ ghost use lib.Dec.{eqb};
 ghost use lib.ListN.{length};
 ghost use Rattle.prelude.specs.Part.{rowAt};
 ghost use Rattle.schema.specs.Layout.{rowsAt};
-ghost use Rattle.schema.specs.Store.{attributeTable, classTable};
-ghost use Rattle.tables.specs.Shaped.{Bounded, tableOf, AttributesShaped, ClassesShaped, Shaped};
+ghost use Rattle.schema.specs.Store.{tableOf, attributeTable, classTable};
+ghost use Rattle.tables.specs.Shaped.{Bounded, AttributesShaped, ClassesShaped, Shaped};
 ghost use Rattle.unique.specs.Unique.{keyWidth, sameKey, everyRow, rivalIn, heldIn, attributeTaken, classTaken, numberTaken, Comparable};
 
 // The keys of a row. A linkID or a mAPIID of 0 is absent and is shared by none.

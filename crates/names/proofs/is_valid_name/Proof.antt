@@ -1,5 +1,5 @@
 use Rattle.names.specs.Name.{isLetter, isNameByte, validName}
-use mathlib.Core.Bool.{and-false, true, false}
+use mathlib.Core.Bool.{and-false, true}
 use mathlib.Core.Path.{_≡_, sym, ap, _∙_}
 use Prim.Native.Nat.{_-_, _≤_}
 use borrow.Author.Tests.{not-true, not-false}

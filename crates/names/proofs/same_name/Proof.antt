@@ -1,4 +1,4 @@
-use mathlib.Core.Bool.{and-false, true, false}
+use mathlib.Core.Bool.{and-false, true}
 use mathlib.Core.Path.{_≡_, sym, ap, _∙_}
 use Prim.Native.Nat.{_-_, _≤_}
 use borrow.Author.Tests.{eq-eqb, ne-eqb}

@@ -1,6 +1,6 @@
 use mathlib.Core.Path.{ap, _∙_}
 use Prim.Native.Nat.{ℕ, _+_}
-use Rattle.sheet_write.proofs.Short.{written-short}
+use Rattle.formats.specs.ShortLaws.{written-short}
 use Rattle.sheet_write.proofs.Rows.{row-within, row-cut, cut-length}
 use native.Mathlib.Omega.{arith}
 use borrow.Author.Needs.{needs}

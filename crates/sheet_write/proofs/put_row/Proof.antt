@@ -5,7 +5,7 @@ use Rattle.prelude.specs.Part.{rowAt, splice}
 use Rattle.schema.specs.Layout.{rowsAt}
 use Rattle.formats.specs.Formats.{widthOf}
 use Rattle.sheet_write.specs.Writing.{rowField}
-use Rattle.sheet_write.proofs.Short.{written-short}
+use Rattle.formats.specs.ShortLaws.{written-short}
 use Rattle.sheet_write.proofs.Rows.{row-field-length, row-within, row-cut, cut-length, row-put}
 use native.Mathlib.Omega.{arith}
 use borrow.Author.Needs.{needs}

@@ -1,7 +1,8 @@
 use mathlib.Core.Path.{ap}
 use lib.ListN.{length}
+use Rattle.schema.specs.Store.{tableOf}
+use Rattle.formats.specs.Formats.{widthOf}
 use Rattle.formats.specs.declared.table.Kind.the-variants.{Attribute, Class}
-use Rattle.sheet_write.specs.Writing.{tableOf}
 use Rattle.sheet_write.proofs.Rows.{rows-short, writable-attributes, writable-classes, sheet-size, sheet-is}
 use native.Mathlib.Omega.{arith}
 use borrow.Author.Needs.{needs}
@@ -30,7 +31,7 @@ add-result-3 : tie.Need-add-result-3
 add-result-3 c = omega (arith, rows-short Attribute 32 (c .before .before .before .before .before .before .args .attributes .now) (c .before .before .before .attribute-count .result), c .before .before .before .attribute-count .ensures, c .before .before .before .before .before .before .pre .ready .attributesFew, c .before .before .rows-length .ensures 32, rows-short Class 48 (c .before .before .before .before .before .before .args .classes .now) (c .before .class-count .result), c .before .class-count .ensures, c .before .before .before .before .before .before .pre .ready .classesFew, c .rows-length2 .ensures 48)
 
 returns : tie.Need-returns
-returns c = omega (arith, c .before .before .rows-length .ensures 32, c .rows-length2 .ensures 48, sheet-size (tableOf Attribute (c .before .before .before .before .before .before .args .attributes .now) (c .before .before .before .attribute-count .result)) (tableOf Class (c .before .before .before .before .before .before .args .classes .now) (c .before .class-count .result)), ap length (sheet-is (c .before .before .before .before .before .before .args .attributes .now) (c .before .before .before .before .before .before .args .classes .now) (c .before .before .before .attribute-count .ensures) (c .before .class-count .ensures)))
+returns c = omega (arith, c .before .before .rows-length .ensures 32, c .rows-length2 .ensures 48, sheet-size (tableOf (widthOf Attribute) (c .before .before .before .before .before .before .args .attributes .now) (c .before .before .before .attribute-count .result)) (tableOf (widthOf Class) (c .before .before .before .before .before .before .args .classes .now) (c .before .class-count .result)), ap length (sheet-is (c .before .before .before .before .before .before .args .attributes .now) (c .before .before .before .before .before .before .args .classes .now) (c .before .before .before .attribute-count .ensures) (c .before .class-count .ensures)))
 
 pub sheet-length-spec : {M : Type 1} → statement M
 sheet-length-spec =

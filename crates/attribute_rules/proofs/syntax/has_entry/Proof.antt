@@ -3,7 +3,7 @@ use mathlib.Core.Bool.{false}
 use Prim.Native.Nat.{_-_, _≤_}
 use Rattle.prelude.specs.Below.{anyBelow}
 use Rattle.prelude.specs.BelowLaws.{any-zero, any-more, any-here, any-end}
-use Rattle.attribute_rules.specs.Syntax.{entrySays, entryCount}
+use Rattle.schema.specs.ObjectClasses.{entrySays, entryCount}
 use borrow.Author.Needs.{needs}
 use Rattle.attribute_rules.proofs.syntax.has_entry.Statement.{statement}
 use Rattle.attribute_rules.proofs.syntax.has_entry.Tie as tie

@@ -1,4 +1,4 @@
-use Rattle.attribute_rules.specs.SyntaxLaws.{entry-length}
+use Rattle.schema.specs.ObjectClassesLaws.{entry-length}
 use borrow.Author.Tests.{eq-eqb, ne-eqb}
 use native.Mathlib.Omega.{arith}
 use borrow.Author.Needs.{needs}

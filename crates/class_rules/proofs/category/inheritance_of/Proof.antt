@@ -2,7 +2,7 @@ use mathlib.Core.Path.{sym, ap, _∙_}
 use lib.ListN.{length}
 use Rattle.schema.specs.StoreLaws.{class-row-length}
 use Rattle.class_rules.specs.CategoryLaws.{inheritance-root, inheritance-lost, inheritance-at}
-use Rattle.class_rules.specs.NamedLaws.{class-read-is, class-read-beyond}
+use Rattle.schema.specs.NumbersLaws.{class-is, class-beyond}
 use mathlib.Core.List.{List}
 use Prim.Native.Nat.{ℕ}
 use Rattle.schema.specs.Numbers.{classRead}
@@ -35,13 +35,13 @@ enum-told : tie.Need-enum-told
 enum-told c = search needs
 
 returns-2 : tie.Need-returns-2
-returns-2 c = sym (inheritance-lost (classTable (c .before .before .before .before .before .before .before .args .classes .now)) (c .before .before .before .before .before .before .before .args .c .0) (c .before .before .before .if1 .left) (omega (arith, c .before .before .before .before .before .before .before .pre .0 .count, class-read-beyond (superclassOf (classTable (c .before .before .before .before .before .before .before .args .classes .now) .row (c .before .before .before .before .before .before .before .args .c .0))) (ap (λ (l : List ℕ). classRead (superclassOf l)) (sym (c .before .before .before .before .before .class-row .ensures)) ∙ sym (c .before .before .superclass .ensures) ∙ c .enum-told .given .1))))
+returns-2 c = sym (inheritance-lost (classTable (c .before .before .before .before .before .before .before .args .classes .now)) (c .before .before .before .before .before .before .before .args .c .0) (c .before .before .before .if1 .left) (omega (arith, c .before .before .before .before .before .before .before .pre .0 .count, class-beyond (superclassOf (classTable (c .before .before .before .before .before .before .before .args .classes .now) .row (c .before .before .before .before .before .before .before .args .c .0))) (ap (λ (l : List ℕ). classRead (superclassOf l)) (sym (c .before .before .before .before .before .class-row .ensures)) ∙ sym (c .before .before .superclass .ensures) ∙ c .enum-told .given .1))))
 
 class-count-requires : tie.Need-class-count-requires
 class-count-requires c κs = search needs
 
 returns-3 : tie.Need-returns-3
-returns-3 c = sym (inheritance-lost (classTable (c .before .before .before .before .before .before .before .before .before .before .before .args .classes .now)) (c .before .before .before .before .before .before .before .before .before .before .before .args .c .0) (c .before .before .before .before .before .before .before .if1 .left) (omega (arith, c .before .before .class-count .ensures, c .if2 .taken, class-read-is (superclassOf (classTable (c .before .before .before .before .before .before .before .before .before .before .before .args .classes .now) .row (c .before .before .before .before .before .before .before .before .before .before .before .args .c .0))) (c .before .before .before .before .read .given .0 .0) (ap (λ (l : List ℕ). classRead (superclassOf l)) (sym (c .before .before .before .before .before .before .before .before .before .class-row .ensures)) ∙ sym (c .before .before .before .before .before .before .superclass .ensures) ∙ c .before .before .before .before .read .given .1))))
+returns-3 c = sym (inheritance-lost (classTable (c .before .before .before .before .before .before .before .before .before .before .before .args .classes .now)) (c .before .before .before .before .before .before .before .before .before .before .before .args .c .0) (c .before .before .before .before .before .before .before .if1 .left) (omega (arith, c .before .before .class-count .ensures, c .if2 .taken, class-is (superclassOf (classTable (c .before .before .before .before .before .before .before .before .before .before .before .args .classes .now) .row (c .before .before .before .before .before .before .before .before .before .before .before .args .c .0))) (c .before .before .before .before .read .given .0 .0) (ap (λ (l : List ℕ). classRead (superclassOf l)) (sym (c .before .before .before .before .before .before .before .before .before .class-row .ensures)) ∙ sym (c .before .before .before .before .before .before .superclass .ensures) ∙ c .before .before .before .before .read .given .1) .0)))
 
 category-requires-2 : tie.Need-category-requires-2
 category-requires-2 c κs = omega (arith, ap length (c .before .before .before .before .before .before .before .before .before .class-row .ensures), class-row-length (c .before .before .before .before .before .before .before .before .before .before .before .args .classes .now) (c .before .before .before .before .before .before .before .before .before .before .before .args .c .0) (c .before .before .before .before .before .before .before .before .before .before .before .pre .0 .long) (omega (arith, c .before .before .before .before .before .before .before .before .before .before .before .pre .0 .count)))
@@ -56,7 +56,7 @@ inheritance-under-requires : tie.Need-inheritance-under-requires
 inheritance-under-requires c κs = search needs
 
 returns-4 : tie.Need-returns-4
-returns-4 c = rw (inheritance-at (classTable (c .before .before .before .before .before .before .before .before .before .before .before .before .before .before .before .args .classes .now)) (c .before .before .before .before .before .before .before .before .before .before .before .before .before .before .before .args .c .0) (c .before .before .before .before .before .before .before .before .before .before .before .if1 .left) (c .before .before .before .before .before .before .before .before .read .given .0 .0 .0) (class-read-is (superclassOf (classTable (c .before .before .before .before .before .before .before .before .before .before .before .before .before .before .before .args .classes .now) .row (c .before .before .before .before .before .before .before .before .before .before .before .before .before .before .before .args .c .0))) (c .before .before .before .before .before .before .before .before .read .given .0 .0) (ap (λ (l : List ℕ). classRead (superclassOf l)) (sym (c .before .before .before .before .before .before .before .before .before .before .before .before .before .class-row .ensures)) ∙ sym (c .before .before .before .before .before .before .before .before .before .before .superclass .ensures) ∙ c .before .before .before .before .before .before .before .before .read .given .1)) (omega (arith, c .before .before .before .before .before .before .class-count .ensures, c .before .before .before .before .if2 .left)), ← (c .before .before .before .before .before .before .before .before .before .before .before .before .before .class-row .ensures), ← (c .before .before .before .category2 .ensures), ← (c .before .before .class-row2 .ensures), ← (c .before .category3 .ensures)) (c .inheritance-under .ensures)
+returns-4 c = rw (inheritance-at (classTable (c .before .before .before .before .before .before .before .before .before .before .before .before .before .before .before .args .classes .now)) (c .before .before .before .before .before .before .before .before .before .before .before .before .before .before .before .args .c .0) (c .before .before .before .before .before .before .before .before .before .before .before .if1 .left) (c .before .before .before .before .before .before .before .before .read .given .0 .0 .0) (class-is (superclassOf (classTable (c .before .before .before .before .before .before .before .before .before .before .before .before .before .before .before .args .classes .now) .row (c .before .before .before .before .before .before .before .before .before .before .before .before .before .before .before .args .c .0))) (c .before .before .before .before .before .before .before .before .read .given .0 .0) (ap (λ (l : List ℕ). classRead (superclassOf l)) (sym (c .before .before .before .before .before .before .before .before .before .before .before .before .before .class-row .ensures)) ∙ sym (c .before .before .before .before .before .before .before .before .before .before .superclass .ensures) ∙ c .before .before .before .before .before .before .before .before .read .given .1) .0) (omega (arith, c .before .before .before .before .before .before .class-count .ensures, c .before .before .before .before .if2 .left)), ← (c .before .before .before .before .before .before .before .before .before .before .before .before .before .class-row .ensures), ← (c .before .before .before .category2 .ensures), ← (c .before .before .class-row2 .ensures), ← (c .before .category3 .ensures)) (c .inheritance-under .ensures)
 
 pub inheritance-of-spec : {M : Type 1} → statement M
 inheritance-of-spec =

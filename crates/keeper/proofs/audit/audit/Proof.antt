@@ -1,8 +1,9 @@
-use mathlib.Core.Path.{sym, _∙_}
+use mathlib.Core.Bool.{not}
+use mathlib.Core.Path.{ap, sym, _∙_}
 use Rattle.schema.specs.Store.{stores}
 use Rattle.keeper.specs.Audit.{audit}
-use Rattle.keeper.specs.AnsweringLaws.{first-last}
-use Rattle.keeper.proofs.Checked.{shape-refused, shape-onward, shaped-stores, readable-classes, in-shape, found-refused, found-passed, tested-fails, tested-holds, not-holds, not-true}
+use Rattle.keeper.specs.AnsweringLaws.{first-last, tested-fails, tested-holds}
+use Rattle.keeper.proofs.Checked.{shape-refused, shape-onward, shaped-stores, readable-classes, in-shape, found-refused, found-passed}
 use native.Mathlib.Omega.{arith}
 use borrow.Author.Needs.{needs}
 use Rattle.keeper.proofs.audit.audit.Statement.{statement}
@@ -40,11 +41,11 @@ refused-requires c κs = search needs
 
 returns-3 : tie.Need-returns-3
 unfolding audit
-returns-3 c = c .done .ensures ∙ sym (shape-onward (stores (c .before .before .before .before .before .before .before .before .before .before .before .before .args .attributes .now) (c .before .before .before .before .before .before .before .before .before .before .before .before .args .classes .now) (c .before .before .before .before .before .before .before .before .before .before .before .before .args .closure .now)) (c .before .before .before .before .before .before .before .before .check-shape .ensures) (c .before .before .before .before .before .before .if1 .left) _ _ ∙ found-passed (c .before .before .before .before .before .judge .ensures) _ _ (c .before .before .before .if2 .left) ∙ tested-fails _ _ _ (not-holds _ (sym (c .before .before .is-fresh .ensures) ∙ c .before .if3 .taken)) ∙ first-last _)
+returns-3 c = c .done .ensures ∙ sym (shape-onward (stores (c .before .before .before .before .before .before .before .before .before .before .before .before .args .attributes .now) (c .before .before .before .before .before .before .before .before .before .before .before .before .args .classes .now) (c .before .before .before .before .before .before .before .before .before .before .before .before .args .closure .now)) (c .before .before .before .before .before .before .before .before .check-shape .ensures) (c .before .before .before .before .before .before .if1 .left) _ _ ∙ found-passed (c .before .before .before .before .before .judge .ensures) _ _ (c .before .before .before .if2 .left) ∙ tested-fails _ _ _ (ap not (sym (c .before .before .is-fresh .ensures) ∙ c .before .if3 .taken)) ∙ first-last _)
 
 returns-4 : tie.Need-returns-4
 unfolding audit
-returns-4 c = c .refused .ensures ∙ sym (shape-onward (stores (c .before .before .before .before .before .before .before .before .before .before .before .before .args .attributes .now) (c .before .before .before .before .before .before .before .before .before .before .before .before .args .classes .now) (c .before .before .before .before .before .before .before .before .before .before .before .before .args .closure .now)) (c .before .before .before .before .before .before .before .before .check-shape .ensures) (c .before .before .before .before .before .before .if1 .left) _ _ ∙ found-passed (c .before .before .before .before .before .judge .ensures) _ _ (c .before .before .before .if2 .left) ∙ tested-holds _ _ _ (λ z. omega arith) (not-true _ (sym (c .before .before .is-fresh .ensures) ∙ c .before .if3 .left)))
+returns-4 c = c .refused .ensures ∙ sym (shape-onward (stores (c .before .before .before .before .before .before .before .before .before .before .before .before .args .attributes .now) (c .before .before .before .before .before .before .before .before .before .before .before .before .args .classes .now) (c .before .before .before .before .before .before .before .before .before .before .before .before .args .closure .now)) (c .before .before .before .before .before .before .before .before .check-shape .ensures) (c .before .before .before .before .before .before .if1 .left) _ _ ∙ found-passed (c .before .before .before .before .before .judge .ensures) _ _ (c .before .before .before .if2 .left) ∙ tested-holds _ _ _ (λ z. omega arith) (ap not (sym (c .before .before .is-fresh .ensures) ∙ c .before .if3 .left)))
 
 pub audit-spec : {M : Type 1} → statement M
 audit-spec =

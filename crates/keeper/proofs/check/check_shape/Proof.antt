@@ -1,7 +1,7 @@
 use mathlib.Core.Path.{sym, _∙_}
 use Rattle.schema.specs.Store.{stores}
 use Rattle.schema.specs.StoreLaws.{long-enough}
-use Rattle.keeper.proofs.Checked.{short-stores, formed-stores, broken-stores}
+use Rattle.keeper.specs.AnsweringLaws.{short-stores, formed-stores, broken-stores}
 use borrow.Author.Needs.{needs}
 use Rattle.keeper.proofs.check.check_shape.Statement.{statement}
 use Rattle.keeper.proofs.check.check_shape.Tie as tie

@@ -1,5 +1,6 @@
+use Rattle.keeper.specs.LoadLaws.{read-judged, read-bad, read-full}
 use mathlib.Core.Path.{_∙_}
-use Rattle.keeper.proofs.Loading.{ready, was-read, read-shaped, read-ends, read-judged, read-bad, read-full}
+use Rattle.keeper.proofs.Loading.{ready, was-read, read-shaped, read-ends}
 use borrow.Author.Needs.{needs}
 use Rattle.keeper.proofs.load.read_and_judge.Statement.{statement}
 use Rattle.keeper.proofs.load.read_and_judge.Tie as tie

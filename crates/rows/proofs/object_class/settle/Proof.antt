@@ -1,12 +1,14 @@
 use mathlib.Core.Path.{_≡_, sym, ap, _∙_}
 use lib.ListN.{length}
+use Rattle.schema.specs.ObjectClasses.{firstObjectClass}
+use Rattle.schema.specs.ObjectClassesLaws.{first-short}
 use Rattle.schema.specs.AttributeRow.{syntaxOf}
-use Rattle.rows.specs.ObjectClassLaws.{cell-long, first-short, settled-none, settled-first, settled-given}
+use Rattle.rows.specs.ObjectClassLaws.{cell-long, settled-none, settled-first, settled-given}
 use mathlib.Core.List.{List}
 use Prim.Native.Nat.{ℕ}
 use Rattle.prelude.specs.Part.{splice}
 use Rattle.prelude.specs.LentLaws.{lent-cleared}
-use Rattle.rows.specs.ObjectClass.{firstObjectClass, objectClassCell}
+use Rattle.rows.specs.ObjectClass.{objectClassCell}
 use Rattle.rows.proofs.Storing.{cell-copied}
 use native.Mathlib.Omega.{arith}
 use borrow.Author.Needs.{needs}

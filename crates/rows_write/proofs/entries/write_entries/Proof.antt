@@ -6,7 +6,8 @@ use lib.ListN.{length, length-append}
 use Rattle.prelude.specs.Part.{splice}
 use Rattle.sets.specs.Sets.{member, listBelow}
 use Rattle.formats.specs.Entries.{entryBytes}
-use Rattle.rows_write.specs.WritingLaws.{splice-none, write-turn}
+use Rattle.rows_write.specs.WritingLaws.{write-turn}
+use Rattle.prelude.specs.SpliceLaws.{splice-none}
 use Rattle.rows_write.proofs.Listing.{entries-none, entries-more, entries-fit, entries-all}
 use native.Mathlib.Omega.{arith}
 use Rattle.rows_write.proofs.entries.write_entries.Statement.{statement}

@@ -1,11 +1,11 @@
 use mathlib.Core.Path.{sym, ap, _∙_}
+use Rattle.prelude.specs.SpliceLaws.{splice-none}
 use mathlib.Core.List.{List}
 use Prim.Native.Nat.{ℕ, _+_}
 use native.Mathlib.Nat.{add-zero}
 use lib.ListN.{length}
 use Rattle.prelude.specs.Part.{splice}
 use Rattle.prelude.specs.BigEndianLaws.{bytes-length}
-use Rattle.rows_write.specs.WritingLaws.{splice-none}
 use Rattle.rows_write.proofs.Listing.{one-entry, no-entry}
 use native.Mathlib.Omega.{arith}
 use borrow.Author.Needs.{needs}

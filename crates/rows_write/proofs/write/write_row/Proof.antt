@@ -8,7 +8,8 @@ use Rattle.formats.specs.declared.shape.Rule.{Rule}
 use Rattle.formats.specs.Formats.{formatOf, noRule}
 use Rattle.formats.specs.FormatsLaws.{fits-in, kind-few}
 use Rattle.formats.specs.Rules.{fieldOf, writeBy}
-use Rattle.rows_write.specs.WritingLaws.{write-next, length-next, write-done, splice-none, write-turn}
+use Rattle.rows_write.specs.WritingLaws.{write-next, length-next, write-done, write-turn}
+use Rattle.prelude.specs.SpliceLaws.{splice-none}
 use Rattle.rows_write.proofs.Writing.{formed-rule}
 use native.Mathlib.Omega.{arith}
 use borrow.Author.Needs.{needs}

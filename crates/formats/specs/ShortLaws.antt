@@ -5,27 +5,24 @@ use mathlib.Core.Logic.{_⊎_, inl, inr}
 use mathlib.Core.List.{List, [], _∷_}
 use Prim.Native.Nat.{ℕ, _+_, _*_, _≤_, _<_}
 use native.Mathlib.Omega.{arith}
-use lib.ListN.{length, getD, drop, length-append, length-take, length-drop}
+use lib.ListN.{length, getD, drop, length-append, length-drop}
 use Rattle.prelude.specs.Part.{part}
+use Rattle.prelude.specs.PartLaws.{part-short}
 use Rattle.prelude.specs.SaysLaws.{says-split, says-test}
 use Rattle.prelude.specs.BigEndianLaws.{bytes-length}
 use Rattle.sets.specs.Sets.{membersFrom}
 use Rattle.wire.specs.WireLaws.{field-length}
 use Rattle.formats.specs.declared.shape.Shape.{Shape}
 use Rattle.formats.specs.declared.shape.Shape.the-variants.{Plain, Number, Counted, Arcs, Entries}
 use Rattle.formats.specs.declared.shape.Rule.{Rule}
 use Rattle.formats.specs.declared.table.Kind.{Kind}
 use Rattle.formats.specs.declared.table.Kind.the-variants.{Attribute, Class, NewAttribute, NewClass, Range, Name, Target, Entry}
 use Rattle.formats.specs.EntriesLaws.{entry-length, members-few}
 use Rattle.formats.specs.Shapes.{stored}
 use Rattle.formats.specs.Rules.{mark, width, cellAt, hasValue, valueOf, fieldOf, writeBy}
 use Rattle.formats.specs.RulesLaws.{field-none, field-some, laid, laid-cons, laid-le}
 use Rattle.formats.specs.Formats.{formatOf, widthOf}
 use Rattle.formats.specs.FormatsLaws.{kind-laid, kind-few}
-
-part-short : (at n : ℕ) (s : List ℕ) → (length (part at n s) ≤ n) × (length (part at n s) ≤ length s)
-unfolding part
-part-short at n s = (simp (length-take, length-drop) (omega arith), simp (length-take, length-drop) (omega arith))
 
 stored-bound : (shape : Shape) (cell : List ℕ) → length (stored shape cell) ≤ 2 + 16 * length cell
 unfolding stored

@@ -2,7 +2,7 @@
  * Loads a sheet, says what the keeper answers, and writes it back.
  *
  *     rt staticlib keeper_c
- *     cc -Iinclude samples/load.c target/staticlib/libkeeper_c.a -o target/load
+ *     cc -Iinclude examples/load.c target/staticlib/libkeeper_c.a -o target/load
  *     target/load samples/forest.sheet
  */
 #include <inttypes.h>

@@ -1,0 +1,1 @@
+// What the keeper promises as a whole: no code, only theorems about the calls.

@@ -1,0 +1,56 @@
+-- What it means that the closure store is afresh: each row is, and so its bytes are those worked out afresh.
+use mathlib.Core.Path.{_≡_, sym, ap, _∙_}
+use mathlib.Core.Bool.{true}
+use mathlib.Core.List.{List, [], append-nil}
+use Prim.Native.Nat.{ℕ, _+_, _*_, _≤_, _<_}
+use native.Mathlib.Omega.{arith}
+use lib.ListN.{length, length-append}
+use Rattle.prelude.specs.Says.{Says}
+use Rattle.prelude.specs.BelowLaws.{says-all}
+use Rattle.prelude.specs.Part.{part, splice}
+use Rattle.prelude.specs.PartLaws.{part-part, says-same-bytes}
+use Rattle.prelude.specs.SpliceLaws.{part-splice-same}
+use Rattle.sets.specs.SetsLaws.{set-length}
+use Rattle.schema.specs.Numbers.{classLimit}
+use Rattle.schema.specs.Layout.{closureWidth, closureLength}
+use Rattle.schema.specs.Store.{Table, closureAt}
+use Rattle.prelude.specs.Concat.{concatBelow}
+use Rattle.prelude.specs.ConcatLaws.{concat-length, concat-same, concat-row, rows-concat}
+use Rattle.graph.specs.Graph.{closureRow, closureRows, isFresh}
+
+pub closure-row-length : (t : Table) (c : ℕ) → length (closureRow t c) ≡ closureWidth
+unfolding closureRow
+closure-row-length t c = simp (length-append, set-length)
+
+pub closure-rows-length : (t : Table) → length (closureRows t) ≡ closureLength
+unfolding closureRows
+closure-rows-length t = concat-length (closureRow t) closureWidth classLimit (λ c l. closure-row-length t c)
+
+-- row c of it
+pub closure-rows-at : (t : Table) (c : ℕ) → c < classLimit → closureAt (closureRows t) c ≡ closureRow t c
+unfolding closureRows
+closure-rows-at t c l =
+    ap (λ (x : List ℕ). closureAt x c) (sym (append-nil (concatBelow classLimit (closureRow t)))) ∙ concat-row (closureRow t) closureWidth classLimit [] (λ k m. closure-row-length t k) c l
+
+-- "kept sets equal to those worked out afresh, zero for unused rows": each row is
+pub says-fresh : (t : Table) (k : List ℕ) → Says (isFresh t k) ((c : ℕ) → c < classLimit → closureAt k c ≡ closureRow t c)
+unfolding isFresh
+says-fresh t k = says-all classLimit (λ c l. says-same-bytes (closureAt k c) (closureRow t c))
+
+-- then the store's bytes are those afresh
+pub fresh-bytes : (t : Table) (k : List ℕ) → isFresh t k ≡ true → part 0 closureLength k ≡ closureRows t
+unfolding closureRows
+fresh-bytes t k e = rows-concat 0 closureWidth classLimit k ∙ concat-same classLimit _ (closureRow t) (says-fresh t k .holds e)
+
+-- and a store that was given those bytes is afresh
+pub bytes-fresh : (t : Table) (k : List ℕ) → closureLength ≤ length k → isFresh t (splice 0 (closureRows t) k) ≡ true
+bytes-fresh t k long = says-fresh t (splice 0 (closureRows t) k) .passes each
+  where
+    front : part 0 closureLength (splice 0 (closureRows t) k) ≡ closureRows t
+    front = part-splice-same 0 (closureRows t) k (omega (arith, closure-rows-length t)) closureLength (sym (closure-rows-length t))
+
+    each : (c : ℕ) → c < classLimit → closureAt (splice 0 (closureRows t) k) c ≡ closureRow t c
+    each c l =
+        let at : 0 + (0 + closureWidth * c) ≡ 0 + closureWidth * c = omega arith in
+        ap (λ (n : ℕ). part n closureWidth (splice 0 (closureRows t) k)) (sym at)
+        ∙ sym (part-part 0 closureLength (splice 0 (closureRows t) k) (0 + closureWidth * c) closureWidth (omega arith)) ∙ ap (λ (x : List ℕ). closureAt x c) front ∙ closure-rows-at t c l

@@ -1,0 +1,26 @@
+// Lists the samples of the repository, as `list` lists its standard input: a forest owners' schema, a sheet that is refused, and one that is too long.
+use libc::STDOUT_FILENO;
+use listing::list::SHEET_LIMIT;
+use listing::list::TEXT_LENGTH;
+use listing::list::list;
+
+// Lists the sheet in a file.
+fn show(path: &[u8]) {
+    let file = os::open_read(path);
+    if file < 0 {
+        os::fail(path);
+        return;
+    }
+    let mut sheet = [0u8; SHEET_LIMIT + 1];
+    let mut text = [0u8; TEXT_LENGTH];
+    let n = io::read_full(file, &mut sheet);
+    libc::close(file);
+    let length = list(&sheet[..n], &mut text);
+    io::write_all(STDOUT_FILENO, &text[..length]);
+}
+
+fn main() {
+    show(b"forest.sheet");
+    show(b"refused.sheet");
+    show(b"long.sheet");
+}

@@ -1,0 +1,33 @@
+-- What a load left, as the code has it.
+use mathlib.Core.Path.{_≡_, sym, ap, subst, _∙_}
+use mathlib.Core.List.{List}
+use Prim.Native.Nat.{ℕ, _≤_}
+use native.Mathlib.Omega.{arith}
+use lib.ListN.{length}
+use Rattle.schema.specs.declared.answer.Answer.{Answer}
+use Rattle.schema.specs.Layout.{closureLength}
+use Rattle.schema.specs.Store.{classTable, stores, Result, result}
+use Rattle.formats.specs.ShapesLaws.{Bytes}
+use Rattle.tables.specs.Shaped.{ClassesShaped}
+use Rattle.keeper.specs.Load.{load}
+use Rattle.stores.specs.Filled.{emptyStores}
+use Rattle.listing.specs.Listing.{listing, refusedLine, loadedText}
+use Rattle.listing.specs.ListingLaws.{text-accepted, text-refused, rowsRead, accepted-shaped, accepted-closure}
+use Rattle.graph.specs.FreshLaws.{closure-rows-length}
+
+module _ (sheet : List ℕ) {x : Answer} {a c k : List ℕ} (e : result x (stores a c k) ≡ load sheet emptyStores) where
+  number-is : load sheet emptyStores .answer .number ≡ x .number
+  number-is = sym (ap (λ (r : Result). r .answer .number) e)
+
+  pub loaded-listing : x .number ≡ 0 → loadedText (load sheet emptyStores) ≡ listing (classTable c) k
+  loaded-listing z = ap loadedText (sym e) ∙ text-accepted (result x (stores a c k)) z
+
+  pub loaded-refused : ¬ (x .number ≡ 0) → loadedText (load sheet emptyStores) ≡ refusedLine x
+  loaded-refused d = ap loadedText (sym e) ∙ text-refused (result x (stores a c k)) d
+
+  -- the rows of an accepted sheet can be listed
+  pub loaded-shaped : Bytes sheet → x .number ≡ 0 → ClassesShaped c × (closureLength ≤ length k)
+  loaded-shaped b z = (
+    subst (λ (r : Result). ClassesShaped (r .left .classes)) (sym e) (accepted-shaped sheet b (number-is ∙ z)),
+    omega (arith, ap (λ (r : Result). length (r .left .closure)) e, ap length (accepted-closure sheet b (number-is ∙ z)), closure-rows-length (classTable (rowsRead sheet .classes))),
+  )

@@ -1,0 +1,78 @@
+-- The longest text fits.
+use mathlib.Core.Path.{_≡_, refl}
+use mathlib.Core.List.{List}
+use Prim.Native.Nat.{ℕ, _+_, _*_, _^_, _≤_, _<_}
+use native.Mathlib.Omega.{arith}
+use lib.ListN.{length, length-take, length-drop}
+use Rattle.prelude.specs.Part.{part}
+use Rattle.prelude.specs.PartLaws.{part-bytes}
+use Rattle.prelude.specs.BigEndianLaws.{number-small}
+use Rattle.sets.specs.Sets.{member, memberCount}
+use Rattle.sets.specs.CountLaws.{count-le}
+use Rattle.schema.specs.declared.answer.Answer.{Answer}
+use Rattle.schema.specs.Numbers.{classLimit}
+use Rattle.schema.specs.Layout.{nameLimit, identifierAt, arcWidth, arcLimit, attributeSet, demandedAt, allowedAt, rowsAt, classWidth}
+use Rattle.schema.specs.Row.{nameLength, nameOf, arcCount, arcOf}
+use Rattle.schema.specs.Store.{classTable, closureAt}
+use Rattle.tables.specs.Shaped.{Bounded, ClassesShaped}
+use Rattle.formats.specs.ShapesLaws.{Bytes}
+use Rattle.listing.specs.Text.{ascii, decimal}
+use Rattle.listing.specs.TextLaws.{decimal-short}
+use Rattle.listing.specs.Listing.{mustCount, mayCount, arcText, identifierText, classLine, classLines, headLine, headLength, lineLength, refusedLine, textLength}
+use Rattle.prelude.specs.ConcatLaws.{concat-short}
+use Rattle.listing.proofs.Lines.{dot-short, class-length, refused-length}
+
+part-short : (at n : ℕ) (s : List ℕ) → length (part at n s) ≤ n
+unfolding part
+part-short at n s = simp (length-take, length-drop) (omega arith)
+
+name-short : (row : List ℕ) → nameLength row ≤ nameLimit → length (nameOf row) ≤ nameLimit
+name-short row h = omega (arith, part-short 1 (nameLength row) row)
+
+arc-short : (row : List ℕ) (k : ℕ) → Bytes row → length (arcText row k) ≤ 11
+arc-short row k b = omega (arith, dot-short row k, decimal-short 9 (arcOf row k) (omega (arith, number-small row b 4 (identifierAt + 1 + arcWidth * k))))
+
+identifier-short : (row : List ℕ) → Bytes row → arcCount row ≤ arcLimit → length (identifierText row) ≤ 11 * arcLimit
+unfolding identifierText
+identifier-short row b h = omega (arith, concat-short (arcText row) 11 (arcCount row) (λ k l. arc-short row k b))
+
+-- a set of attributes has at most three digits of members
+count-small : (at : ℕ) (s : List ℕ) → length (decimal (memberCount (part at attributeSet s))) ≤ 3
+unfolding memberCount
+count-small at s =
+    let set : List ℕ = part at attributeSet s in
+    decimal-short 2 _ (omega (arith, count-le (length set * 8) (member set), part-short at attributeSet s))
+
+must-short : (closure : List ℕ) (c : ℕ) → length (decimal (mustCount closure c)) ≤ 3
+unfolding mustCount
+must-short closure c = count-small demandedAt (closureAt closure c)
+
+may-short : (closure : List ℕ) (c : ℕ) → length (decimal (mayCount closure c)) ≤ 3
+unfolding mayCount
+may-short closure c = count-small allowedAt (closureAt closure c)
+
+module _ (classes closure : List ℕ) (bytes : Bytes classes) (shaped : ClassesShaped classes) where
+  line-short : (c : ℕ) → c < classTable classes .count → length (classLine (classTable classes) closure c) ≤ lineLength
+  line-short c l =
+      let row : List ℕ = classTable classes .row c in
+      let bounded : Bounded row = shaped .bounded c l in
+      omega (
+        arith,
+        class-length (classTable classes) closure c,
+        decimal-short 2 c (omega (arith, shaped .count)),
+        name-short row (bounded .name),
+        identifier-short row (part-bytes (rowsAt + classWidth * c) classWidth classes bytes) (bounded .arcs),
+        must-short closure c,
+        may-short closure c,
+      )
+
+  pub lines-short : length (classLines (classTable classes) closure) ≤ lineLength * classLimit
+  unfolding classLines
+  lines-short = omega (arith, concat-short (classLine (classTable classes) closure) lineLength (classTable classes .count) line-short, shaped .count)
+
+pub head-length : length headLine ≡ headLength
+unfolding headLine ascii
+head-length = refl
+
+pub refused-short : (a : Answer) → a .number < 256 → a .table < 256 → a .place < 2 ^ 64 → length (refusedLine a) ≤ textLength
+refused-short a n t p = omega (arith, refused-length a, decimal-short 2 (a .number) (omega arith), decimal-short 2 (a .table) (omega arith), decimal-short 19 (a .place) (omega arith))

@@ -1,0 +1,116 @@
+-- The listing. Document 01: "The program lists a sheet's classes, defunct too .. "must" is the number of attributes in the kept mandatory set, "may" in the
+-- optional one:
+--     no name oid must may
+--     0 top 2.5.6.0 0 0
+-- A refused sheet prints one line, single spaces: `refused`, number, table, place."
+use mathlib.Core.Path.{_≡_}
+use mathlib.Core.Bool.{cond}
+use mathlib.Core.Logic.{_↔_}
+use mathlib.Core.List.{List, [], _∷_, _++_, List·Memᴰ}
+use Prim.Native.Nat.{ℕ, _+_, _*_, _≤_, _<_}
+use lib.Dec.{eqb, ltb}
+use lib.ListN.{length}
+use Rattle.prelude.specs.Part.{part}
+use Rattle.sets.specs.Sets.{memberCount, countBelow, Rises}
+use Rattle.schema.specs.declared.answer.Answer.{Answer}
+use Rattle.schema.specs.Numbers.{classLimit, attributeLimit}
+use Rattle.schema.specs.Layout.{nameLimit, arcLimit, attributeSet, demandedAt, allowedAt, classesLength, closureLength}
+use Rattle.schema.specs.Row.{nameOf, arcCount, arcOf}
+use Rattle.schema.specs.Store.{Table, classTable, closureAt, Result}
+use Rattle.prelude.specs.Concat.{concatBelow}
+use Rattle.graph.specs.Graph.{demands, allows}
+use Rattle.tables.specs.Shaped.{Bounded}
+use Rattle.stores.specs.Filled.{emptyStores}
+use Rattle.keeper.specs.Load.{load}
+use Rattle.listing.specs.Text.{ascii, decimal, textLine}
+
+-- ---- one class
+
+-- "must", and "may": of class c, by the closure store
+unfoldable pub mustCount : List ℕ → ℕ → ℕ
+mustCount closure c = memberCount (part demandedAt attributeSet (closureAt closure c))
+
+unfoldable pub mayCount : List ℕ → ℕ → ℕ
+mayCount closure c = memberCount (part allowedAt attributeSet (closureAt closure c))
+
+-- arc k of an object identifier, with a dot (46) before each but the first
+unfoldable pub arcText : List ℕ → ℕ → List ℕ
+arcText row k = cond (eqb k 0) [] (46 ∷ []) ++ decimal (arcOf row k)
+
+unfoldable pub identifierText : List ℕ → List ℕ
+identifierText row = concatBelow (arcCount row) (arcText row)
+
+-- "no name oid must may": class c by its row and the two counts
+abbrev pub lineOf : ℕ → List ℕ → ℕ → ℕ → List ℕ
+lineOf c row must may = textLine (decimal c ∷ nameOf row ∷ identifierText row ∷ decimal must ∷ decimal may ∷ [])
+
+unfoldable pub classLine : Table → List ℕ → ℕ → List ℕ
+classLine t closure c = lineOf c (t .row c) (mustCount closure c) (mayCount closure c)
+
+-- ---- the listing
+
+unfoldable pub headLine : List ℕ
+headLine = ascii "no name oid must may\n"
+
+-- every class in the order of the numbers, "defunct too"
+unfoldable pub classLines : Table → List ℕ → List ℕ
+classLines t closure = concatBelow (t .count) (classLine t closure)
+
+unfoldable pub listing : Table → List ℕ → List ℕ
+listing t closure = headLine ++ classLines t closure
+
+-- ---- what the program prints
+
+-- "`refused`, number, table, place"
+unfoldable pub refusedLine : Answer → List ℕ
+refusedLine a = textLine (ascii "refused" ∷ decimal (a .number) ∷ decimal (a .table) ∷ decimal (a .place) ∷ [])
+
+-- "(at most 32,768 bytes, else `too long`)"
+unfoldable pub tooLong : List ℕ
+tooLong = ascii "too long\n"
+
+abbrev pub sheetLimit : ℕ
+sheetLimit = 32768
+
+-- the listing of what a load left in the stores, or the line for its refusal
+unfoldable pub loadedText : Result → List ℕ
+loadedText r = cond (eqb (r .answer .number) 0) (listing (classTable (r .left .classes)) (r .left .closure)) (refusedLine (r .answer))
+
+-- the text for a sheet, loaded into empty stores: "Load never looks at what stood in the stores"
+unfoldable pub listed : List ℕ → List ℕ
+listed sheet = cond (ltb sheetLimit (length sheet)) tooLong (loadedText (load sheet emptyStores))
+
+-- ---- the same, from the rows alone: the counts are those of the sets as they are defined
+
+unfoldable pub definedLine : Table → ℕ → List ℕ
+definedLine t c = lineOf c (t .row c) (countBelow attributeLimit (demands t c)) (countBelow attributeLimit (allows t c))
+
+unfoldable pub definedListing : Table → List ℕ
+definedListing t = headLine ++ concatBelow (t .count) (definedLine t)
+
+-- n is the number of those below the limit of which P holds: a list has each of them once, and no others, and is n long
+pub record CountOf (limit : ℕ) (P : ℕ → Type 0) (n : ℕ) : Type 0 where
+  pub members : List ℕ
+  pub rises : Rises 0 members
+  pub has : (b : ℕ) → List·Memᴰ b members ↔ ((b < limit) × P b)
+  pub count : n ≡ length members
+
+-- ---- what the code asks
+
+-- the head line; the longest line of a class: 3 digits, the longest name, arcs of at most 10 digits and a dot, 3 and 3 digits, a byte behind each of the five
+abbrev pub headLength : ℕ
+headLength = 21
+
+abbrev pub lineLength : ℕ
+lineLength = 3 + nameLimit + 11 * arcLimit + 3 + 3 + 5
+
+-- room for the longest text
+abbrev pub textLength : ℕ
+textLength = headLength + lineLength * classLimit
+
+-- class c can be read: its rows lie within the stores, and its name and identifier within its row
+pub record ListedClass (classes closure : List ℕ) (c : ℕ) : Type 0 where
+  pub classesLong : classesLength ≤ length classes
+  pub closureLong : closureLength ≤ length closure
+  pub below : c < classLimit
+  pub bounded : Bounded (classTable classes .row c)

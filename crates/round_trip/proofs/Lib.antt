@@ -1,0 +1,2 @@
+-- Sheets tested by computation.
+pub mod Vectors
