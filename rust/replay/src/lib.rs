@@ -8,5 +8,5 @@ mod step;
 
 pub use hash::fnv1a;
 pub use player::Player;
-pub use script::Script;
+pub use script::{Kind, SMALL, Script};
 pub use step::{LONGEST, Step, Unplayable, steps};

@@ -14,9 +14,25 @@ const LENGTHS: [usize; 3] = [ATTRIBUTE_STORE, CLASS_STORE, CLOSURE_STORE];
 /// At most so many pokes bring stores out of order at a time.
 const MOST_POKES: usize = 60;
 
+/// What a script may hold.
+#[derive(Clone, Copy, Debug, PartialEq, Eq)]
+pub enum Kind {
+    /// Every step of the format.
+    Whole,
+    /// What the Rattle player plays: no changes, and nothing over 64 KiB.
+    Small,
+}
+
+/// The small player's limit, for the script too.
+pub const SMALL: u32 = 1 << 16;
+
+/// Sheets of a small script, so that it has room for many.
+const SMALL_SHEET: usize = 3000;
+
 /// An endless script.
 #[derive(Clone, Debug)]
 pub struct Script {
+    kind: Kind,
     random: Random,
     player: Player,
     planned: VecDeque<Step>,
@@ -24,11 +40,24 @@ pub struct Script {
 
 impl Script {
     /// The script that this seed begins.
-    pub fn new(seed: u64) -> Script {
+    pub fn new(seed: u64, kind: Kind) -> Script {
         Script {
+            kind,
             random: Random::new(seed),
             player: Player::default(),
             planned: VecDeque::new(),
+        }
+    }
+
+    /// The next step that a script of this kind may hold.
+    fn next_planned(&mut self) -> Step {
+        loop {
+            match self.planned.pop_front() {
+                None => self.plan(),
+                Some(Step::Load(sheet))
+                    if self.kind == Kind::Small && sheet.len() > SMALL_SHEET => {}
+                Some(step) => return step,
+            }
         }
     }
 
@@ -38,8 +67,12 @@ impl Script {
             _ if empty && self.random.once_in(2) => self.plan_sound_load(),
             0..=4 => self.plan_load(),
             5..=6 => self.plan_sound_load(),
-            7..=29 => self.plan_change(Step::Plain),
-            30..=72 => self.plan_change(Step::Quick),
+            7..=29 if self.kind == Kind::Whole => self.plan_change(Step::Plain),
+            30..=72 if self.kind == Kind::Whole => self.plan_change(Step::Quick),
+            7..=14 => self.plan_load(),
+            15..=50 => self.plan_disorder_asked(),
+            51..=58 => self.plan_write(),
+            59..=66 => self.plan_depth(),
             73..=79 => self.planned.push_back(Step::Audit),
             80..=84 => self.plan_write(),
             85..=89 => self.plan_depth(),
@@ -67,6 +100,7 @@ impl Script {
 
     fn plan_write(&mut self) {
         let length = match self.random.below(6) {
+            0 if self.kind == Kind::Small => SMALL,
             0 => LONGEST,
             1 => self.random.below(200) as u32,
             _ => self.random.below(60_000) as u32,
@@ -108,6 +142,14 @@ impl Script {
         }
     }
 
+    /// Pokes, and then every call that tells what they did.
+    fn plan_disorder_asked(&mut self) {
+        self.plan_disorder();
+        self.planned.push_back(Step::Audit);
+        self.plan_depth();
+        self.plan_write();
+    }
+
     fn disordered(&mut self, mut tables: Tables) -> Stores {
         match self.random.once_in(2) {
             true => disorder_rows(&mut self.random, &mut tables.schema),
@@ -132,8 +174,8 @@ impl Script {
         self.planned.push_back(resize(short));
         match self.random.below(4) {
             0 => self.plan_load(),
-            1 => self.plan_change(Step::Plain),
-            2 => self.plan_change(Step::Quick),
+            1 if self.kind == Kind::Whole => self.plan_change(Step::Plain),
+            2 if self.kind == Kind::Whole => self.plan_change(Step::Quick),
             _ => self
                 .planned
                 .extend([Step::Audit, Step::Depth(0), Step::Write(100)]),
@@ -149,10 +191,7 @@ impl Iterator for Script {
     type Item = Step;
 
     fn next(&mut self) -> Option<Step> {
-        while self.planned.is_empty() {
-            self.plan();
-        }
-        let step = self.planned.pop_front()?;
+        let step = self.next_planned();
         self.player.advance(&step);
         Some(step)
     }

@@ -1,6 +1,6 @@
 //! Scripts are read as they were made, and played as the format says.
 
-use replay::{Player, Script, Step, Unplayable, fnv1a, steps};
+use replay::{Kind, Player, Script, Step, Unplayable, fnv1a, steps};
 use std::collections::BTreeSet;
 
 fn script(made: &[Step]) -> Vec<u8> {
@@ -9,21 +9,24 @@ fn script(made: &[Step]) -> Vec<u8> {
 
 #[test]
 fn a_script_is_read_as_it_was_made() {
-    let made: Vec<Step> = Script::new(1).take(500).collect();
+    let made: Vec<Step> = Script::new(1, Kind::Whole).take(500).collect();
     let read: Result<Vec<Step>, Unplayable> = steps(&script(&made)).collect();
     assert_eq!(read, Ok(made));
 }
 
 #[test]
 fn the_same_seed_makes_the_same_script() {
-    let one: Vec<Step> = Script::new(2).take(200).collect();
-    let other: Vec<Step> = Script::new(2).take(200).collect();
+    let one: Vec<Step> = Script::new(2, Kind::Whole).take(200).collect();
+    let other: Vec<Step> = Script::new(2, Kind::Whole).take(200).collect();
     assert!(one == other);
 }
 
 #[test]
 fn a_script_has_all_steps() {
-    let names: BTreeSet<&str> = Script::new(3).take(500).map(|step| step.name()).collect();
+    let names: BTreeSet<&str> = Script::new(3, Kind::Whole)
+        .take(500)
+        .map(|step| step.name())
+        .collect();
     assert_eq!(names.len(), 8);
 }
 
@@ -123,4 +126,33 @@ fn pokes_and_resizes() {
     player.play(&resize(6));
     assert_eq!(player.stores().closure, [0, 0, 0, 7, 0xA5, 0xA5]);
     assert!(player.play(&Step::Audit).starts_with("audit 1 0 0 "));
+}
+
+#[test]
+fn a_small_script_holds_no_changes_and_nothing_over_its_limit() {
+    for step in Script::new(4, Kind::Small).take(2000) {
+        let small = match step {
+            Step::Plain(_) | Step::Quick(_) => false,
+            Step::Write(length) | Step::Resize { length, .. } => length <= replay::SMALL,
+            _ => true,
+        };
+        assert!(small);
+    }
+}
+
+/// The script that the Rattle player plays in the gate, and the output that it
+/// is held to, which this reference made.
+#[test]
+fn the_stored_output_is_what_the_reference_plays() {
+    let folder = concat!(env!("CARGO_MANIFEST_DIR"), "/../../crates/replay");
+    let script = std::fs::read(format!("{folder}/stdin")).unwrap_or_default();
+    let stored = std::fs::read_to_string(format!("{folder}/stdout")).unwrap_or_default();
+    let mut player = Player::default();
+    let lines = steps(&script).map(|step| match step {
+        Ok(step) => player.play(&step) + "\n",
+        Err(unplayable) => unplayable.to_string(),
+    });
+    assert!(script.len() <= replay::SMALL as usize);
+    assert_eq!(lines.collect::<String>(), stored);
+    assert!(stored.lines().count() > 200);
 }

@@ -1,0 +1,52 @@
+use mathlib.Core.Path.{_≡_, refl}
+use Prim.Native.Nat.{_≤_, _-_}
+use lib.ListN.{length, drop}
+use Rattle.replay.specs.Hash.{hashFrom}
+use Rattle.replay.specs.Hash.{fnv1a as hashed}
+use Rattle.replay.proofs.Hashing.{hash-step, hash-end}
+use native.Mathlib.Omega.{arith}
+use borrow.Author.Needs.{needs}
+use Rattle.replay.proofs.hash.fnv1a.Statement.{statement}
+use Rattle.replay.proofs.hash.fnv1a.Tie as tie
+
+abbrev Inv-loop : tie.InvT-loop
+Inv-loop s hash₀ i₀ hash i = (i ≤ length s) × (hashFrom hash (drop i s) ≡ hashed s)
+
+abbrev μ-loop : tie.MeasureT-loop
+μ-loop s hash₀ i₀ hash i = length s - i
+
+loop-holds : tie.Need-loop-holds Inv-loop μ-loop
+unfolding hashed
+loop-holds c = (omega arith, refl)
+
+byte-at-requires : tie.Need-byte-at-requires Inv-loop μ-loop
+byte-at-requires c κs = omega arith
+
+mix-requires : tie.Need-mix-requires Inv-loop μ-loop
+mix-requires c κs = search needs
+
+add-i : tie.Need-add-i Inv-loop μ-loop
+add-i c = omega arith
+
+loop-less : tie.Need-loop-less Inv-loop μ-loop
+loop-less c = omega arith
+
+loop-again : tie.Need-loop-again Inv-loop μ-loop
+loop-again c = (omega arith, hash-step (c .before .before .before .before .before .args .s .now) (c .before .before .before .loop .i) (c .before .before .before .loop .hash) (c .before .before .before .loop .inv .1) (c .before .byte-at .result) (c .mix .result) (c .before .before .loop-test .taken) (c .before .byte-at .ensures) (c .mix .ensures))
+
+returns : tie.Need-returns Inv-loop μ-loop
+returns c = hash-end (c .before .before .before .args .s .now) (c .before .loop .i) (c .before .loop .hash) (c .before .loop .inv .1) (c .loop-test .left)
+
+pub fnv1a-spec : {M : Type 1} → statement M
+fnv1a-spec =
+    tie.close
+    (tie.spec
+    Inv-loop
+    μ-loop
+    loop-holds
+    byte-at-requires
+    mix-requires
+    add-i
+    loop-less
+    loop-again
+    returns)

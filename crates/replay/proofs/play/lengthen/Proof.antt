@@ -1,0 +1,50 @@
+use mathlib.Core.Path.{_≡_, refl, sym, _∙_}
+use Prim.Native.Nat.{_≤_, _-_}
+use lib.ListN.{length, length-set}
+use Rattle.replay.specs.Playing.{pastByte, lengthened}
+use Rattle.replay.proofs.Lending.{lengthened-none, lengthened-more, lengthened-all}
+use native.Mathlib.Omega.{arith}
+use borrow.Author.Needs.{needs}
+use Rattle.replay.proofs.play.lengthen.Statement.{statement}
+use Rattle.replay.proofs.play.lengthen.Tie as tie
+
+abbrev Inv-loop : tie.InvT-loop
+Inv-loop store₀ from to i₀ store i = (from ≤ i) × (i - from ≤ to - from) × (length store ≡ length store₀) × (store ≡ lengthened from i store₀)
+
+abbrev μ-loop : tie.MeasureT-loop
+μ-loop store₀ from to i₀ store i = to - i
+
+loop-holds : tie.Need-loop-holds Inv-loop μ-loop
+loop-holds c = (omega arith, omega arith, refl, sym (lengthened-none _ _ _ (omega arith)))
+
+slice-write-store : tie.Need-slice-write-store Inv-loop μ-loop
+slice-write-store c = search needs
+
+add-i : tie.Need-add-i Inv-loop μ-loop
+add-i c = search needs
+
+loop-less : tie.Need-loop-less Inv-loop μ-loop
+loop-less c = search needs
+
+loop-again : tie.Need-loop-again Inv-loop μ-loop
+loop-again c = (omega arith, omega arith, length-set (c .before .loop .store) (c .before .loop .i) pastByte ∙ c .before .loop .inv .2, lengthened-more (c .before .before .args .from) (c .before .loop .i) (c .before .before .args .store .now) (c .before .loop .store) (omega arith) (omega arith) (c .before .loop .inv .3))
+
+same-length : tie.Need-same-length Inv-loop μ-loop
+same-length c = search needs
+
+returns : tie.Need-returns Inv-loop μ-loop
+returns c = c .before .loop .inv .3 ∙ lengthened-all _ _ _ _ (omega arith) (omega arith) (omega arith)
+
+pub lengthen-spec : {M : Type 1} → statement M
+lengthen-spec =
+    tie.close
+    (tie.spec
+    Inv-loop
+    μ-loop
+    loop-holds
+    slice-write-store
+    add-i
+    loop-less
+    loop-again
+    same-length
+    returns)

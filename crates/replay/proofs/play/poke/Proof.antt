@@ -1,0 +1,22 @@
+use borrow.Author.Tests.{lt-ltb, le-ltb}
+use Rattle.replay.specs.Playing.{poked}
+use borrow.Author.Needs.{needs}
+use Rattle.replay.proofs.play.poke.Statement.{statement}
+use Rattle.replay.proofs.play.poke.Tie as tie
+
+slice-write-store : tie.Need-slice-write-store
+slice-write-store c = search needs
+
+same-length : tie.Need-same-length
+same-length c = search needs
+
+returns : tie.Need-returns
+unfolding poked
+returns c = rw (lt-ltb _ _ (c .if1 .taken))
+
+returns-2 : tie.Need-returns-2
+unfolding poked
+returns-2 c = rw (le-ltb _ _ (c .if1 .left))
+
+pub poke-spec : {M : Type 1} → statement M
+poke-spec = tie.close (tie.spec slice-write-store same-length returns returns-2)

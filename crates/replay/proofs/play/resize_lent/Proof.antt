@@ -1,0 +1,49 @@
+use borrow.Author.Tests.{eq-eqb, ne-eqb}
+use Rattle.replay.specs.Playing.{resizeLent}
+use borrow.Author.Needs.{needs}
+use Rattle.replay.proofs.play.resize_lent.Statement.{statement}
+use Rattle.replay.proofs.play.resize_lent.Tie as tie
+
+lengthen-requires : tie.Need-lengthen-requires
+lengthen-requires c κs = search needs
+
+lengthen-requires-2 : tie.Need-lengthen-requires-2
+lengthen-requires-2 c κs = search needs
+
+lengthen-requires-3 : tie.Need-lengthen-requires-3
+lengthen-requires-3 c κs = search needs
+
+same-length : tie.Need-same-length
+same-length c = search needs
+
+returns : tie.Need-returns
+unfolding resizeLent
+returns c = rw (eq-eqb _ _ (c .before .before .before .before .if1 .taken), c .before .before .lengthen .ensures)
+
+same-length-2 : tie.Need-same-length-2
+same-length-2 c = search needs
+
+returns-2 : tie.Need-returns-2
+unfolding resizeLent
+returns-2 c = rw (ne-eqb _ _ (c .before .before .before .before .before .if1 .left), eq-eqb _ _ (c .before .before .before .before .if2 .taken), c .before .before .lengthen2 .ensures)
+
+same-length-3 : tie.Need-same-length-3
+same-length-3 c = search needs
+
+returns-3 : tie.Need-returns-3
+unfolding resizeLent
+returns-3 c = rw (ne-eqb _ _ (c .before .before .before .before .before .if1 .left), ne-eqb _ _ (c .before .before .before .before .if2 .left), c .before .before .lengthen3 .ensures)
+
+pub resize-lent-spec : {M : Type 1} → statement M
+resize-lent-spec =
+    tie.close
+    (tie.spec
+    lengthen-requires
+    lengthen-requires-2
+    lengthen-requires-3
+    same-length
+    returns
+    same-length-2
+    returns-2
+    same-length-3
+    returns-3)

@@ -1,0 +1,182 @@
+use mathlib.Core.Path.{subst}
+use Rattle.prelude.specs.Part.{part}
+use Rattle.replay.specs.declared.step.Step.{Step}
+use Rattle.replay.specs.Steps.{StepWithin}
+use native.Mathlib.Omega.{arith}
+use borrow.Author.Needs.{needs}
+use Rattle.replay.proofs.play.take_step.Statement.{statement}
+use Rattle.replay.proofs.play.take_step.Tie as tie
+
+enum-known-step : tie.Need-enum-known-step
+enum-known-step c = search needs
+
+sub-load-lent : tie.Need-sub-load-lent
+sub-load-lent c = (subst (λ (x : Step). StepWithin (c .before .before .before .before .before .before .before .before .args .script .now) x) (c .before .step .given .1) (c .before .before .before .before .before .before .before .before .pre .0 .1)) .0
+
+part-load-lent-start : tie.Need-part-load-lent-start
+part-load-lent-start c = (subst (λ (x : Step). StepWithin (c .before .before .before .before .before .before .before .before .args .script .now) x) (c .before .step .given .1) (c .before .before .before .before .before .before .before .before .pre .0 .1)) .0
+
+part-load-lent-end : tie.Need-part-load-lent-end
+part-load-lent-end c = (subst (λ (x : Step). StepWithin (c .before .before .before .before .before .before .before .before .args .script .now) x) (c .before .step .given .1) (c .before .before .before .before .before .before .before .before .pre .0 .1)) .1
+
+load-lent-requires : tie.Need-load-lent-requires
+load-lent-requires c κs = search needs
+
+enum-told : tie.Need-enum-told
+enum-told c = search needs
+
+audit-lent-requires : tie.Need-audit-lent-requires
+audit-lent-requires c κs = search needs
+
+enum-known-step-2 : tie.Need-enum-known-step-2
+enum-known-step-2 c = search needs
+
+write-lent-requires : tie.Need-write-lent-requires
+write-lent-requires c κs = (c .before .before .before .before .before .before .before .before .before .before .before .before .pre .0 .0, omega (arith, subst (λ (x : Step). StepWithin (c .before .before .before .before .before .before .before .before .before .before .before .before .args .script .now) x) (c .before .before .before .before .before .step2 .given .1) (c .before .before .before .before .before .before .before .before .before .before .before .before .pre .0 .1), c .before .before .before .before .before .before .before .before .before .before .before .before .pre .1 .3))
+
+enum-known-step-3 : tie.Need-enum-known-step-3
+enum-known-step-3 c = search needs
+
+depth-lent-requires : tie.Need-depth-lent-requires
+depth-lent-requires c κs = search needs
+
+enum-known-step-4 : tie.Need-enum-known-step-4
+enum-known-step-4 c = search needs
+
+poke-lent-requires : tie.Need-poke-lent-requires
+poke-lent-requires c κs = search needs
+
+done-requires : tie.Need-done-requires
+done-requires c κs = search needs
+
+enum-known-step-5 : tie.Need-enum-known-step-5
+enum-known-step-5 c = search needs
+
+resize-lent-requires : tie.Need-resize-lent-requires
+resize-lent-requires c κs = (c .before .before .before .before .before .before .before .before .before .before .before .pre .0 .0, (omega (arith, subst (λ (x : Step). StepWithin (c .before .before .before .before .before .before .before .before .before .before .before .args .script .now) x) (c .before .before .before .before .step5 .given .1) (c .before .before .before .before .before .before .before .before .before .before .before .pre .0 .1), c .before .before .before .before .before .before .before .before .before .before .before .pre .1 .0), omega (arith, subst (λ (x : Step). StepWithin (c .before .before .before .before .before .before .before .before .before .before .before .args .script .now) x) (c .before .before .before .before .step5 .given .1) (c .before .before .before .before .before .before .before .before .before .before .before .pre .0 .1), c .before .before .before .before .before .before .before .before .before .before .before .pre .1 .1), omega (arith, subst (λ (x : Step). StepWithin (c .before .before .before .before .before .before .before .before .before .before .before .args .script .now) x) (c .before .before .before .before .step5 .given .1) (c .before .before .before .before .before .before .before .before .before .before .before .pre .0 .1), c .before .before .before .before .before .before .before .before .before .before .before .pre .1 .2)))
+
+done-requires-2 : tie.Need-done-requires-2
+done-requires-2 c κs = search needs
+
+same-length : tie.Need-same-length
+same-length c = search needs
+
+same-length-2 : tie.Need-same-length-2
+same-length-2 c = search needs
+
+same-length-3 : tie.Need-same-length-3
+same-length-3 c = search needs
+
+returns : tie.Need-returns
+unfolding part
+returns c = rw (c .before .before .before .before .before .before .before .before .before .before .before .before .step .given .1, ← (c .before .before .before .before .before .before .load-lent .ensures))
+
+same-length-4 : tie.Need-same-length-4
+same-length-4 c = search needs
+
+same-length-5 : tie.Need-same-length-5
+same-length-5 c = search needs
+
+same-length-6 : tie.Need-same-length-6
+same-length-6 c = search needs
+
+returns-2 : tie.Need-returns-2
+returns-2 c = rw (c .before .before .before .before .enum-told .given .1, c .audit-lent .ensures)
+
+same-length-7 : tie.Need-same-length-7
+same-length-7 c = search needs
+
+same-length-8 : tie.Need-same-length-8
+same-length-8 c = search needs
+
+same-length-9 : tie.Need-same-length-9
+same-length-9 c = search needs
+
+same-length-10 : tie.Need-same-length-10
+same-length-10 c = search needs
+
+returns-3 : tie.Need-returns-3
+returns-3 c = rw (c .before .before .before .before .before .before .before .before .step2 .given .1, ← (c .before .before .write-lent .ensures))
+
+same-length-11 : tie.Need-same-length-11
+same-length-11 c = search needs
+
+same-length-12 : tie.Need-same-length-12
+same-length-12 c = search needs
+
+same-length-13 : tie.Need-same-length-13
+same-length-13 c = search needs
+
+returns-4 : tie.Need-returns-4
+returns-4 c = rw (c .before .before .before .before .before .step3 .given .1, c .depth-lent .ensures)
+
+same-length-14 : tie.Need-same-length-14
+same-length-14 c = search needs
+
+same-length-15 : tie.Need-same-length-15
+same-length-15 c = search needs
+
+same-length-16 : tie.Need-same-length-16
+same-length-16 c = search needs
+
+returns-5 : tie.Need-returns-5
+returns-5 c = rw (c .before .before .before .before .before .before .before .before .before .before .before .before .step4 .given .1, c .done .ensures, ← (c .before .before .before .before .before .before .before .poke-lent .ensures))
+
+same-length-17 : tie.Need-same-length-17
+same-length-17 c = search needs
+
+same-length-18 : tie.Need-same-length-18
+same-length-18 c = search needs
+
+same-length-19 : tie.Need-same-length-19
+same-length-19 c = search needs
+
+returns-6 : tie.Need-returns-6
+returns-6 c = rw (c .before .before .before .before .before .before .before .before .before .before .before .before .step5 .given .1, c .done2 .ensures, ← (c .before .before .before .before .before .before .before .resize-lent .ensures))
+
+pub take-step-spec : {M : Type 1} → statement M
+take-step-spec =
+    tie.close
+    (tie.spec
+    enum-known-step
+    sub-load-lent
+    part-load-lent-start
+    part-load-lent-end
+    load-lent-requires
+    enum-told
+    audit-lent-requires
+    enum-known-step-2
+    write-lent-requires
+    enum-known-step-3
+    depth-lent-requires
+    enum-known-step-4
+    poke-lent-requires
+    done-requires
+    enum-known-step-5
+    resize-lent-requires
+    done-requires-2
+    same-length
+    same-length-2
+    same-length-3
+    returns
+    same-length-4
+    same-length-5
+    same-length-6
+    returns-2
+    same-length-7
+    same-length-8
+    same-length-9
+    same-length-10
+    returns-3
+    same-length-11
+    same-length-12
+    same-length-13
+    returns-4
+    same-length-14
+    same-length-15
+    same-length-16
+    returns-5
+    same-length-17
+    same-length-18
+    same-length-19
+    returns-6)

@@ -1,0 +1,98 @@
+use mathlib.Core.Path.{refl, sym, _∙_, subst}
+use Prim.Native.Nat.{_≤_, _-_}
+use lib.ListN.{length}
+use Rattle.replay.specs.declared.step.Turn.{Turn}
+use Rattle.replay.specs.Steps.{longest, Within}
+use Rattle.replay.specs.Playing.{AtMost}
+use Rattle.replay.proofs.Ready.{Room, Same, first-at-most, after-at-most}
+use native.Mathlib.Omega.{arith}
+use borrow.Author.Needs.{needs}
+use Rattle.replay.proofs.play_all.Statement.{statement}
+use Rattle.replay.proofs.play_all.Tie as tie
+
+abbrev Inv-loop : tie.InvT-loop
+Inv-loop script attributes₀ classes₀ closure₀ output₀ lengths₀ at₀ attributes classes closure output lengths at =
+    (at ≤ length script) × AtMost longest lengths × Room attributes classes closure output × Same attributes₀ classes₀ closure₀ output₀ attributes classes closure output
+
+abbrev μ-loop : tie.MeasureT-loop
+μ-loop script attributes₀ classes₀ closure₀ output₀ lengths₀ at₀ attributes classes closure output lengths at =
+    length script - at
+
+start-requires : tie.Need-start-requires Inv-loop μ-loop
+start-requires c κs = (c .before .before .before .before .before .before .before .before .pre .0, c .before .before .before .before .before .before .before .before .pre .1, c .before .before .before .before .before .before .before .before .pre .2)
+
+loop-holds : tie.Need-loop-holds Inv-loop μ-loop
+loop-holds c = (omega arith, subst (AtMost longest) (sym (c .before .before .before .before .before .before .start .ensures .0)) first-at-most, record { attributes = omega (arith, c .before .before .before .before .before .before .start .kept .0, c .before .before .before .before .before .before .before .before .before .before .before .before .before .before .before .pre .0); classes = omega (arith, c .before .before .before .before .before .before .start .kept .1 .0, c .before .before .before .before .before .before .before .before .before .before .before .before .before .before .before .pre .1); closure = omega (arith, c .before .before .before .before .before .before .start .kept .1 .1 .0, c .before .before .before .before .before .before .before .before .before .before .before .before .before .before .before .pre .2); output = c .before .before .before .before .before .before .before .before .before .before .before .before .before .before .before .pre .3 }, record { attributes = refl; classes = refl; closure = refl; output = refl })
+
+read-turn-requires : tie.Need-read-turn-requires Inv-loop μ-loop
+read-turn-requires c κs = c .loop-test .taken
+
+enum-known-turn : tie.Need-enum-known-turn Inv-loop μ-loop
+enum-known-turn c = search needs
+
+enum-told : tie.Need-enum-told Inv-loop μ-loop
+enum-told c = search needs
+
+same-length : tie.Need-same-length Inv-loop μ-loop
+same-length c = search needs
+
+same-length-2 : tie.Need-same-length-2 Inv-loop μ-loop
+same-length-2 c = search needs
+
+same-length-3 : tie.Need-same-length-3 Inv-loop μ-loop
+same-length-3 c = search needs
+
+same-length-4 : tie.Need-same-length-4 Inv-loop μ-loop
+same-length-4 c = search needs
+
+returns : tie.Need-returns Inv-loop μ-loop
+returns c = search needs
+
+play-step-requires : tie.Need-play-step-requires Inv-loop μ-loop
+play-step-requires c κs = ((c .before .before .before .before .before .before .before .before .before .loop .inv .1, (subst (λ (x : Turn). Within (c .before .before .before .before .before .before .before .before .before .before .before .before .before .before .before .before .before .before .before .before .before .before .before .before .before .args .script .now) (c .before .before .before .before .before .before .before .before .before .loop .at) x) (c .before .before .before .before .before .turn .given .1) (c .before .before .before .before .before .before .before .read-turn .ensures .1)) .2), (c .before .before .before .before .before .before .before .before .before .loop .inv .2 .attributes, c .before .before .before .before .before .before .before .before .before .loop .inv .2 .classes, c .before .before .before .before .before .before .before .before .before .loop .inv .2 .closure, c .before .before .before .before .before .before .before .before .before .loop .inv .2 .output))
+
+loop-less : tie.Need-loop-less Inv-loop μ-loop
+loop-less c = omega (arith, (subst (λ (x : Turn). Within (c .before .before .before .before .before .before .before .before .before .before .before .before .before .before .before .before .before .before .before .before .before .before .before .before .before .before .before .before .before .before .before .before .before .before .args .script .now) (c .before .before .before .before .before .before .before .before .before .before .before .before .before .before .before .before .before .before .loop .at) x) (c .before .before .before .before .before .before .before .before .before .before .before .before .before .before .turn .given .1) (c .before .before .before .before .before .before .before .before .before .before .before .before .before .before .before .before .read-turn .ensures .1)) .0, (subst (λ (x : Turn). Within (c .before .before .before .before .before .before .before .before .before .before .before .before .before .before .before .before .before .before .before .before .before .before .before .before .before .before .before .before .before .before .before .before .before .before .args .script .now) (c .before .before .before .before .before .before .before .before .before .before .before .before .before .before .before .before .before .before .loop .at) x) (c .before .before .before .before .before .before .before .before .before .before .before .before .before .before .turn .given .1) (c .before .before .before .before .before .before .before .before .before .before .before .before .before .before .before .before .read-turn .ensures .1)) .1)
+
+loop-again : tie.Need-loop-again Inv-loop μ-loop
+loop-again c = ((subst (λ (x : Turn). Within (c .before .before .before .before .before .before .before .before .before .before .before .before .before .before .before .before .before .before .before .before .before .before .before .before .before .before .before .before .before .before .before .before .before .before .args .script .now) (c .before .before .before .before .before .before .before .before .before .before .before .before .before .before .before .before .before .before .loop .at) x) (c .before .before .before .before .before .before .before .before .before .before .before .before .before .before .turn .given .1) (c .before .before .before .before .before .before .before .before .before .before .before .before .before .before .before .before .read-turn .ensures .1)) .1, subst (AtMost longest) (sym (c .before .before .before .before .before .before .before .before .play-step .ensures .0)) (after-at-most (c .before .before .before .before .before .before .before .before .before .before .before .before .before .before .before .before .before .before .before .before .before .before .before .before .before .before .before .before .before .before .before .before .before .before .args .script .now) (c .before .before .before .before .before .before .before .before .before .before .before .before .before .before .turn .given .0 .0) (c .before .before .before .before .before .before .before .before .before .before .before .before .before .before .before .before .before .before .loop .lengths) ((subst (λ (x : Turn). Within (c .before .before .before .before .before .before .before .before .before .before .before .before .before .before .before .before .before .before .before .before .before .before .before .before .before .before .before .before .before .before .before .before .before .before .args .script .now) (c .before .before .before .before .before .before .before .before .before .before .before .before .before .before .before .before .before .before .loop .at) x) (c .before .before .before .before .before .before .before .before .before .before .before .before .before .before .turn .given .1) (c .before .before .before .before .before .before .before .before .before .before .before .before .before .before .before .before .read-turn .ensures .1)) .2) (c .before .before .before .before .before .before .before .before .before .before .before .before .before .before .before .before .before .before .loop .inv .1)), record { attributes = omega (arith, c .before .before .before .before .before .before .before .before .play-step .kept .1 .1 .0, c .before .before .before .before .before .before .before .before .before .before .before .before .before .before .before .before .before .before .loop .inv .2 .attributes); classes = omega (arith, c .before .before .before .before .before .before .before .before .play-step .kept .1 .1 .1 .0, c .before .before .before .before .before .before .before .before .before .before .before .before .before .before .before .before .before .before .loop .inv .2 .classes); closure = omega (arith, c .before .before .before .before .before .before .before .before .play-step .kept .1 .1 .1 .1 .0, c .before .before .before .before .before .before .before .before .before .before .before .before .before .before .before .before .before .before .loop .inv .2 .closure); output = omega (arith, c .before .before .before .before .before .before .before .before .play-step .kept .1 .1 .1 .1 .1 .0, c .before .before .before .before .before .before .before .before .before .before .before .before .before .before .before .before .before .before .loop .inv .2 .output) }, record { attributes = c .before .before .before .before .before .before .before .before .play-step .kept .1 .1 .0 ∙ c .before .before .before .before .before .before .before .before .before .before .before .before .before .before .before .before .before .before .loop .inv .3 .attributes; classes = c .before .before .before .before .before .before .before .before .play-step .kept .1 .1 .1 .0 ∙ c .before .before .before .before .before .before .before .before .before .before .before .before .before .before .before .before .before .before .loop .inv .3 .classes; closure = c .before .before .before .before .before .before .before .before .play-step .kept .1 .1 .1 .1 .0 ∙ c .before .before .before .before .before .before .before .before .before .before .before .before .before .before .before .before .before .before .loop .inv .3 .closure; output = c .before .before .before .before .before .before .before .before .play-step .kept .1 .1 .1 .1 .1 .0 ∙ c .before .before .before .before .before .before .before .before .before .before .before .before .before .before .before .before .before .before .loop .inv .3 .output })
+
+same-length-5 : tie.Need-same-length-5 Inv-loop μ-loop
+same-length-5 c = search needs
+
+same-length-6 : tie.Need-same-length-6 Inv-loop μ-loop
+same-length-6 c = search needs
+
+same-length-7 : tie.Need-same-length-7 Inv-loop μ-loop
+same-length-7 c = search needs
+
+same-length-8 : tie.Need-same-length-8 Inv-loop μ-loop
+same-length-8 c = search needs
+
+returns-2 : tie.Need-returns-2 Inv-loop μ-loop
+returns-2 c = search needs
+
+pub play-all-spec : {M : Type 1} → statement M
+play-all-spec =
+    tie.close
+    (tie.spec
+    Inv-loop
+    μ-loop
+    start-requires
+    loop-holds
+    read-turn-requires
+    enum-known-turn
+    enum-told
+    same-length
+    same-length-2
+    same-length-3
+    same-length-4
+    returns
+    play-step-requires
+    loop-less
+    loop-again
+    same-length-5
+    same-length-6
+    same-length-7
+    same-length-8
+    returns-2)

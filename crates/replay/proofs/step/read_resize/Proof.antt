@@ -1,0 +1,59 @@
+use borrow.Author.Tests.{lt-ltb, le-ltb}
+use Rattle.replay.specs.Steps.{isCut, resizeAt}
+use native.Mathlib.Omega.{arith}
+use borrow.Author.Needs.{needs}
+use Rattle.replay.proofs.step.read_resize.Statement.{statement}
+use Rattle.replay.proofs.step.read_resize.Tie as tie
+
+sub-if1 : tie.Need-sub-if1
+sub-if1 c = search needs
+
+returns : tie.Need-returns
+unfolding resizeAt isCut
+returns c = (rw (lt-ltb _ _ (c .if1 .taken)), tt)
+
+add-byte-at : tie.Need-add-byte-at
+add-byte-at c = search needs
+
+byte-at-requires : tie.Need-byte-at-requires
+byte-at-requires c κs = search needs
+
+returns-2 : tie.Need-returns-2
+unfolding resizeAt isCut
+returns-2 c = (rw (le-ltb _ _ (c .before .before .if1 .left), ← (c .before .byte-at .ensures), lt-ltb _ _ (c .if2 .taken)), tt)
+
+add-read-u32 : tie.Need-add-read-u32
+add-read-u32 c = search needs
+
+read-u32-requires : tie.Need-read-u32-requires
+read-u32-requires c κs = search needs
+
+cast-length : tie.Need-cast-length
+cast-length c = search needs
+
+returns-3 : tie.Need-returns-3
+unfolding resizeAt isCut
+returns-3 c = (rw (le-ltb _ _ (c .before .before .before .before .if1 .left), ← (c .before .before .before .byte-at .ensures), le-ltb _ _ (c .before .before .if2 .left), ← (c .before .read-u32 .ensures), lt-ltb _ _ (c .if3 .taken)), tt)
+
+add-t5 : tie.Need-add-t5
+add-t5 c = search needs
+
+returns-4 : tie.Need-returns-4
+unfolding resizeAt isCut
+returns-4 c = (rw (le-ltb _ _ (c .before .before .before .before .if1 .left), ← (c .before .before .before .byte-at .ensures), le-ltb _ _ (c .before .before .if2 .left), ← (c .before .read-u32 .ensures), le-ltb _ _ (c .if3 .left)), (omega arith, omega arith, omega arith))
+
+pub read-resize-spec : {M : Type 1} → statement M
+read-resize-spec =
+    tie.close
+    (tie.spec
+    sub-if1
+    returns
+    add-byte-at
+    byte-at-requires
+    returns-2
+    add-read-u32
+    read-u32-requires
+    cast-length
+    returns-3
+    add-t5
+    returns-4)

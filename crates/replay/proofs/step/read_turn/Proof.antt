@@ -1,0 +1,74 @@
+use borrow.Author.Tests.{eq-eqb, ne-eqb}
+use Rattle.replay.specs.Steps.{turnAt}
+use native.Mathlib.Omega.{arith}
+use borrow.Author.Needs.{needs}
+use Rattle.replay.proofs.step.read_turn.Statement.{statement}
+use Rattle.replay.proofs.step.read_turn.Tie as tie
+
+byte-at-requires : tie.Need-byte-at-requires
+byte-at-requires c κs = search needs
+
+read-load-requires : tie.Need-read-load-requires
+read-load-requires c κs = search needs
+
+returns : tie.Need-returns
+unfolding turnAt
+returns c = (rw (← (c .before .before .byte-at .ensures), eq-eqb _ _ (c .before .if1 .taken)) (c .read-load .ensures .0), c .read-load .ensures .1)
+
+add-t6 : tie.Need-add-t6
+add-t6 c = search needs
+
+returns-2 : tie.Need-returns-2
+unfolding turnAt
+returns-2 c = (rw (← (c .before .before .byte-at .ensures), ne-eqb _ _ (c .before .if1 .left), eq-eqb _ _ (c .if2 .taken)), (omega arith, omega arith, tt))
+
+read-write-requires : tie.Need-read-write-requires
+read-write-requires c κs = search needs
+
+returns-3 : tie.Need-returns-3
+unfolding turnAt
+returns-3 c = (rw (← (c .before .before .before .before .byte-at .ensures), ne-eqb _ _ (c .before .before .before .if1 .left), ne-eqb _ _ (c .before .before .if2 .left), eq-eqb _ _ (c .before .if3 .taken)) (c .read-write .ensures .0), c .read-write .ensures .1)
+
+read-depth-requires : tie.Need-read-depth-requires
+read-depth-requires c κs = search needs
+
+returns-4 : tie.Need-returns-4
+unfolding turnAt
+returns-4 c = (rw (← (c .before .before .before .before .before .byte-at .ensures), ne-eqb _ _ (c .before .before .before .before .if1 .left), ne-eqb _ _ (c .before .before .before .if2 .left), ne-eqb _ _ (c .before .before .if3 .left), eq-eqb _ _ (c .before .if4 .taken)) (c .read-depth .ensures .0), c .read-depth .ensures .1)
+
+read-poke-requires : tie.Need-read-poke-requires
+read-poke-requires c κs = search needs
+
+returns-5 : tie.Need-returns-5
+unfolding turnAt
+returns-5 c = (rw (← (c .before .before .before .before .before .before .byte-at .ensures), ne-eqb _ _ (c .before .before .before .before .before .if1 .left), ne-eqb _ _ (c .before .before .before .before .if2 .left), ne-eqb _ _ (c .before .before .before .if3 .left), ne-eqb _ _ (c .before .before .if4 .left), eq-eqb _ _ (c .before .if5 .taken)) (c .read-poke .ensures .0), c .read-poke .ensures .1)
+
+read-resize-requires : tie.Need-read-resize-requires
+read-resize-requires c κs = search needs
+
+returns-6 : tie.Need-returns-6
+unfolding turnAt
+returns-6 c = (rw (← (c .before .before .before .before .before .before .before .byte-at .ensures), ne-eqb _ _ (c .before .before .before .before .before .before .if1 .left), ne-eqb _ _ (c .before .before .before .before .before .if2 .left), ne-eqb _ _ (c .before .before .before .before .if3 .left), ne-eqb _ _ (c .before .before .before .if4 .left), ne-eqb _ _ (c .before .before .if5 .left), eq-eqb _ _ (c .before .if6 .taken)) (c .read-resize .ensures .0), c .read-resize .ensures .1)
+
+returns-7 : tie.Need-returns-7
+unfolding turnAt
+returns-7 c = (rw (← (c .before .before .before .before .before .before .byte-at .ensures), ne-eqb _ _ (c .before .before .before .before .before .if1 .left), ne-eqb _ _ (c .before .before .before .before .if2 .left), ne-eqb _ _ (c .before .before .before .if3 .left), ne-eqb _ _ (c .before .before .if4 .left), ne-eqb _ _ (c .before .if5 .left), ne-eqb _ _ (c .if6 .left)), tt)
+
+pub read-turn-spec : {M : Type 1} → statement M
+read-turn-spec =
+    tie.close
+    (tie.spec
+    byte-at-requires
+    read-load-requires
+    returns
+    add-t6
+    returns-2
+    read-write-requires
+    returns-3
+    read-depth-requires
+    returns-4
+    read-poke-requires
+    returns-5
+    read-resize-requires
+    returns-6
+    returns-7)

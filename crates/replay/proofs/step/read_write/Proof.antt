@@ -1,0 +1,46 @@
+use borrow.Author.Tests.{lt-ltb, le-ltb}
+use Rattle.replay.specs.Steps.{isCut, writeAt}
+use native.Mathlib.Omega.{arith}
+use borrow.Author.Needs.{needs}
+use Rattle.replay.proofs.step.read_write.Statement.{statement}
+use Rattle.replay.proofs.step.read_write.Tie as tie
+
+sub-if1 : tie.Need-sub-if1
+sub-if1 c = search needs
+
+returns : tie.Need-returns
+unfolding writeAt isCut
+returns c = (rw (lt-ltb _ _ (c .if1 .taken)), tt)
+
+add-read-u32 : tie.Need-add-read-u32
+add-read-u32 c = search needs
+
+read-u32-requires : tie.Need-read-u32-requires
+read-u32-requires c κs = search needs
+
+cast-length : tie.Need-cast-length
+cast-length c = search needs
+
+returns-2 : tie.Need-returns-2
+unfolding writeAt isCut
+returns-2 c = (rw (le-ltb _ _ (c .before .before .if1 .left), ← (c .before .read-u32 .ensures), lt-ltb _ _ (c .if2 .taken)), tt)
+
+add-t4 : tie.Need-add-t4
+add-t4 c = search needs
+
+returns-3 : tie.Need-returns-3
+unfolding writeAt isCut
+returns-3 c = (rw (le-ltb _ _ (c .before .before .if1 .left), ← (c .before .read-u32 .ensures), le-ltb _ _ (c .if2 .left)), (omega arith, omega arith, omega arith))
+
+pub read-write-spec : {M : Type 1} → statement M
+read-write-spec =
+    tie.close
+    (tie.spec
+    sub-if1
+    returns
+    add-read-u32
+    read-u32-requires
+    cast-length
+    returns-2
+    add-t4
+    returns-3)
