@@ -109,7 +109,8 @@ uint64_t keeper_load(const uint8_t *sheet, size_t sheet_length,
  *   0       written; place: the sheet's length
  *   1, 2    the stores cannot be written
  *   31      the output is too short; place: the length needed
- * Stores in shape are written even if they are not in order; a load of that sheet then refuses it.
+ * Stores in shape are written even if they are not in order; a load of that sheet may refuse it. It does not where only
+ * the closure store is wrong (audit 3), since a sheet holds the rows alone.
  */
 uint64_t keeper_write(const uint8_t *attributes, size_t attributes_length,
                       const uint8_t *classes, size_t classes_length,
