@@ -43,7 +43,10 @@ extern "C" {
 #define KEEPER_ATTRIBUTE_LIMIT 256
 #define KEEPER_CLASS_LIMIT 128
 
-/* No sheet that keeper_write writes is longer. */
+/*
+ * No sheet that keeper_write writes is longer: 4 + 256 * 224 + 128 * 2761, the heading and the longest rows of both
+ * tables. This is counted, not proved; a write whose output is too short says so (KEEPER_SHORT_OUTPUT).
+ */
 #define KEEPER_LONGEST_SHEET 410756
 
 /* So many bytes of stack are enough for every call; the most that was measured is 31 KB. */
