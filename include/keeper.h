@@ -68,7 +68,7 @@ extern "C" {
 
 /* The numbers that are no rule of the schema. */
 #define KEEPER_DONE 0           /* done; or, audited, in order */
-#define KEEPER_SHORT_STORE 1    /* a lent store is shorter than its length: nothing is written */
+#define KEEPER_SHORT_STORE 1    /* a lent store is shorter than its length: nothing but detail is written */
 #define KEEPER_BROKEN_SHAPE 2   /* counts, rows or unused rows hold bytes that no load could have left there */
 #define KEEPER_WRONG_CLOSURE 3  /* audit: every row is fine, but what is kept of what classes reach is not */
 #define KEEPER_UNREADABLE 4     /* the sheet cannot be read; place: the byte offset */
@@ -99,7 +99,7 @@ extern "C" {
 /*
  * Loads a sheet into the stores; what stood there before is not looked at.
  *   0       accepted: the stores are in order
- *   1       nothing is written
+ *   1       nothing of the stores is written
  *   4, 6    the sheet cannot be read, or has too many rows, whichever comes first
  *   12..29  a rule is broken: the smallest number, then the lowest row
  * Refused by 4 or more, every byte of the stores, up to their lengths, is 0.
