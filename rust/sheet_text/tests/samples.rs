@@ -42,6 +42,16 @@ fn the_refused_sheet_is_current_and_refused_for_its_name() {
     assert_eq!(bytes("refused.txt"), b"refused 13 1 1\n");
 }
 
+/// The sheet that is too long has no text: it is one byte more than is listed,
+/// all of them zero.
+#[test]
+fn the_long_sheet_is_one_byte_too_long_and_all_zero() {
+    let sheet = bytes("long.sheet");
+    assert_eq!(sheet.len(), reference::LISTED_LIMIT + 1);
+    assert!(sheet.iter().all(|byte| *byte == 0));
+    assert_eq!(reference::listing(&sheet), b"too long\n");
+}
+
 #[test]
 fn the_forest_is_accepted_and_comes_back_byte_for_byte() {
     let sheet = bytes("forest.sheet");
