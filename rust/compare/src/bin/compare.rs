@@ -1,7 +1,9 @@
 //! Compares the keeper, through its C interface, with the reference: `compare
-//! [SEED [COUNT]]`. Exits with 1 where they differ.
+//! [SEED [COUNT]]`. Exits with 1 where they differ, with 2 where an argument is
+//! not understood.
 
 use compare::{Keeper, Reference, compare};
+use generate::arguments::numbers;
 use std::process::ExitCode;
 
 /// The keeper in the static library.
@@ -47,12 +49,10 @@ impl Keeper for Linked {
 }
 
 fn main() -> ExitCode {
-    let mut arguments = std::env::args().skip(1);
-    let mut number = |otherwise: u64| -> u64 {
-        let given = arguments.next().and_then(|text| text.parse().ok());
-        given.unwrap_or(otherwise)
+    let Some([seed, count]) = numbers(std::env::args().skip(1), [1, 20_000]) else {
+        eprintln!("usage: compare [SEED [COUNT]]");
+        return ExitCode::from(2);
     };
-    let (seed, count) = (number(1), number(20_000));
     let report = compare(&Linked, &Reference, seed, count as usize);
     println!("{}", report.coverage);
     for difference in &report.differences {
