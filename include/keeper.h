@@ -3,7 +3,8 @@
  *
  * The keeper stands between a directory schema's tables and whoever wants to change them. It holds no state and no
  * memory of its own: every call is lent three byte strings, the stores, and judges or fills them. Link with
- * target/staticlib/libkeeper_c.a (made by `rt staticlib keeper_c`); nothing else is needed, and no heap is used.
+ * target/staticlib/libkeeper_c.a (made by `rt staticlib keeper_c`). The archive is for x86-64 Linux; it needs nothing
+ * but the C library's memcpy and memset, and no heap is used.
  * What each call gives and which bytes it writes is proved for every input; docs/PROOFS.md says where.
  * examples/load.c is a small program that uses it.
  *
@@ -43,10 +44,16 @@ extern "C" {
 #define KEEPER_ATTRIBUTE_LIMIT 256
 #define KEEPER_CLASS_LIMIT 128
 
-/* No sheet that keeper_write writes is longer. */
+/*
+ * No sheet that keeper_write writes is longer: 4 + 256 * 224 + 128 * 2761, the heading and the longest rows of both
+ * tables. This is counted, not proved; a write whose output is too short says so (KEEPER_SHORT_OUTPUT).
+ */
 #define KEEPER_LONGEST_SHEET 410756
 
-/* So many bytes of stack are enough for every call; the most that was measured is 31 KB. */
+/*
+ * So many bytes of stack are enough for every call. This is measured, not proved: the most was 35,680 bytes, for a load
+ * of a full schema in which each class names all others (docs/LAYOUT.md).
+ */
 #define KEEPER_STACK 65536
 
 /*
@@ -62,7 +69,7 @@ extern "C" {
 
 /* The numbers that are no rule of the schema. */
 #define KEEPER_DONE 0           /* done; or, audited, in order */
-#define KEEPER_SHORT_STORE 1    /* a lent store is shorter than its length: nothing is written */
+#define KEEPER_SHORT_STORE 1    /* a lent store is shorter than its length: nothing but detail is written */
 #define KEEPER_BROKEN_SHAPE 2   /* counts, rows or unused rows hold bytes that no load could have left there */
 #define KEEPER_WRONG_CLOSURE 3  /* audit: every row is fine, but what is kept of what classes reach is not */
 #define KEEPER_UNREADABLE 4     /* the sheet cannot be read; place: the byte offset */
@@ -93,7 +100,7 @@ extern "C" {
 /*
  * Loads a sheet into the stores; what stood there before is not looked at.
  *   0       accepted: the stores are in order
- *   1       nothing is written
+ *   1       nothing of the stores is written
  *   4, 6    the sheet cannot be read, or has too many rows, whichever comes first
  *   12..29  a rule is broken: the smallest number, then the lowest row
  * Refused by 4 or more, every byte of the stores, up to their lengths, is 0.
@@ -109,7 +116,8 @@ uint64_t keeper_load(const uint8_t *sheet, size_t sheet_length,
  *   0       written; place: the sheet's length
  *   1, 2    the stores cannot be written
  *   31      the output is too short; place: the length needed
- * Stores in shape are written even if they are not in order; a load of that sheet then refuses it.
+ * Stores in shape are written even if they are not in order; a load of that sheet may refuse it. It does not where only
+ * the closure store is wrong (audit 3), since a sheet holds the rows alone.
  */
 uint64_t keeper_write(const uint8_t *attributes, size_t attributes_length,
                       const uint8_t *classes, size_t classes_length,

@@ -45,7 +45,7 @@ pub struct Reference;
 
 /// Tells an answer; "`detail` shorter than 2 counts as a short store: 1, and
 /// nothing is altered", so the call is then not made at all.
-fn tell(detail: &mut [u64], call: impl FnOnce() -> Answer) -> u64 {
+pub fn tell(detail: &mut [u64], call: impl FnOnce() -> Answer) -> u64 {
     let [table, place, ..] = detail else {
         return 1;
     };

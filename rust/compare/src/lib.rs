@@ -5,6 +5,8 @@
 mod case;
 mod cases;
 mod keeper;
+#[cfg(feature = "linked")]
+pub mod linked;
 mod outcome;
 mod run;
 

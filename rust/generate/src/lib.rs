@@ -1,6 +1,7 @@
 //! Schemas, sheets, changes and stores made at random, the same for the same
-//! seed.
+//! seed; and the numbers, seeds among them, that the commands here are given.
 
+pub mod arguments;
 pub mod changes;
 pub mod coverage;
 mod damage;

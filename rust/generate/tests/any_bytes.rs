@@ -111,7 +111,7 @@ fn the_listing_says_what_the_load_says() {
         let text = String::from_utf8_lossy(&reference::listing(&sheet)).into_owned();
         let answer = stores.load(&sheet);
         assert!(text.ends_with('\n'));
-        if sheet.len() > reference::LONGEST_SHEET {
+        if sheet.len() > reference::LISTED_LIMIT {
             assert_eq!(text, "too long\n");
         } else if answer.number == 0 {
             assert_eq!(text.lines().count(), 1 + stores.schema().classes.len());

@@ -4,6 +4,10 @@
 //! check are pointers, lengths and overlap, and a slice vouches for these. So
 //! nothing here tests anything.
 //!
+//! What a slice cannot vouch for is the stack: a call needs up to [`STACK`]
+//! bytes of it. Threads of the standard library have far more, unless they were
+//! asked to have less.
+//!
 //! ```no_run
 //! let mut attributes = vec![0; keeper::ATTRIBUTES_LENGTH];
 //! let mut classes = vec![0; keeper::CLASSES_LENGTH];
@@ -21,8 +25,13 @@ pub const ATTRIBUTES_LENGTH: usize = 48_386;
 pub const CLASSES_LENGTH: usize = 40_322;
 /// The closure store's length.
 pub const CLOSURE_LENGTH: usize = 10_240;
-/// No sheet that a write writes is longer.
-pub const LONGEST_SHEET: usize = 410_756;
+/// No sheet that a write writes is longer: the heading and the longest rows of
+/// both tables. This is counted, not proved; a write whose output is too short
+/// says so (number 31).
+pub const LONGEST_SHEET: usize = 4 + 256 * 224 + 128 * 2761;
+/// So many bytes of stack are enough for every call. This is measured, not
+/// proved: the most was 35,680 (docs/LAYOUT.md).
+pub const STACK: usize = 64 * 1024;
 /// The number of an answer that refuses nothing.
 pub const DONE: u64 = 0;
 

@@ -20,4 +20,4 @@ pub mod writing;
 
 pub use answer::Answer;
 pub use calls::{audit, depth, load, plain_change, quick_change, write};
-pub use listing::{LONGEST_SHEET, listing};
+pub use listing::{LISTED_LIMIT, listing};

@@ -7,11 +7,11 @@ use crate::layout::Tables;
 use crate::schema::Class;
 
 /// "at most 32,768 bytes, else `too long`"
-pub const LONGEST_SHEET: usize = 32_768;
+pub const LISTED_LIMIT: usize = 32_768;
 
 /// The program's text; every line ends with a line feed (R85).
 pub fn listing(sheet: &[u8]) -> Vec<u8> {
-    if sheet.len() > LONGEST_SHEET {
+    if sheet.len() > LISTED_LIMIT {
         return b"too long\n".to_vec();
     }
     match loaded(sheet) {

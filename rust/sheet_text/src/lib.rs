@@ -1,13 +1,14 @@
 //! Sheets written down as text, for people: rows by name instead of number.
 //!
 //! A row begins with `attribute NAME IDENTIFIER` or `class NAME IDENTIFIER`.
-//! The lines after it say the rest, one thing a line, in any order:
+//! The lines after it say the rest, one thing a line, in any order; what is
+//! said twice counts as it was said last, but for flags and lists, which join:
 //!
 //! | Line | What | |
 //! |---|---|---|
 //! | `guid HEX` | schemaIDGUID, 32 hex digits, hyphens allowed | every row |
-//! | `base` | systemFlags 0x10 | any row |
-//! | `flags N` | all systemFlags | any row |
+//! | `base` | the systemFlag 0x10 | any row |
+//! | `flags N` | the systemFlags of N | any row |
 //! | `defunct` | defunct | any row |
 //! | `syntax N M` | attributeSyntax 2.5.5.N and oMSyntax M | every attribute |
 //! | `object HEX` | oMObjectClass; without it, the first of the syntax | attribute |

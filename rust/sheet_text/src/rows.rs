@@ -70,7 +70,7 @@ fn common_line(line: &Line, common: &mut Common) -> Result<(), Fault> {
             common.guid = u128::from_be_bytes(bytes);
         }
         "base" => common.system_flags |= BASE_FLAG,
-        "flags" => common.system_flags = line.number()?,
+        "flags" => common.system_flags |= line.number::<u32>()?,
         "defunct" => common.defunct = true,
         _ => return Err(line.fault("not a line of this row")),
     }

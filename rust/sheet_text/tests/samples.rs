@@ -25,7 +25,7 @@ fn written(name: &str) -> Vec<u8> {
 fn assert_current(name: &str) {
     let sheet = bytes(&format!("{name}.sheet"));
     assert!(written(&format!("{name}.schema")) == sheet, "{name}.sheet");
-    assert!(sheet.len() <= reference::LONGEST_SHEET);
+    assert!(sheet.len() <= reference::LISTED_LIMIT);
     let listing = String::from_utf8_lossy(&reference::listing(&sheet)).into_owned();
     let kept = String::from_utf8_lossy(&bytes(&format!("{name}.txt"))).into_owned();
     assert_eq!(listing, kept, "{name}.txt");
@@ -42,6 +42,16 @@ fn the_refused_sheet_is_current_and_refused_for_its_name() {
     assert_eq!(bytes("refused.txt"), b"refused 13 1 1\n");
 }
 
+/// The sheet that is too long has no text: it is one byte more than is listed,
+/// all of them zero.
+#[test]
+fn the_long_sheet_is_one_byte_too_long_and_all_zero() {
+    let sheet = bytes("long.sheet");
+    assert_eq!(sheet.len(), reference::LISTED_LIMIT + 1);
+    assert!(sheet.iter().all(|byte| *byte == 0));
+    assert_eq!(reference::listing(&sheet), b"too long\n");
+}
+
 #[test]
 fn the_forest_is_accepted_and_comes_back_byte_for_byte() {
     let sheet = bytes("forest.sheet");
@@ -49,7 +59,7 @@ fn the_forest_is_accepted_and_comes_back_byte_for_byte() {
     let loaded = reference::load(&sheet, &mut attrs, &mut classes, &mut closure);
     assert_eq!((loaded.number, loaded.table, loaded.place), (0, 0, 0));
     assert_eq!(reference::audit(&attrs, &classes, &closure).number, 0);
-    let mut out = vec![0; reference::LONGEST_SHEET];
+    let mut out = vec![0; reference::LISTED_LIMIT];
     let answer = reference::write(&attrs, &classes, &closure, &mut out);
     assert_eq!((answer.number, answer.place), (0, sheet.len() as u64));
     assert!(out[..sheet.len()] == sheet);

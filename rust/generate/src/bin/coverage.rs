@@ -1,13 +1,14 @@
 //! Prints how often each call gives each number: `coverage [SEED [ROUNDS]]`.
 
+use generate::arguments::numbers;
 use generate::coverage::Coverage;
+use std::process::ExitCode;
 
-fn main() {
-    let mut arguments = std::env::args().skip(1);
-    let mut number = |otherwise: u64| -> u64 {
-        let given = arguments.next().and_then(|text| text.parse().ok());
-        given.unwrap_or(otherwise)
+fn main() -> ExitCode {
+    let Some([seed, rounds]) = numbers(std::env::args().skip(1), [1, 1000]) else {
+        eprintln!("usage: coverage [SEED [ROUNDS]]");
+        return ExitCode::from(2);
     };
-    let (seed, rounds) = (number(1), number(1000));
     println!("{}", Coverage::of(seed, rounds as usize));
+    ExitCode::SUCCESS
 }

@@ -1,0 +1,189 @@
+//! The safe functions of `keeper` as a caller uses them: with the lengths and
+//! the stack that the crate names.
+
+use generate::Stores;
+use keeper::{Answer, DONE, LONGEST_SHEET};
+use reference::layout::Tables;
+use reference::schema::{
+    ARC_LIMIT, ATTRIBUTE_LIMIT, Attribute, CLASS_LIMIT, Category, Class, Common, NAME_LIMIT,
+    Numbers, OBJECT_CLASS_LIMIT, Schema,
+};
+use reference::{closure, writing};
+use std::thread;
+
+const FOREST: &[u8] = include_bytes!("../../../samples/forest.sheet");
+
+/// Stores of just the lengths needed.
+struct Lent {
+    attributes: Vec<u8>,
+    classes: Vec<u8>,
+    closure: Vec<u8>,
+}
+
+impl Lent {
+    fn new() -> Lent {
+        Lent {
+            attributes: vec![0; keeper::ATTRIBUTES_LENGTH],
+            classes: vec![0; keeper::CLASSES_LENGTH],
+            closure: vec![0; keeper::CLOSURE_LENGTH],
+        }
+    }
+
+    fn load(&mut self, sheet: &[u8]) -> Answer {
+        let Lent {
+            attributes,
+            classes,
+            closure,
+        } = self;
+        keeper::load(sheet, attributes, classes, closure)
+    }
+
+    fn write(&self, output: &mut [u8]) -> Answer {
+        keeper::write(&self.attributes, &self.classes, &self.closure, output)
+    }
+
+    fn audit(&self) -> Answer {
+        keeper::audit(&self.attributes, &self.classes, &self.closure)
+    }
+
+    fn depth(&self, class: u16) -> Answer {
+        keeper::depth(&self.attributes, &self.classes, &self.closure, class)
+    }
+}
+
+/// An answer without a table.
+fn answer(number: u64, place: usize) -> Answer {
+    Answer {
+        number,
+        table: 0,
+        place: place as u64,
+    }
+}
+
+#[test]
+fn the_forest_is_loaded_asked_and_written_back() {
+    let mut lent = Lent::new();
+    assert_eq!(lent.load(FOREST), answer(DONE, 0));
+    assert_eq!(lent.audit(), answer(DONE, 0));
+    assert_eq!(lent.depth(19), answer(DONE, 3));
+    assert_eq!(lent.depth(25), answer(5, 0));
+    let mut output = vec![0; LONGEST_SHEET];
+    assert_eq!(lent.write(&mut output), answer(DONE, FOREST.len()));
+    assert!(output[..FOREST.len()] == *FOREST);
+    let short = &mut output[..FOREST.len() - 1];
+    assert_eq!(lent.write(short), answer(31, FOREST.len()));
+}
+
+/// The answers name rows, too.
+#[test]
+fn a_refused_sheet_tells_table_and_row() {
+    let refused = include_bytes!("../../../samples/refused.sheet");
+    let told = Lent::new().load(refused);
+    assert_eq!((told.number, told.table, told.place), (13, 1, 1));
+}
+
+/// All rows below the limit.
+fn all(limit: usize) -> Numbers {
+    (0..limit as u16).collect()
+}
+
+/// Rows with all that a row may have, each as long as it may be.
+fn longest() -> Schema {
+    let common = Common {
+        name: vec![b'a'; NAME_LIMIT],
+        arcs: vec![1; ARC_LIMIT],
+        defunct: true,
+        ..Common::default()
+    };
+    let attribute = Attribute {
+        common: common.clone(),
+        om_object_class: vec![1; OBJECT_CLASS_LIMIT],
+        single_valued: true,
+        range_lower: Some(1),
+        range_upper: Some(2),
+        link_id: Some(1),
+        mapi_id: Some(1),
+        syntax: 7,
+        om_syntax: 127,
+    };
+    let class = Class {
+        common,
+        naming: Some(0),
+        mandatory: all(ATTRIBUTE_LIMIT),
+        fixed_optional: all(ATTRIBUTE_LIMIT),
+        open_optional: all(ATTRIBUTE_LIMIT),
+        fixed_auxiliary: all(CLASS_LIMIT),
+        open_auxiliary: all(CLASS_LIMIT),
+        fixed_superiors: all(CLASS_LIMIT),
+        open_superiors: all(CLASS_LIMIT),
+        ..Class::default()
+    };
+    Schema {
+        attributes: vec![attribute; ATTRIBUTE_LIMIT],
+        classes: vec![class; CLASS_LIMIT],
+    }
+}
+
+#[test]
+fn the_longest_sheet_is_as_long_as_counted() {
+    let schema = longest();
+    let sheet = writing::sheet(&schema);
+    assert_eq!(sheet.len(), LONGEST_SHEET);
+    let kept = closure::afresh(&schema);
+    let stores = Stores::holding(&Tables { schema, kept });
+    let mut output = vec![0; LONGEST_SHEET];
+    let written = keeper::write(&stores.attrs, &stores.classes, &stores.closure, &mut output);
+    assert_eq!(written, answer(DONE, LONGEST_SHEET));
+    assert!(output == sheet);
+}
+
+/// A full schema that a load accepts: each class stands under the one before
+/// it and has all others as auxiliaries.
+fn deepest() -> Schema {
+    let common = |table: &str, number: u16| Common {
+        name: format!("{table}-{number}").into_bytes(),
+        arcs: vec![1, table.len() as u32, u32::from(number)],
+        guid: u128::from(number) << 8 | table.len() as u128,
+        ..Common::default()
+    };
+    let attribute = |number| Attribute {
+        common: common("attribute", number),
+        syntax: 12,
+        om_syntax: 64,
+        ..Attribute::default()
+    };
+    let class = |number: u16| Class {
+        common: common("class", number),
+        category: match number {
+            0 => Category::Abstract,
+            _ => Category::EightyEight,
+        },
+        superclass: number.saturating_sub(1),
+        mandatory: all(ATTRIBUTE_LIMIT),
+        fixed_auxiliary: (1..CLASS_LIMIT as u16)
+            .filter(|other| *other != number)
+            .collect(),
+        ..Class::default()
+    };
+    Schema {
+        attributes: (0..ATTRIBUTE_LIMIT as u16).map(attribute).collect(),
+        classes: (0..CLASS_LIMIT as u16).map(class).collect(),
+    }
+}
+
+#[test]
+fn the_stack_named_is_enough_for_the_deepest_schema() {
+    let sheet = writing::sheet(&deepest());
+    let mut output = vec![0; sheet.len()];
+    let mut lent = Lent::new();
+    let calls = move || {
+        assert_eq!(lent.load(&sheet), answer(DONE, 0));
+        assert_eq!(lent.audit(), answer(DONE, 0));
+        assert_eq!(lent.depth(127), answer(DONE, 127));
+        assert_eq!(lent.write(&mut output), answer(DONE, sheet.len()));
+        assert!(output == sheet);
+    };
+    let thread = thread::Builder::new().stack_size(keeper::STACK);
+    let ended = thread.spawn(calls).map(|thread| thread.join().is_ok());
+    assert!(ended.is_ok_and(|well| well));
+}
