@@ -22,10 +22,7 @@ pub const EXPECTED: usize = 256 * WHOLE.len() + (FOREST.len() + 1) + POKED * 3 *
 
 /// All inputs, the same for the same seed.
 pub fn cases(seed: u64, count: usize) -> impl Iterator<Item = Case> {
-    let random = (0..count as u64).map(move |number| {
-        let mut random = Random::new(seed.wrapping_mul(1 << 32).wrapping_add(number));
-        any(&mut random)
-    });
+    let random = (0..count as u64).map(move |number| any(&mut Random::nth(seed, number)));
     random
         .chain(every_byte())
         .chain(every_prefix())
@@ -94,7 +91,7 @@ fn any(random: &mut Random) -> Case {
 }
 
 /// Sheets of every kind, and sometimes bytes alone.
-fn any_sheet(random: &mut Random) -> Vec<u8> {
+pub fn any_sheet(random: &mut Random) -> Vec<u8> {
     match random.below(20) {
         0 => {
             let length = random.below(3000);

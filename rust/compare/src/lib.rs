@@ -1,17 +1,20 @@
 //! Two keepers compared in every answer and byte. Both get the same inputs; what
 //! they give back, tell in `detail` and leave in every store and output must be
-//! the same, bytes past the lengths too.
+//! the same, bytes past the lengths too. And the program that lists a sheet
+//! compared with the reference's listing.
 
 mod case;
 mod cases;
 mod keeper;
 #[cfg(feature = "linked")]
 pub mod linked;
+mod listings;
 mod outcome;
 mod run;
 
 pub use case::{Call, Case};
 pub use cases::{EXPECTED, cases};
 pub use keeper::{Keeper, Reference};
+pub use listings::{Listings, compare_listings};
 pub use outcome::{Difference, Outcome};
 pub use run::{Report, compare};

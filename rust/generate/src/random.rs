@@ -14,6 +14,11 @@ impl Random {
         Random { state: seed }
     }
 
+    /// The source for one of the many inputs that a seed begins.
+    pub fn nth(seed: u64, number: u64) -> Random {
+        Random::new(seed.wrapping_mul(1 << 32).wrapping_add(number))
+    }
+
     /// The source for a test: its own seed, and another one for each value of
     /// the environment's SEED.
     pub fn for_test(seed: u64) -> Random {

@@ -2,7 +2,9 @@
 
 use crate::random::Random;
 use reference::rules::is_live;
-use reference::schema::{Attribute, BASE_FLAG, Category, Class, Common, Numbers, Schema};
+use reference::schema::{
+    Attribute, BASE_FLAG, Category, Class, Common, NAME_LIMIT, Numbers, Row, Schema,
+};
 use reference::syntax::{OBJECT, object_classes, om_syntaxes};
 
 const LETTERS: &[u8] = b"abcdefghijklmnopqrstuvwxyzABCDEFGHIJKLMNOPQRSTUVWXYZ";
@@ -21,6 +23,20 @@ pub fn name(random: &mut Random) -> Vec<u8> {
         name.push(random.pick(FOLLOWERS).copied().unwrap_or(b'-'));
     }
     name
+}
+
+/// Makes a row's name longer by so many bytes, if it may be so long. Returns
+/// how many bytes it was.
+pub fn lengthen_name(random: &mut Random, schema: &mut Schema, row: Row, bytes: usize) -> usize {
+    let Some(common) = schema.common_mut(row) else {
+        return 0;
+    };
+    let more = bytes.min(NAME_LIMIT - common.name.len());
+    for _ in 0..more {
+        let follower = random.pick(FOLLOWERS).copied().unwrap_or(b'-');
+        common.name.push(follower);
+    }
+    more
 }
 
 /// A valid name that no row has.

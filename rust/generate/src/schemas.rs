@@ -102,7 +102,8 @@ pub fn schema(random: &mut Random, size: Size) -> Schema {
     schema
 }
 
-fn standing_attribute(random: &mut Random, schema: &Schema) -> Attribute {
+/// An attribute for a schema to be loaded.
+pub fn standing_attribute(random: &mut Random, schema: &Schema) -> Attribute {
     let common = rows::standing_common(random, schema);
     rows::attribute(random, schema, common)
 }

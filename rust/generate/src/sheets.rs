@@ -4,12 +4,55 @@ use crate::damage::damaged;
 use crate::random::Random;
 use crate::schemas::{self, Size};
 use crate::{rows, spoil};
-use reference::schema::{ATTRIBUTE_LIMIT, CLASS_LIMIT, Schema};
+use reference::schema::{ARC_LIMIT, ATTRIBUTE_LIMIT, CLASS_LIMIT, NAME_LIMIT, Row, Schema};
 use reference::writing;
+
+/// No attribute row takes more bytes of a sheet.
+const LONGEST_ATTRIBUTE: usize = 224;
 
 /// A sheet that a load accepts.
 pub fn sound(random: &mut Random) -> Vec<u8> {
     writing::sheet(&schemas::any(random))
+}
+
+/// A sheet of just this length that a load accepts, if so many bytes are too
+/// few for 256 attributes and enough for some dozens of classes.
+pub fn sound_of_length(random: &mut Random, length: usize) -> Vec<u8> {
+    let size = Size {
+        attributes: 10,
+        classes: random.within(20..60),
+        entries: 4,
+    };
+    let mut schema = schemas::schema(random, size);
+    let mut rest = length.saturating_sub(writing::sheet(&schema).len());
+    while rest >= LONGEST_ATTRIBUTE && schema.attributes.len() < ATTRIBUTE_LIMIT {
+        let attribute = schemas::standing_attribute(random, &schema);
+        rest -= writing::field(0x20, &writing::attribute_value(&attribute)).len();
+        schema.attributes.push(attribute);
+    }
+    for row in schema.rows().collect::<Vec<Row>>() {
+        rest -= rows::lengthen_name(random, &mut schema, row, rest);
+    }
+    writing::sheet(&schema)
+}
+
+/// A sheet that a load accepts with as many classes as there may be, their
+/// names and identifiers as long as they may be.
+pub fn longest_names(random: &mut Random) -> Vec<u8> {
+    let size = Size {
+        attributes: random.below(20),
+        classes: CLASS_LIMIT,
+        entries: 2,
+    };
+    let mut schema = schemas::schema(random, size);
+    for number in 0..schema.next_class() {
+        rows::lengthen_name(random, &mut schema, Row::Class(number), NAME_LIMIT);
+        if let Some(common) = schema.common_mut(Row::Class(number)) {
+            common.arcs = vec![u32::MAX - u32::from(number); ARC_LIMIT];
+            common.arcs[0] = 2;
+        }
+    }
+    writing::sheet(&schema)
 }
 
 /// A sheet of any kind.
