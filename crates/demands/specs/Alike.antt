@@ -1,5 +1,5 @@
--- Stores that are alike: equal in the bytes that count. READINGS R36: "Store longer than its length. Only the first bytes count; the rest is neither looked at nor
--- written."
+-- Stores that are alike: equal in the bytes that count. docs/DECISIONS.md, R36: only the first bytes of a longer store count; the rest is neither looked at
+-- nor written.
 use mathlib.Core.Path.{_≡_}
 use lib.ListN.{drop}
 use Rattle.prelude.specs.Part.{part}

@@ -1,4 +1,4 @@
--- Audit, depth and write look at the first bytes of the stores alone (READINGS R36): stores that are alike get the same answer, and are written the same.
+-- Audit, depth and write look at the first bytes of the stores alone (docs/DECISIONS.md, R36): stores that are alike get the same answer, and are written the same.
 use mathlib.Core.Path.{_≡_, refl, sym, ap, ap₂, _∙_}
 use mathlib.Core.Bool.{Bool, false, cond, not}
 use mathlib.Core.Logic.{⊎-elim}

@@ -10,9 +10,9 @@ use Rattle.schema.specs.Numbers.{classLimit}
 use Rattle.schema.specs.Store.{Stores, stores, LongEnough, Table, attributeTable, classTable, closureAt}
 use Rattle.graph.specs.Graph.{closureRow}
 use Rattle.formats.specs.ShapesLaws.{Bytes}
-use Rattle.shape.specs.ShapeLaws.{AttributesFormed, ClassesFormed}
 use Rattle.sheet.specs.declared.read.SheetRead.the-variants.{Read}
 use Rattle.keeper.specs.Load.{reading}
+use Rattle.shape.specs.Shape.{AttributesFormed, ClassesFormed}
 use Rattle.rules.specs.Rules.{schemaRules}
 use Rattle.rules.specs.Judge.{AllKept}
 

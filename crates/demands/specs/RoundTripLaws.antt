@@ -20,7 +20,8 @@ use Rattle.tables.specs.SameLaws.{attributes-same, classes-same}
 use Rattle.rules.specs.SameLaws.{kept-same}
 use Rattle.sheet.specs.declared.read.SheetRead.the-variants.{Read}
 use Rattle.sheet.specs.Reading.{SheetOut, sheetOut}
-use Rattle.round_trip.specs.ExactLaws.{ExactSheet, says-exact}
+use Rattle.round_trip.specs.Exact.{ExactSheet}
+use Rattle.round_trip.specs.ExactLaws.{says-exact}
 use Rattle.round_trip.specs.SheetLaws.{written-read, read-written}
 use Rattle.keeper.specs.Load.{reading, filled, load}
 use Rattle.keeper.specs.Write.{Written, sheetOf, write}

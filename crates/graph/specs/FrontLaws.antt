@@ -1,4 +1,4 @@
--- A closure store that is longer than its length (READINGS R36): only the first bytes count.
+-- A closure store that is longer than its length (docs/DECISIONS.md, R36): only the first bytes count.
 use mathlib.Core.Path.{_≡_, sym, ap, _∙_}
 use mathlib.Core.List.{List}
 use Prim.Native.Nat.{ℕ, _+_, _*_, _≤_, _<_}

@@ -38,8 +38,8 @@ use Rattle.sheet.specs.declared.read.Turn.the-variants.{On, Stop}
 use Rattle.sheet.specs.Reading.{Open, HasRoom, headingOpen, attributesOpen, isHeading, headingTurn, rowStep, rowOut, attributeStep, classStep, Step, step, taggedStep, fieldStep, fullTable, stepAt, SheetOut, sheetOut, onward, readFrom, readSheet}
 use Rattle.sheet.specs.ReadingLaws.{has-room}
 use Rattle.sheet_write.specs.Writing.{heading, rowField, rowFields, sheetBytes}
-use Rattle.round_trip.specs.Exact.{placeOf, rawAttribute}
-use Rattle.round_trip.specs.ExactLaws.{ExactSheet, next-place}
+use Rattle.round_trip.specs.Exact.{placeOf, rawAttribute, ExactSheet}
+use Rattle.round_trip.specs.ExactLaws.{next-place}
 use Rattle.round_trip.specs.PlusLaws.{attribute-plus-length, attribute-plus-fields, class-plus-length, class-plus-fields}
 
 -- ---- what holds between two fields

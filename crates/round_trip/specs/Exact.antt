@@ -1,7 +1,8 @@
 -- The sheets that the tables give back. Document 01: "sheet, tables, sheet does if accepted and 08 stands exactly where oMSyntax is 127".
+use mathlib.Core.Path.{_≡_}
 use mathlib.Core.Bool.{Bool, true, false, cond}
 use mathlib.Core.List.{List}
-use Prim.Native.Nat.{ℕ, zero, suc}
+use Prim.Native.Nat.{ℕ, zero, suc, _<_}
 use lib.Dec.{eqb}
 use lib.ListN.{length}
 use Rattle.prelude.specs.Below.{allBelow}
@@ -39,3 +40,13 @@ exactField s (Bad at) = true
 -- "08 stands exactly where oMSyntax is 127", in every attribute row of a sheet. It has no more fields than bytes
 unfoldable pub exactSheet : List ℕ → Bool
 exactSheet s = allBelow (length s) (λ k. exactField s (fieldAt s (placeOf s k) (length s)))
+
+-- ---- the same as a statement
+
+-- a field that is an attribute row has 08 exactly where its oMSyntax is 127
+abbrev pub ExactField : List ℕ → FieldRead → Type 0
+ExactField s r = (start stop : ℕ) → r ≡ Field 32 start stop → standsExactly (rawAttribute s start stop) ≡ true
+
+-- every attribute row of a sheet
+abbrev pub ExactSheet : List ℕ → Type 0
+ExactSheet s = (k : ℕ) → k < length s → ExactField s (fieldAt s (placeOf s k) (length s))

@@ -13,15 +13,7 @@ use Rattle.wire.specs.declared.FieldRead.{FieldRead}
 use Rattle.wire.specs.declared.FieldRead.the-variants.{Field, End, Bad}
 use Rattle.wire.specs.Wire.{fieldAt}
 use Rattle.rows.specs.WellFormed.{standsExactly}
-use Rattle.round_trip.specs.Exact.{endOf, placeOf, rawAttribute, exactField, exactSheet}
-
--- a field that is an attribute row has 08 exactly where its oMSyntax is 127
-abbrev ExactField : List ℕ → FieldRead → Type 0
-ExactField s r = (start stop : ℕ) → r ≡ Field 32 start stop → standsExactly (rawAttribute s start stop) ≡ true
-
--- every attribute row of a sheet
-abbrev pub ExactSheet : List ℕ → Type 0
-ExactSheet s = (k : ℕ) → k < length s → ExactField s (fieldAt s (placeOf s k) (length s))
+use Rattle.round_trip.specs.Exact.{endOf, placeOf, rawAttribute, exactField, exactSheet, ExactField, ExactSheet}
 
 says-exact-field : (s : List ℕ) (r : FieldRead) → Says (exactField s r) (ExactField s r)
 unfolding exactField

@@ -5,6 +5,7 @@ use mathlib.Core.List.{List, [], _∷_, _++_, append-assoc, append-nil}
 use Prim.Native.Nat.{ℕ, suc, _≤_, _<_}
 use native.Mathlib.Omega.{arith}
 use lib.ListN.{length}
+use Rattle.shape.specs.Shape.{AttributesFormed, ClassesFormed}
 use Rattle.prelude.specs.Part.{splice, zeros}
 use Rattle.prelude.specs.PartLaws.{part-bytes, zeros-length}
 use Rattle.wire.specs.declared.FieldRead.the-variants as fields
@@ -22,7 +23,6 @@ use Rattle.rows.specs.declared.read.RowRead.the-variants as rows
 use Rattle.rows.specs.RoundTripLaws.{attribute-write-read, class-write-read}
 use Rattle.stores.specs.Filled.{AllWide, attributeStore, classStore, plusAttribute, plusClass}
 use Rattle.stores.specs.FilledLaws.{attributes-count, attributes-plus, classes-count, classes-plus}
-use Rattle.shape.specs.ShapeLaws.{AttributesFormed, ClassesFormed}
 use Rattle.sheet.specs.declared.read.SheetRead.the-variants.{Read}
 use Rattle.sheet.specs.declared.read.Phase.{Phase}
 use Rattle.sheet.specs.declared.read.Phase.the-variants.{Heading, Attributes, Classes}

@@ -1,5 +1,5 @@
 -- The shape of one row. Document 01: "*Shape*: .. every field one that the reader could have stored". The reader stores a row as its cells, each one that
--- its rule can leave, and in an attribute row oMObjectClass given the other fields (READINGS R20: with oMSyntax other than 127 empty, with
+-- its rule can leave, and in an attribute row oMObjectClass given the other fields (docs/DECISIONS.md, R20: with oMSyntax other than 127 empty, with
 -- 127 and a syntax that has a first value not empty). Padding, and the value of what is absent, is zero; flags are 0 or 1.
 use mathlib.Core.Bool.{Bool, not, cond, _&&_}
 use mathlib.Core.List.{List}

@@ -1,4 +1,4 @@
--- Stores that are longer than their lengths (READINGS R36): their shape is that of their first bytes. "Only the first bytes count; the rest is neither looked at nor
+-- Stores that are longer than their lengths (docs/DECISIONS.md, R36): their shape is that of their first bytes. "Only the first bytes count; the rest is neither looked at nor
 -- written."
 use mathlib.Core.Path.{_≡_, ap, ap₂, _∙_}
 use mathlib.Core.Bool.{Bool, _&&_}

@@ -19,7 +19,7 @@ use Rattle.rows.specs.WellFormed.{wellFormedAttribute, wellFormedClass}
 use Rattle.rows.specs.FormedLaws.{AttributeLimits, attribute-limits, class-limits}
 use Rattle.tables.specs.Shaped.{Shaped, AttributesShaped, ClassesShaped}
 use Rattle.graph.specs.Graph.{Readable}
-use Rattle.shape.specs.Shape.{unusedRows, rowsFormed, attributesFormed, classesFormed, formed}
+use Rattle.shape.specs.Shape.{unusedRows, rowsFormed, attributesFormed, classesFormed, formed, RowsFormed, AttributesFormed, ClassesFormed}
 
 -- ---- rows side by side are zero exactly where each of them is
 
@@ -40,12 +40,6 @@ zero-rows at w m s e j l =
 -- the rows in use and the unused ones fill the store
 pub rows-split : (width m n : ℕ) → n ≤ m → width * n + width * (m - n) ≡ width * m
 rows-split width m n l = let e : m ≡ n + (m - n) = omega arith in sym (mul-add width n (m - n)) ∙ ap (λ (x : ℕ). width * x) (sym e)
-
--- what it says: the count, each row in use, each row that is not
-pub record RowsFormed (width limit : ℕ) (formedRow : List ℕ → Bool) (n : ℕ) (s : List ℕ) : Type 0 where
-  pub few : n ≤ limit
-  pub rows : (k : ℕ) → k < n → formedRow (rowAt rowsAt width s k) ≡ true
-  pub unused : (k : ℕ) → n ≤ k → k < limit → rowAt rowsAt width s k ≡ zeros width
 
 module _ (width limit : ℕ) (formedRow : List ℕ → Bool) (n : ℕ) (s : List ℕ) where
   abbrev base : ℕ
@@ -77,14 +71,6 @@ module _ (width limit : ℕ) (formedRow : List ℕ → Bool) (n : ℕ) (s : List
       (λ h. record { few = h .0; rows = h .1 .0; unused = unused-each (h .0) (h .1 .1) fits }, λ r. (r .few, (r .rows, each-unused (r .few) fits (r .unused))))
 
 -- ---- the two stores
-
--- the two tests, and what they say of a store that has its length
-abbrev pub AttributesFormed : List ℕ → Type 0
-AttributesFormed s = RowsFormed attributeWidth attributeLimit wellFormedAttribute (attributeTable s .count) s
-
-pub record ClassesFormed (s : List ℕ) : Type 0 where
-  pub beside : getD s 1 0 ≡ 0
-  pub rows : RowsFormed classWidth classLimit wellFormedClass (classTable s .count) s
 
 pub says-attributes-formed : (s : List ℕ) → attributesLength ≤ length s → Says (attributesFormed s) (AttributesFormed s)
 unfolding attributesFormed

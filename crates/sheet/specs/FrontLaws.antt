@@ -1,4 +1,4 @@
--- Stores that are longer than their lengths (READINGS R36). Only the first bytes of a store are read and written: what a sheet leaves in a longer store is what it
+-- Stores that are longer than their lengths (docs/DECISIONS.md, R36). Only the first bytes of a store are read and written: what a sheet leaves in a longer store is what it
 -- leaves in one of exactly its length, with the bytes behind as they were. So what is read comes from the sheet alone.
 use mathlib.Core.Path.{_≡_, refl, sym, ap, ap₂, subst, _∙_}
 use mathlib.Core.Bool.{Bool, true}

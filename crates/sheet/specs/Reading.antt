@@ -1,6 +1,6 @@
 -- Reading a whole sheet. Document 01: "Sheet: field 01 holding 01, attribute rows 20, class rows 30, whose values are fields in rising tag order, each once";
 -- "it reads left to right and gives 4 or 6, whichever comes first". The fields of the sheet's own level are accepted like those of a value: in
--- their order, the heading once; a missing heading is told by the end of the sheet (READINGS R1).
+-- their order, the heading once; a missing heading is told by the end of the sheet (docs/DECISIONS.md, R1).
 use mathlib.Core.Bool.{Bool, true, false, cond, _&&_}
 use mathlib.Core.List.{List}
 use mathlib.Core.Path.{_≡_}

@@ -3,8 +3,8 @@ use Rattle.replay.specs.declared.step.Step.{Step}
 use Rattle.replay.specs.Steps.{StepWithin}
 use native.Mathlib.Omega.{arith}
 use borrow.Author.Needs.{needs}
-use Rattle.replay.proofs.say.say_output.Statement.{statement}
-use Rattle.replay.proofs.say.say_output.Tie as tie
+use Rattle.replay.proofs.say_output.Statement.{statement}
+use Rattle.replay.proofs.say_output.Tie as tie
 
 enum-told : tie.Need-enum-told
 enum-told c = search needs
