@@ -3,9 +3,9 @@ use prelude::number::byte_at;
 use prelude::number::read_u16;
 use prelude::number::read_u32;
 ghost use mathlib.Core.Path.{_≡_};
-ghost use Prim.Native.Nat.{_≤_, _<_};
+ghost use Prim.Native.Nat.{_<_};
 ghost use lib.ListN.{length};
-ghost use Rattle.replay.specs.Steps.{Within, loadAt, auditAt, writeAt, depthAt, pokeAt, resizeAt, turnAt};
+ghost use Rattle.replay.specs.Steps.{Within, loadAt, writeAt, depthAt, pokeAt, resizeAt, turnAt};
 
 // One step.
 pub enum Step {
