@@ -15,7 +15,7 @@ use Rattle.schema.specs.Layout.{commonWidth, nameLimit, arcLimit}
 use Rattle.schema.specs.Row.{nameLength, nameOf, arcCount, arcOf}
 use Rattle.schema.specs.Store.{Table, classTable}
 use Rattle.schema.specs.StoreLaws.{class-wide}
-use Rattle.listing.specs.Text.{ascii, decimal, word, textLine, Written}
+use Rattle.listing.specs.Text.{ascii, decimal, word, textLine, TextAt}
 use Rattle.listing.specs.TextLaws.{word-length, written-as, written-then, written-length}
 use Rattle.listing.specs.Listing.{mustCount, mayCount, arcText, identifierText, classLine, refusedLine, ListedClass}
 
@@ -59,8 +59,8 @@ module _ (c : ℕ) (v i : List ℕ) (m y : ℕ) where
 
   -- as the code writes it: the identifier and the space behind it apart
   pub five-written : {at p q r s t next : ℕ} {o a b d e f g : List ℕ} → at + length five ≤ length o
-      → Written (word (decimal c) 32) at p o a → Written (word v 32) p q a b → Written i q r b d → Written (32 ∷ []) r s d e
-      → Written (word (decimal m) 32) s t e f → Written (word (decimal y) 10) t next f g → Written five at next o g
+      → TextAt (word (decimal c) 32) at p o a → TextAt (word v 32) p q a b → TextAt i q r b d → TextAt (32 ∷ []) r s d e
+      → TextAt (word (decimal m) 32) s t e f → TextAt (word (decimal y) 10) t next f g → TextAt five at next o g
   unfolding word
   five-written {o = o} {a = a} {b = b} {d = d} {e = e} {f = f} h w₁ w₂ w₃ w₄ w₅ w₆ =
       let l₁ : length a ≡ length o = written-length (omega (arith, five-length, word-length (decimal c) 32)) w₁ in
@@ -111,8 +111,8 @@ module _ (a : Answer) where
   refused-length = ap length refused-words ∙ simp (length-append, word-length) (unfold ascii in omega arith)
 
   pub refused-written : {at p q r next : ℕ} {o e f g h v : List ℕ} → at + length (refusedLine a) ≤ length o → ascii "refused" ≡ v
-      → Written (word v 32) at p o e → Written (word (decimal (a .number)) 32) p q e f → Written (word (decimal (a .table)) 32) q r f g → Written (word (decimal (a .place)) 10) r next g h
-      → Written (refusedLine a) at next o h
+      → TextAt (word v 32) at p o e → TextAt (word (decimal (a .number)) 32) p q e f → TextAt (word (decimal (a .table)) 32) q r f g → TextAt (word (decimal (a .place)) 10) r next g h
+      → TextAt (refusedLine a) at next o h
   refused-written {o = o} {e = e} {f = f} {v = v} k s w₁ w₂ w₃ w₄ =
       let seven : length v ≡ 7 = sym (ap length s) ∙ (unfold ascii in refl) in
       let l₁ : length e ≡ length o = written-length (omega (arith, refused-length, word-length v 32)) w₁ in

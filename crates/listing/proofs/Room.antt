@@ -3,9 +3,9 @@ use mathlib.Core.Path.{_≡_, refl}
 use mathlib.Core.List.{List}
 use Prim.Native.Nat.{ℕ, _+_, _*_, _^_, _≤_, _<_}
 use native.Mathlib.Omega.{arith}
-use lib.ListN.{length, length-take, length-drop}
+use lib.ListN.{length}
 use Rattle.prelude.specs.Part.{part}
-use Rattle.prelude.specs.PartLaws.{part-bytes}
+use Rattle.prelude.specs.PartLaws.{part-bytes, part-short}
 use Rattle.prelude.specs.BigEndianLaws.{number-small}
 use Rattle.sets.specs.Sets.{member, memberCount}
 use Rattle.sets.specs.CountLaws.{count-le}
@@ -22,12 +22,8 @@ use Rattle.listing.specs.Listing.{mustCount, mayCount, arcText, identifi
 use Rattle.prelude.specs.ConcatLaws.{concat-short}
 use Rattle.listing.proofs.Lines.{dot-short, class-length, refused-length}
 
-part-short : (at n : ℕ) (s : List ℕ) → length (part at n s) ≤ n
-unfolding part
-part-short at n s = simp (length-take, length-drop) (omega arith)
-
 name-short : (row : List ℕ) → nameLength row ≤ nameLimit → length (nameOf row) ≤ nameLimit
-name-short row h = omega (arith, part-short 1 (nameLength row) row)
+name-short row h = omega (arith, part-short 1 (nameLength row) row .0)
 
 arc-short : (row : List ℕ) (k : ℕ) → Bytes row → length (arcText row k) ≤ 11
 arc-short row k b = omega (arith, dot-short row k, decimal-short 9 (arcOf row k) (omega (arith, number-small row b 4 (identifierAt + 1 + arcWidth * k))))
@@ -41,7 +37,7 @@ count-small : (at : ℕ) (s : List ℕ) → length (decimal (memberCount (part a
 unfolding memberCount
 count-small at s =
     let set : List ℕ = part at attributeSet s in
-    decimal-short 2 _ (omega (arith, count-le (length set * 8) (member set), part-short at attributeSet s))
+    decimal-short 2 _ (omega (arith, count-le (length set * 8) (member set), part-short at attributeSet s .0))
 
 must-short : (closure : List ℕ) (c : ℕ) → length (decimal (mustCount closure c)) ≤ 3
 unfolding mustCount

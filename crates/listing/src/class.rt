@@ -21,11 +21,11 @@ ghost use mathlib.Core.Path.{_≡_};
 ghost use Prim.Native.Nat.{_+_, _≤_, _<_};
 ghost use lib.ListN.{length};
 ghost use Rattle.schema.specs.Numbers.{classLimit};
-ghost use Rattle.schema.specs.Layout.{commonWidth, arcLimit, classesLength, closureLength};
+ghost use Rattle.schema.specs.Layout.{commonWidth, arcLimit, closureLength};
 ghost use Rattle.schema.specs.Row.{arcCount};
 ghost use Rattle.schema.specs.Store.{classTable};
 ghost use Rattle.tables.specs.Shaped.{ClassesShaped};
-ghost use Rattle.listing.specs.Text.{Written};
+ghost use Rattle.listing.specs.Text.{TextAt};
 ghost use Rattle.listing.specs.Listing.{mustCount, mayCount, arcText, identifierText, classLine, classLines, ListedClass};
 
 // How many attributes the kept mandatory set of a class has.
@@ -47,7 +47,7 @@ pub fn may(closure: &[u8], c: ClassNumber) -> usize
 // Writes arc k of an object identifier, with a dot before each but the first.
 fn put_arc(row: &[u8], k: usize, out: &mut [u8], at: usize) -> usize
     requires { ⌜ (commonWidth ≤ length (now row)) × (k < arcLimit) × (at + length (arcText (now row) k) ≤ length (now out)) ⌝ }
-    ensures { λ r. ⌜ Written (arcText (now (row .entry)) k) at r (now (out .entry)) (now (out .exit)) ⌝ }
+    ensures { λ r. ⌜ TextAt (arcText (now (row .entry)) k) at r (now (out .entry)) (now (out .exit)) ⌝ }
 {
     let number = arc(row, k) as usize;
     if k == 0 {
@@ -60,7 +60,7 @@ fn put_arc(row: &[u8], k: usize, out: &mut [u8], at: usize) -> usize
 // Writes an object identifier.
 fn put_identifier(row: &[u8], out: &mut [u8], at: usize) -> usize
     requires { ⌜ (commonWidth ≤ length (now row)) × (arcCount (now row) ≤ arcLimit) × (at + length (identifierText (now row)) ≤ length (now out)) ⌝ }
-    ensures { λ r. ⌜ Written (identifierText (now (row .entry))) at r (now (out .entry)) (now (out .exit)) ⌝ }
+    ensures { λ r. ⌜ TextAt (identifierText (now (row .entry))) at r (now (out .entry)) (now (out .exit)) ⌝ }
 {
     let n = arc_count(row);
     let mut next = at;
@@ -75,7 +75,7 @@ fn put_identifier(row: &[u8], out: &mut [u8], at: usize) -> usize
 // Writes the line of one class.
 fn put_class(classes: &[u8], closure: &[u8], c: ClassNumber, out: &mut [u8], at: usize) -> usize
     requires { ⌜ ListedClass (now classes) (now closure) (c .0) × (at + length (classLine (classTable (now classes)) (now closure) (c .0)) ≤ length (now out)) ⌝ }
-    ensures { λ r. ⌜ Written (classLine (classTable (now (classes .entry))) (now (closure .entry)) (c .0)) at r (now (out .entry)) (now (out .exit)) ⌝ }
+    ensures { λ r. ⌜ TextAt (classLine (classTable (now (classes .entry))) (now (closure .entry)) (c .0)) at r (now (out .entry)) (now (out .exit)) ⌝ }
 {
     let row = class_row(classes, c);
     let named = put_number(c.0, SPACE, out, at);
@@ -89,7 +89,7 @@ fn put_class(classes: &[u8], closure: &[u8], c: ClassNumber, out: &mut [u8], at:
 // Writes the lines of all classes, defunct too.
 pub fn put_classes(classes: &[u8], closure: &[u8], out: &mut [u8], at: usize) -> usize
     requires { ⌜ ClassesShaped (now classes) × (closureLength ≤ length (now closure)) × (at + length (classLines (classTable (now classes)) (now closure)) ≤ length (now out)) ⌝ }
-    ensures { λ r. ⌜ Written (classLines (classTable (now (classes .entry))) (now (closure .entry))) at r (now (out .entry)) (now (out .exit)) ⌝ }
+    ensures { λ r. ⌜ TextAt (classLines (classTable (now (classes .entry))) (now (closure .entry))) at r (now (out .entry)) (now (out .exit)) ⌝ }
 {
     let n = class_count(classes);
     let mut next = at;
