@@ -1,4 +1,5 @@
--- What the decimal digits of a number are, how long they are, and text written piece by piece.
+-- What the decimal digits of a number are, how long they are, and text written piece by piece. Theorems for a reader: `decimal-value`, `decimal-digit`,
+-- `decimal-first`. The other laws serve the proofs.
 use mathlib.Core.Path.{_≡_, refl, sym, ap, _∙_}
 use mathlib.Core.List.{List, [], _∷_, _++_}
 use Prim.Native.Nat.{ℕ, zero, suc, _+_, _-_, _*_, _/_, _%_, _^_, _≤_, _<_}

@@ -21,7 +21,7 @@ ghost use Rattle.tables.specs.Shaped.{ClassesShaped};
 ghost use Rattle.keeper.specs.Load.{load};
 ghost use Rattle.listing.specs.Text.{TextAt};
 ghost use Rattle.stores.specs.Filled.{emptyStores};
-ghost use Rattle.listing.specs.Listing.{listing, refusedLine, textLength, loadedText, listed};
+ghost use Rattle.listing.specs.Listing.{keptCounts, listing, refusedLine, textLength, loadedText, listed};
 
 // "at most 32,768 bytes"
 pub const SHEET_LIMIT: usize = 32768;
@@ -37,7 +37,7 @@ pub const TEXT_LENGTH: usize = HEAD + LINE * ClassNumber::LIMIT;
 // Writes the listing to the front of out, and gives its length.
 fn put_listing(classes: &[u8], closure: &[u8], out: &mut [u8]) -> usize
     requires { ⌜ ClassesShaped (now classes) × (closureLength ≤ length (now closure)) × (textLength ≤ length (now out)) ⌝ }
-    ensures { λ r. ⌜ TextAt (listing (classTable (now (classes .entry))) (now (closure .entry))) 0 r (now (out .entry)) (now (out .exit)) ⌝ }
+    ensures { λ r. ⌜ TextAt (listing (keptCounts (now (closure .entry))) (classTable (now (classes .entry)))) 0 r (now (out .entry)) (now (out .exit)) ⌝ }
 {
     let next = put_bytes(b"no name oid must may\n", out, 0);
     put_classes(classes, closure, out, next)
