@@ -31,7 +31,7 @@ pub record Counts : Type 0 where
   pub must : ℕ → ℕ
   pub may : ℕ → ℕ
 
--- how many attributes a kept set of class c has, the one that stands at a place of its row in the closure store
+-- how many attributes the kept set of class c has that stands at a place of its row in the closure store
 unfoldable pub keptCount : ℕ → List ℕ → ℕ → ℕ
 keptCount at closure c = memberCount (part at attributeSet (closureAt closure c))
 
@@ -96,7 +96,7 @@ pub record CountOf (limit : ℕ) (P : ℕ → Type 0) (n : ℕ) : Type 0 where
   pub has : (b : ℕ) → List·Memᴰ b members ↔ ((b < limit) × P b)
   pub count : n ≡ length members
 
--- text is the listing of a table: in the line of each class stand the number of attributes that some class reached lists as mandatory, and as optional
+-- text is the listing of a table: in the line of each class stand the numbers of attributes that some class reached lists as mandatory and as optional
 pub record ListingOf (t : Table) (text : List ℕ) : Type 0 where
   pub counts : Counts
   pub demanded : (c : ℕ) → CountOf attributeLimit (Collects (t .count) (names t) (listsMandatory t) c) (counts .must c)
