@@ -6,13 +6,13 @@ use native.Mathlib.Omega.{arith}
 use lib.ListN.{length}
 use Rattle.prelude.specs.Concat.{concatBelow}
 use Rattle.prelude.specs.ConcatLaws.{concat-none, concat-more, concat-within, concat-next-within}
-use Rattle.listing.specs.Text.{Written}
+use Rattle.listing.specs.Text.{TextAt}
 use Rattle.listing.specs.TextLaws.{written-as, written-none, written-then, written-length}
 
 -- the first k of n pieces are written
 pub record Writing (f : ℕ → List ℕ) (n at : ℕ) (before after : List ℕ) (next k : ℕ) : Type 0 where
   pub few : k ≤ n
-  pub written : Written (concatBelow k f) at next before after
+  pub written : TextAt (concatBelow k f) at next before after
 
 module _ {f : ℕ → List ℕ} {n at : ℕ} {before : List ℕ} where
   pub writing-none : Writing f n at before before at 0
@@ -25,13 +25,13 @@ module _ {f : ℕ → List ℕ} {n at : ℕ} {before : List ℕ} where
     pub writing-room : k < n → next + length (f k) ≤ length after
     writing-room l = omega (arith, writing-length, w .written .place, concat-next-within f k n l)
 
-    pub writing-more : {last : List ℕ} {behind : ℕ} → k < n → Written (f k) next behind after last → Writing f n at before last behind (k + 1)
+    pub writing-more : {last : List ℕ} {behind : ℕ} → k < n → TextAt (f k) next behind after last → Writing f n at before last behind (k + 1)
     writing-more l p = record {
       few = omega arith;
       written = written-as (concat-more f k) (written-then (omega (arith, concat-next-within f k n l)) (w .written) p);
     }
 
-    pub writing-done : n ≤ k → Written (concatBelow n f) at next before after
+    pub writing-done : n ≤ k → TextAt (concatBelow n f) at next before after
     writing-done l =
         let e : n ≡ k = omega (arith, w .few) in
         written-as (ap (λ (m : ℕ). concatBelow m f) e) (w .written)

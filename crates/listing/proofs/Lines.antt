@@ -8,22 +8,14 @@ use lib.Dec.{eqb}
 use lib.ListN.{length, length-append}
 use borrow.Author.Tests.{eq-eqb}
 use Rattle.prelude.specs.SaysLaws.{says-eq, says-false}
-use Rattle.prelude.specs.Part.{part}
-use Rattle.prelude.specs.PartLaws.{part-length}
 use Rattle.schema.specs.declared.answer.Answer.{Answer}
 use Rattle.schema.specs.Layout.{commonWidth, nameLimit, arcLimit}
 use Rattle.schema.specs.Row.{nameLength, nameOf, arcCount, arcOf}
 use Rattle.schema.specs.Store.{Table, classTable}
 use Rattle.schema.specs.StoreLaws.{class-wide}
-use Rattle.listing.specs.Text.{ascii, decimal, word, textLine, Written}
+use Rattle.listing.specs.Text.{ascii, decimal, word, textLine, TextAt}
 use Rattle.listing.specs.TextLaws.{word-length, written-as, written-then, written-length}
-use Rattle.listing.specs.Listing.{mustCount, mayCount, arcText, identifierText, classLine, refusedLine, ListedClass}
-
--- ---- counts
-
--- a set that was cut out of a row of the closure store
-pub set-short : (at n : ℕ) (row set : List ℕ) → set ≡ part at n row → at + n ≤ length row → n ≤ 8192 → length set ≤ 8192
-set-short at n row set e h l = omega (arith, ap length e ∙ part-length at n row h)
+use Rattle.listing.specs.Listing.{Counts, arcText, identifierText, classLine, refusedLine, ListedClass}
 
 -- ---- an arc
 
@@ -46,21 +38,21 @@ dot-short row k = go (eqb k 0)
 -- ---- a line of five words, of which three are numbers
 
 module _ (c : ℕ) (v i : List ℕ) (m y : ℕ) where
-  abbrev pub five : List ℕ
+  abbrev five : List ℕ
   five = textLine (decimal c ∷ v ∷ i ∷ decimal m ∷ decimal y ∷ [])
 
   five-words : five ≡ word (decimal c) 32 ++ (word v 32 ++ (word i 32 ++ (word (decimal m) 32 ++ word (decimal y) 10)))
   unfolding textLine
   five-words = refl
 
-  pub five-length : length five ≡ (length (decimal c) + 1) + (length v + 1) + (length i + 1) + (length (decimal m) + 1) + (length (decimal y) + 1)
+  five-length : length five ≡ (length (decimal c) + 1) + (length v + 1) + (length i + 1) + (length (decimal m) + 1) + (length (decimal y) + 1)
   five-length =
       ap length five-words ∙ simp (length-append, word-length) (omega arith)
 
   -- as the code writes it: the identifier and the space behind it apart
   pub five-written : {at p q r s t next : ℕ} {o a b d e f g : List ℕ} → at + length five ≤ length o
-      → Written (word (decimal c) 32) at p o a → Written (word v 32) p q a b → Written i q r b d → Written (32 ∷ []) r s d e
-      → Written (word (decimal m) 32) s t e f → Written (word (decimal y) 10) t next f g → Written five at next o g
+      → TextAt (word (decimal c) 32) at p o a → TextAt (word v 32) p q a b → TextAt i q r b d → TextAt (32 ∷ []) r s d e
+      → TextAt (word (decimal m) 32) s t e f → TextAt (word (decimal y) 10) t next f g → TextAt five at next o g
   unfolding word
   five-written {o = o} {a = a} {b = b} {d = d} {e = e} {f = f} h w₁ w₂ w₃ w₄ w₅ w₆ =
       let l₁ : length a ≡ length o = written-length (omega (arith, five-length, word-length (decimal c) 32)) w₁ in
@@ -89,14 +81,14 @@ listed-row classes closure row c h e = record {
   arcs = rw e (h .bounded .arcs);
 }
 
-module _ (t : Table) (closure : List ℕ) (c : ℕ) where
-  pub class-length : length (classLine t closure c)
-      ≡ (length (decimal c) + 1) + (length (nameOf (t .row c)) + 1) + (length (identifierText (t .row c)) + 1) + (length (decimal (mustCount closure c)) + 1) + (length (decimal (mayCount closure c)) + 1)
+module _ (n : Counts) (t : Table) (c : ℕ) where
+  pub class-length : length (classLine n t c)
+      ≡ (length (decimal c) + 1) + (length (nameOf (t .row c)) + 1) + (length (identifierText (t .row c)) + 1) + (length (decimal (n .must c)) + 1) + (length (decimal (n .may c)) + 1)
   unfolding classLine
-  class-length = five-length c (nameOf (t .row c)) (identifierText (t .row c)) (mustCount closure c) (mayCount closure c)
+  class-length = five-length c (nameOf (t .row c)) (identifierText (t .row c)) (n .must c) (n .may c)
 
   -- by what was read
-  pub class-read : {row v : List ℕ} {m y : ℕ} → row ≡ t .row c → v ≡ nameOf row → m ≡ mustCount closure c → y ≡ mayCount closure c → classLine t closure c ≡ five c v (identifierText row) m y
+  pub class-read : {row v : List ℕ} {m y : ℕ} → row ≡ t .row c → v ≡ nameOf row → m ≡ n .must c → y ≡ n .may c → classLine n t c ≡ five c v (identifierText row) m y
   unfolding classLine
   class-read e f g h = rw (g, h, f, e)
 
@@ -111,8 +103,8 @@ module _ (a : Answer) where
   refused-length = ap length refused-words ∙ simp (length-append, word-length) (unfold ascii in omega arith)
 
   pub refused-written : {at p q r next : ℕ} {o e f g h v : List ℕ} → at + length (refusedLine a) ≤ length o → ascii "refused" ≡ v
-      → Written (word v 32) at p o e → Written (word (decimal (a .number)) 32) p q e f → Written (word (decimal (a .table)) 32) q r f g → Written (word (decimal (a .place)) 10) r next g h
-      → Written (refusedLine a) at next o h
+      → TextAt (word v 32) at p o e → TextAt (word (decimal (a .number)) 32) p q e f → TextAt (word (decimal (a .table)) 32) q r f g → TextAt (word (decimal (a .place)) 10) r next g h
+      → TextAt (refusedLine a) at next o h
   refused-written {o = o} {e = e} {f = f} {v = v} k s w₁ w₂ w₃ w₄ =
       let seven : length v ≡ 7 = sym (ap length s) ∙ (unfold ascii in refl) in
       let l₁ : length e ≡ length o = written-length (omega (arith, refused-length, word-length v 32)) w₁ in

@@ -11,15 +11,15 @@ use Rattle.formats.specs.ShapesLaws.{Bytes}
 use Rattle.tables.specs.Shaped.{ClassesShaped}
 use Rattle.keeper.specs.Load.{load}
 use Rattle.stores.specs.Filled.{emptyStores}
-use Rattle.listing.specs.Listing.{listing, refusedLine, loadedText}
-use Rattle.listing.specs.ListingLaws.{text-accepted, text-refused, rowsRead, accepted-shaped, accepted-closure}
+use Rattle.listing.specs.Listing.{keptCounts, listing, refusedLine, loadedText}
+use Rattle.listing.specs.ListingLaws.{text-accepted, text-refused, classesRead, accepted-shaped, accepted-closure}
 use Rattle.graph.specs.FreshLaws.{closure-rows-length}
 
 module _ (sheet : List ℕ) {x : Answer} {a c k : List ℕ} (e : result x (stores a c k) ≡ load sheet emptyStores) where
   number-is : load sheet emptyStores .answer .number ≡ x .number
   number-is = sym (ap (λ (r : Result). r .answer .number) e)
 
-  pub loaded-listing : x .number ≡ 0 → loadedText (load sheet emptyStores) ≡ listing (classTable c) k
+  pub loaded-listing : x .number ≡ 0 → loadedText (load sheet emptyStores) ≡ listing (keptCounts k) (classTable c)
   loaded-listing z = ap loadedText (sym e) ∙ text-accepted (result x (stores a c k)) z
 
   pub loaded-refused : ¬ (x .number ≡ 0) → loadedText (load sheet emptyStores) ≡ refusedLine x
@@ -28,6 +28,6 @@ module _ (sheet : List ℕ) {x : Answer} {a c k : List ℕ} (e : result x (store
   -- the rows of an accepted sheet can be listed
   pub loaded-shaped : Bytes sheet → x .number ≡ 0 → ClassesShaped c × (closureLength ≤ length k)
   loaded-shaped b z = (
-    subst (λ (r : Result). ClassesShaped (r .left .classes)) (sym e) (accepted-shaped sheet b (number-is ∙ z)),
-    omega (arith, ap (λ (r : Result). length (r .left .closure)) e, ap length (accepted-closure sheet b (number-is ∙ z)), closure-rows-length (classTable (rowsRead sheet .classes))),
+    subst (λ (r : Result). ClassesShaped (r .left .classes)) (sym e) (accepted-shaped sheet (number-is ∙ z) b),
+    omega (arith, ap (λ (r : Result). length (r .left .closure)) e, ap length (accepted-closure sheet (number-is ∙ z)), closure-rows-length (classesRead sheet)),
   )

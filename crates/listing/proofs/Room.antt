@@ -3,9 +3,9 @@ use mathlib.Core.Path.{_≡_, refl}
 use mathlib.Core.List.{List}
 use Prim.Native.Nat.{ℕ, _+_, _*_, _^_, _≤_, _<_}
 use native.Mathlib.Omega.{arith}
-use lib.ListN.{length, length-take, length-drop}
+use lib.ListN.{length}
 use Rattle.prelude.specs.Part.{part}
-use Rattle.prelude.specs.PartLaws.{part-bytes}
+use Rattle.prelude.specs.PartLaws.{part-bytes, part-short}
 use Rattle.prelude.specs.BigEndianLaws.{number-small}
 use Rattle.sets.specs.Sets.{member, memberCount}
 use Rattle.sets.specs.CountLaws.{count-le}
@@ -18,16 +18,12 @@ use Rattle.tables.specs.Shaped.{Bounded, ClassesShaped}
 use Rattle.formats.specs.ShapesLaws.{Bytes}
 use Rattle.listing.specs.Text.{ascii, decimal}
 use Rattle.listing.specs.TextLaws.{decimal-short}
-use Rattle.listing.specs.Listing.{mustCount, mayCount, arcText, identifierText, classLine, classLines, headLine, headLength, lineLength, refusedLine, textLength}
+use Rattle.listing.specs.Listing.{keptCount, keptCounts, arcText, identifierText, classLine, classLines, headLine, headLength, lineLength, refusedLine, textLength}
 use Rattle.prelude.specs.ConcatLaws.{concat-short}
 use Rattle.listing.proofs.Lines.{dot-short, class-length, refused-length}
 
-part-short : (at n : ℕ) (s : List ℕ) → length (part at n s) ≤ n
-unfolding part
-part-short at n s = simp (length-take, length-drop) (omega arith)
-
 name-short : (row : List ℕ) → nameLength row ≤ nameLimit → length (nameOf row) ≤ nameLimit
-name-short row h = omega (arith, part-short 1 (nameLength row) row)
+name-short row h = omega (arith, part-short 1 (nameLength row) row .0)
 
 arc-short : (row : List ℕ) (k : ℕ) → Bytes row → length (arcText row k) ≤ 11
 arc-short row k b = omega (arith, dot-short row k, decimal-short 9 (arcOf row k) (omega (arith, number-small row b 4 (identifierAt + 1 + arcWidth * k))))
@@ -37,38 +33,30 @@ unfolding identifierText
 identifier-short row b h = omega (arith, concat-short (arcText row) 11 (arcCount row) (λ k l. arc-short row k b))
 
 -- a set of attributes has at most three digits of members
-count-small : (at : ℕ) (s : List ℕ) → length (decimal (memberCount (part at attributeSet s))) ≤ 3
-unfolding memberCount
-count-small at s =
-    let set : List ℕ = part at attributeSet s in
-    decimal-short 2 _ (omega (arith, count-le (length set * 8) (member set), part-short at attributeSet s))
-
-must-short : (closure : List ℕ) (c : ℕ) → length (decimal (mustCount closure c)) ≤ 3
-unfolding mustCount
-must-short closure c = count-small demandedAt (closureAt closure c)
-
-may-short : (closure : List ℕ) (c : ℕ) → length (decimal (mayCount closure c)) ≤ 3
-unfolding mayCount
-may-short closure c = count-small allowedAt (closureAt closure c)
+count-short : (at : ℕ) (closure : List ℕ) (c : ℕ) → length (decimal (keptCount at closure c)) ≤ 3
+unfolding keptCount memberCount
+count-short at closure c =
+    let set : List ℕ = part at attributeSet (closureAt closure c) in
+    decimal-short 2 _ (omega (arith, count-le (length set * 8) (member set), part-short at attributeSet (closureAt closure c) .0))
 
 module _ (classes closure : List ℕ) (bytes : Bytes classes) (shaped : ClassesShaped classes) where
-  line-short : (c : ℕ) → c < classTable classes .count → length (classLine (classTable classes) closure c) ≤ lineLength
+  line-short : (c : ℕ) → c < classTable classes .count → length (classLine (keptCounts closure) (classTable classes) c) ≤ lineLength
   line-short c l =
       let row : List ℕ = classTable classes .row c in
       let bounded : Bounded row = shaped .bounded c l in
       omega (
         arith,
-        class-length (classTable classes) closure c,
+        class-length (keptCounts closure) (classTable classes) c,
         decimal-short 2 c (omega (arith, shaped .count)),
         name-short row (bounded .name),
         identifier-short row (part-bytes (rowsAt + classWidth * c) classWidth classes bytes) (bounded .arcs),
-        must-short closure c,
-        may-short closure c,
+        count-short demandedAt closure c,
+        count-short allowedAt closure c,
       )
 
-  pub lines-short : length (classLines (classTable classes) closure) ≤ lineLength * classLimit
+  pub lines-short : length (classLines (keptCounts closure) (classTable classes)) ≤ lineLength * classLimit
   unfolding classLines
-  lines-short = omega (arith, concat-short (classLine (classTable classes) closure) lineLength (classTable classes .count) line-short, shaped .count)
+  lines-short = omega (arith, concat-short (classLine (keptCounts closure) (classTable classes)) lineLength (classTable classes .count) line-short, shaped .count)
 
 pub head-length : length headLine ≡ headLength
 unfolding headLine ascii

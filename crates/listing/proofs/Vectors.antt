@@ -8,7 +8,7 @@ use Rattle.sets.specs.Sets.{digit, bit, member, countBelow, memberCount}
 use Rattle.schema.specs.Store.{Table}
 use Rattle.prelude.specs.Concat.{concatBelow}
 use Rattle.listing.specs.Text.{ascii, digitsWithin, decimal, word, textLine}
-use Rattle.listing.specs.Listing.{mustCount, mayCount, arcText, identifierText, classLine, headLine, classLines, listing}
+use Rattle.listing.specs.Listing.{keptCount, keptCounts, arcText, identifierText, classLine, headLine, classLines, listing}
 
 -- numbers of one, two and ten digits
 numbers-right : decimal 0 ++ (decimal 10 ++ decimal 4294967295) ≡ ascii "0104294967295"
@@ -22,6 +22,6 @@ top = (3 ∷ padded 64 (ascii "top")) ++ (4 ∷ (bigEndianBytes 4 2 ++ (bigEndia
 abbrev one : Table
 one = record { count = 1; row = λ k. top }
 
-listing-right : listing one (zeros 80) ≡ ascii "no name oid must may\n0 top 2.5.6.0 0 0\n"
-unfolding top listing headLine classLines classLine textLine word identifierText arcText mustCount mayCount decimal digitsWithin ascii concatBelow memberCount countBelow member bit digit part zeros padded bigEndian bigEndianBytes
+listing-right : listing (keptCounts (zeros 80)) one ≡ ascii "no name oid must may\n0 top 2.5.6.0 0 0\n"
+unfolding top listing headLine classLines classLine textLine word identifierText arcText keptCount decimal digitsWithin ascii concatBelow memberCount countBelow member bit digit part zeros padded bigEndian bigEndianBytes
 listing-right = refl

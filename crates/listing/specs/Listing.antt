@@ -18,7 +18,7 @@ use Rattle.schema.specs.Layout.{nameLimit, arcLimit, attributeSet, demandedAt, 
 use Rattle.schema.specs.Row.{nameOf, arcCount, arcOf}
 use Rattle.schema.specs.Store.{Table, classTable, closureAt, Result}
 use Rattle.prelude.specs.Concat.{concatBelow}
-use Rattle.graph.specs.Graph.{demands, allows}
+use Rattle.graph.specs.Graph.{Collects, names, listsMandatory, listsOptional, demands, allows}
 use Rattle.tables.specs.Shaped.{Bounded}
 use Rattle.stores.specs.Filled.{emptyStores}
 use Rattle.keeper.specs.Load.{load}
@@ -26,12 +26,22 @@ use Rattle.listing.specs.Text.{ascii, decimal, textLine}
 
 -- ---- one class
 
--- "must", and "may": of class c, by the closure store
-unfoldable pub mustCount : List ℕ → ℕ → ℕ
-mustCount closure c = memberCount (part demandedAt attributeSet (closureAt closure c))
+-- "must" and "may" of each class
+pub record Counts : Type 0 where
+  pub must : ℕ → ℕ
+  pub may : ℕ → ℕ
 
-unfoldable pub mayCount : List ℕ → ℕ → ℕ
-mayCount closure c = memberCount (part allowedAt attributeSet (closureAt closure c))
+-- how many attributes the kept set of class c has that stands at a place of its row in the closure store
+unfoldable pub keptCount : ℕ → List ℕ → ℕ → ℕ
+keptCount at closure c = memberCount (part at attributeSet (closureAt closure c))
+
+-- "must" is the number "in the kept mandatory set", "may" that "in the optional one"
+abbrev pub keptCounts : List ℕ → Counts
+keptCounts closure = record { must = keptCount demandedAt closure; may = keptCount allowedAt closure }
+
+-- the same from the rows alone: of the sets as they are defined
+abbrev pub definedCounts : Table → Counts
+definedCounts t = record { must = λ c. countBelow attributeLimit (demands t c); may = λ c. countBelow attributeLimit (allows t c) }
 
 -- arc k of an object identifier, with a dot (46) before each but the first
 unfoldable pub arcText : List ℕ → ℕ → List ℕ
@@ -40,12 +50,9 @@ arcText row k = cond (eqb k 0) [] (46 ∷ []) ++ decimal (arcOf row k)
 unfoldable pub identifierText : List ℕ → List ℕ
 identifierText row = concatBelow (arcCount row) (arcText row)
 
--- "no name oid must may": class c by its row and the two counts
-abbrev pub lineOf : ℕ → List ℕ → ℕ → ℕ → List ℕ
-lineOf c row must may = textLine (decimal c ∷ nameOf row ∷ identifierText row ∷ decimal must ∷ decimal may ∷ [])
-
-unfoldable pub classLine : Table → List ℕ → ℕ → List ℕ
-classLine t closure c = lineOf c (t .row c) (mustCount closure c) (mayCount closure c)
+-- "no name oid must may": class c by its row and its counts
+unfoldable pub classLine : Counts → Table → ℕ → List ℕ
+classLine n t c = textLine (decimal c ∷ nameOf (t .row c) ∷ identifierText (t .row c) ∷ decimal (n .must c) ∷ decimal (n .may c) ∷ [])
 
 -- ---- the listing
 
@@ -53,11 +60,11 @@ unfoldable pub headLine : List ℕ
 headLine = ascii "no name oid must may\n"
 
 -- every class in the order of the numbers, "defunct too"
-unfoldable pub classLines : Table → List ℕ → List ℕ
-classLines t closure = concatBelow (t .count) (classLine t closure)
+unfoldable pub classLines : Counts → Table → List ℕ
+classLines n t = concatBelow (t .count) (classLine n t)
 
-unfoldable pub listing : Table → List ℕ → List ℕ
-listing t closure = headLine ++ classLines t closure
+unfoldable pub listing : Counts → Table → List ℕ
+listing n t = headLine ++ classLines n t
 
 -- ---- what the program prints
 
@@ -74,19 +81,13 @@ sheetLimit = 32768
 
 -- the listing of what a load left in the stores, or the line for its refusal
 unfoldable pub loadedText : Result → List ℕ
-loadedText r = cond (eqb (r .answer .number) 0) (listing (classTable (r .left .classes)) (r .left .closure)) (refusedLine (r .answer))
+loadedText r = cond (eqb (r .answer .number) 0) (listing (keptCounts (r .left .closure)) (classTable (r .left .classes))) (refusedLine (r .answer))
 
 -- the text for a sheet, loaded into empty stores: "Load never looks at what stood in the stores"
 unfoldable pub listed : List ℕ → List ℕ
 listed sheet = cond (ltb sheetLimit (length sheet)) tooLong (loadedText (load sheet emptyStores))
 
--- ---- the same, from the rows alone: the counts are those of the sets as they are defined
-
-unfoldable pub definedLine : Table → ℕ → List ℕ
-definedLine t c = lineOf c (t .row c) (countBelow attributeLimit (demands t c)) (countBelow attributeLimit (allows t c))
-
-unfoldable pub definedListing : Table → List ℕ
-definedListing t = headLine ++ concatBelow (t .count) (definedLine t)
+-- ---- the listing of a table, with quantifiers
 
 -- n is the number of those below the limit of which P holds: a list has each of them once, and no others, and is n long
 pub record CountOf (limit : ℕ) (P : ℕ → Type 0) (n : ℕ) : Type 0 where
@@ -94,6 +95,13 @@ pub record CountOf (limit : ℕ) (P : ℕ → Type 0) (n : ℕ) : Type 0 where
   pub rises : Rises 0 members
   pub has : (b : ℕ) → List·Memᴰ b members ↔ ((b < limit) × P b)
   pub count : n ≡ length members
+
+-- text is the listing of a table: in the line of each class stand the numbers of attributes that some class reached lists as mandatory and as optional
+pub record ListingOf (t : Table) (text : List ℕ) : Type 0 where
+  pub counts : Counts
+  pub demanded : (c : ℕ) → CountOf attributeLimit (Collects (t .count) (names t) (listsMandatory t) c) (counts .must c)
+  pub allowed : (c : ℕ) → CountOf attributeLimit (Collects (t .count) (names t) (listsOptional t) c) (counts .may c)
+  pub is : text ≡ listing counts t
 
 -- ---- what the code asks
 

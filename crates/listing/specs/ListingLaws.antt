@@ -1,7 +1,6 @@
--- What the program prints, case by case, and what the counts are.
+-- What the program prints, case by case. Theorems for a reader: `listed-long` for a sheet that is too long, `refused-text` for one that is refused,
+-- `accepted-text` and `accepted-listing` for one that is accepted: its listing, and what the counts in it are. The other laws serve the proofs.
 use mathlib.Core.Path.{_≡_, refl, sym, ap, ap₂, _∙_}
-use mathlib.Core.Bool.{false}
-use mathlib.Core.Logic.{⊎-elim}
 use mathlib.Core.List.{List, _++_}
 use Prim.Native.Nat.{ℕ, zero, suc, _≤_, _<_}
 use native.Mathlib.Omega.{arith}
@@ -14,19 +13,19 @@ use Rattle.prelude.specs.PartLaws.{zeros-length}
 use Rattle.schema.specs.declared.answer.Answer.{Answer}
 use Rattle.schema.specs.Numbers.{classLimit}
 use Rattle.schema.specs.Layout.{attributesLength, classesLength, closureLength}
-use Rattle.schema.specs.Store.{Table, classTable, closureAt, Stores, Result, anyShort}
-use Rattle.schema.specs.StoreLaws.{says-short}
+use Rattle.schema.specs.Store.{Table, classTable, closureAt, Stores, Result, LongEnough}
 use Rattle.formats.specs.ShapesLaws.{Bytes}
 use Rattle.tables.specs.Shaped.{ClassesShaped}
 use Rattle.prelude.specs.Concat.{concatBelow}
 use Rattle.graph.specs.Graph.{closureRow, closureRows}
 use Rattle.sheet.specs.Reading.{SheetOut}
 use Rattle.keeper.specs.Load.{reading, readAnswer, filled, loaded, load}
-use Rattle.keeper.specs.LoadLaws.{reading-shaped}
+use Rattle.keeper.specs.AnsweringLaws.{not-short}
+use Rattle.keeper.specs.LoadLaws.{reading-shaped, load-long, load-accepted}
 use Rattle.stores.specs.Filled.{emptyStores}
-use Rattle.listing.specs.Listing.{classLine, classLines, headLine, listing, refusedLine, tooLong, sheetLimit, loadedText, listed, definedLine, definedListing}
+use Rattle.listing.specs.Listing.{keptCounts, definedCounts, classLine, classLines, headLine, listing, refusedLine, tooLong, sheetLimit, loadedText, listed, ListingOf}
 use Rattle.graph.specs.FreshLaws.{closure-rows-length, closure-rows-at}
-use Rattle.listing.specs.CountsLaws.{must-members, may-members}
+use Rattle.listing.specs.CountsLaws.{must-members, may-members, demanded-count, allowed-count}
 
 -- ---- the text for a sheet
 
@@ -38,7 +37,7 @@ pub listed-loaded : (sheet : List ℕ) → length sheet ≤ sheetLimit → liste
 unfolding listed
 listed-loaded sheet l = rw (le-ltb sheetLimit (length sheet) l)
 
-pub text-accepted : (r : Result) → r .answer .number ≡ 0 → loadedText r ≡ listing (classTable (r .left .classes)) (r .left .closure)
+pub text-accepted : (r : Result) → r .answer .number ≡ 0 → loadedText r ≡ listing (keptCounts (r .left .closure)) (classTable (r .left .classes))
 unfolding loadedText
 text-accepted r e = rw (eq-eqb (r .answer .number) 0 e)
 
@@ -49,32 +48,27 @@ text-refused r d = rw (says-false (says-eq (r .answer .number) 0) d)
 -- ---- the listing of a closure that is that of the rows
 
 module _ (t : Table) (closure : List ℕ) (few : t .count ≤ classLimit) (fresh : (c : ℕ) → c < classLimit → closureAt closure c ≡ closureRow t c) where
-  line-defined : (c : ℕ) → c < classLimit → classLine t closure c ≡ definedLine t c
-  unfolding classLine definedLine
+  line-defined : (c : ℕ) → c < classLimit → classLine (keptCounts closure) t c ≡ classLine (definedCounts t) t c
+  unfolding classLine
   line-defined c l = rw (must-members t closure c (fresh c l), may-members t closure c (fresh c l))
 
-  lines-defined : (n : ℕ) → n ≤ classLimit → concatBelow n (classLine t closure) ≡ concatBelow n (definedLine t)
+  lines-defined : (n : ℕ) → n ≤ classLimit → concatBelow n (classLine (keptCounts closure) t) ≡ concatBelow n (classLine (definedCounts t) t)
   unfolding concatBelow
   lines-defined zero l = refl
   lines-defined (suc n) l = ap₂ (λ (x y : List ℕ). x ++ y) (lines-defined n (omega arith)) (line-defined n (omega arith))
 
-  pub listing-defined : listing t closure ≡ definedListing t
-  unfolding listing classLines definedListing
+  listing-defined : listing (keptCounts closure) t ≡ listing (definedCounts t) t
+  unfolding listing classLines
   listing-defined = ap (λ (x : List ℕ). headLine ++ x) (lines-defined (t .count) few)
 
--- ---- a load into the program's stores
+-- ---- a load into empty stores
 
-emptyStores-long : anyShort emptyStores ≡ false
-emptyStores-long = says-false (says-short emptyStores) (⊎-elim attributes-short (⊎-elim classes-short closure-short))
-  where
-    attributes-short : length (emptyStores .attributes) < attributesLength → ⊥
-    attributes-short l = omega (arith, l, zeros-length attributesLength)
-
-    classes-short : length (emptyStores .classes) < classesLength → ⊥
-    classes-short l = omega (arith, l, zeros-length classesLength)
-
-    closure-short : length (emptyStores .closure) < closureLength → ⊥
-    closure-short l = omega (arith, l, zeros-length closureLength)
+empty-long : LongEnough emptyStores
+empty-long = record {
+  attributes = omega (arith, zeros-length attributesLength);
+  classes = omega (arith, zeros-length classesLength);
+  closure = omega (arith, zeros-length closureLength);
+}
 
 all-written : (new : List ℕ) → length new ≡ closureLength → splice 0 new (emptyStores .closure) ≡ new
 all-written new e = splice-all new (zeros closureLength) (zeros-length closureLength ∙ sym e)
@@ -84,48 +78,45 @@ module _ (sheet : List ℕ) where
   abbrev pub rowsRead : SheetOut
   rowsRead = reading sheet (emptyStores .attributes) (emptyStores .classes)
 
-  load-emptyStores : load sheet emptyStores ≡ loaded rowsRead emptyStores
-  unfolding load
-  load-emptyStores = rw emptyStores-long
+  -- the classes among it
+  abbrev pub classesRead : Table
+  classesRead = classTable (rowsRead .classes)
 
-  pub load-answer : load sheet emptyStores .answer ≡ readAnswer rowsRead
+  read-answer : load sheet emptyStores .answer ≡ readAnswer rowsRead
   unfolding loaded
-  load-answer = ap (λ (r : Result). r .answer) load-emptyStores
+  read-answer = ap (λ (r : Result). r .answer) (load-long sheet emptyStores (not-short emptyStores empty-long))
 
-  load-left : readAnswer rowsRead .number ≡ 0 → load sheet emptyStores .left ≡ filled rowsRead emptyStores
-  unfolding loaded
-  load-left z = ap (λ (r : Result). r .left) load-emptyStores ∙ rw (eq-eqb (readAnswer rowsRead .number) 0 z)
+  module _ (accepted : load sheet emptyStores .answer .number ≡ 0) where
+    accepted-stores : load sheet emptyStores .left ≡ filled rowsRead emptyStores
+    accepted-stores =
+        let z : readAnswer rowsRead .number ≡ 0 = sym (ap (λ (a : Answer). a .number) read-answer) ∙ accepted in
+        ap (λ (r : Result). r .left) (load-accepted sheet emptyStores (not-short emptyStores empty-long) z)
 
-  module _ (bytes : Bytes sheet) (accepted : load sheet emptyStores .answer .number ≡ 0) where
-    zero-read : readAnswer rowsRead .number ≡ 0
-    zero-read = sym (ap (λ (a : Answer). a .number) load-answer) ∙ accepted
-
-    pub accepted-classes : load sheet emptyStores .left .classes ≡ rowsRead .classes
+    accepted-classes : load sheet emptyStores .left .classes ≡ rowsRead .classes
     unfolding filled
-    accepted-classes = ap (λ (s : Stores). s .classes) (load-left zero-read)
+    accepted-classes = ap (λ (s : Stores). s .classes) accepted-stores
 
-    pub accepted-closure : load sheet emptyStores .left .closure ≡ closureRows (classTable (rowsRead .classes))
+    pub accepted-closure : load sheet emptyStores .left .closure ≡ closureRows classesRead
     unfolding filled
-    accepted-closure = ap (λ (s : Stores). s .closure) (load-left zero-read) ∙ all-written (closureRows (classTable (rowsRead .classes))) (closure-rows-length (classTable (rowsRead .classes)))
+    accepted-closure = ap (λ (s : Stores). s .closure) accepted-stores ∙ all-written (closureRows classesRead) (closure-rows-length classesRead)
 
-    rows-shaped : ClassesShaped (rowsRead .classes)
-    rows-shaped = reading-shaped sheet (emptyStores .attributes) (emptyStores .classes) bytes attributes classes .classes
-      where
-        attributes : attributesLength ≤ length (emptyStores .attributes)
-        attributes = omega (arith, zeros-length attributesLength)
+    module _ (bytes : Bytes sheet) where
+      rows-shaped : ClassesShaped (rowsRead .classes)
+      rows-shaped = reading-shaped sheet (emptyStores .attributes) (emptyStores .classes) bytes (empty-long .attributes) (empty-long .classes) .classes
 
-        classes : classesLength ≤ length (emptyStores .classes)
-        classes = omega (arith, zeros-length classesLength)
+      pub accepted-shaped : ClassesShaped (load sheet emptyStores .left .classes)
+      accepted-shaped = rw accepted-classes rows-shaped
 
-    pub accepted-shaped : ClassesShaped (load sheet emptyStores .left .classes)
-    accepted-shaped = rw accepted-classes rows-shaped
+      -- an accepted sheet: the listing of its rows, with the counts of the sets as they are defined
+      pub accepted-text : length sheet ≤ sheetLimit → listed sheet ≡ listing (definedCounts classesRead) classesRead
+      accepted-text l =
+          listed-loaded sheet l ∙ text-accepted (load sheet emptyStores) accepted ∙ ap₂ (λ (x y : List ℕ). listing (keptCounts x) (classTable y)) accepted-closure accepted-classes
+          ∙ listing-defined classesRead (closureRows classesRead) (rows-shaped .count) (closure-rows-at classesRead)
 
-    -- an accepted sheet: the listing of its rows, with counts of the sets as they are defined
-    pub accepted-text : length sheet ≤ sheetLimit → listed sheet ≡ definedListing (classTable (rowsRead .classes))
-    accepted-text l =
-        listed-loaded sheet l ∙ text-accepted (load sheet emptyStores) accepted ∙ ap₂ (λ (x y : List ℕ). listing (classTable x) y) accepted-classes accepted-closure
-        ∙ listing-defined (classTable (rowsRead .classes)) (closureRows (classTable (rowsRead .classes))) (rows-shaped .count) (closure-rows-at (classTable (rowsRead .classes)))
+      -- in each of its lines stand the numbers of attributes that the classes reached list
+      pub accepted-listing : length sheet ≤ sheetLimit → ListingOf classesRead (listed sheet)
+      accepted-listing l = record { counts = definedCounts classesRead; demanded = demanded-count classesRead; allowed = allowed-count classesRead; is = accepted-text l }
 
   -- a refused one: its line
   pub refused-text : length sheet ≤ sheetLimit → ¬ (load sheet emptyStores .answer .number ≡ 0) → listed sheet ≡ refusedLine (readAnswer rowsRead)
-  refused-text l d = listed-loaded sheet l ∙ text-refused (load sheet emptyStores) d ∙ ap refusedLine load-answer
+  refused-text l d = listed-loaded sheet l ∙ text-refused (load sheet emptyStores) d ∙ ap refusedLine read-answer

@@ -46,7 +46,7 @@ textLine (v ∷ w ∷ ws) = word v 32 ++ textLine (w ∷ ws)
 
 -- ---- what the code leaves
 
--- text was written at a place: the place after it, and every byte of the output
-pub record Written (text : List ℕ) (at next : ℕ) (before after : List ℕ) : Type 0 where
+-- text stands at a place, and nothing else has changed: the place after it, and every byte of the output
+pub record TextAt (text : List ℕ) (at next : ℕ) (before after : List ℕ) : Type 0 where
   pub place : next ≡ at + length text
   pub bytes : after ≡ splice at text before

@@ -1,4 +1,5 @@
--- What the decimal digits of a number are, how long they are, and text written piece by piece.
+-- What the decimal digits of a number are, how long they are, and text written piece by piece. Theorems for a reader: `decimal-value`, `decimal-digit`,
+-- `decimal-first`. The other laws serve the proofs.
 use mathlib.Core.Path.{_≡_, refl, sym, ap, _∙_}
 use mathlib.Core.List.{List, [], _∷_, _++_}
 use Prim.Native.Nat.{ℕ, zero, suc, _+_, _-_, _*_, _/_, _%_, _^_, _≤_, _<_}
@@ -11,7 +12,7 @@ use lib.Seq.{getD-at}
 use borrow.Author.Tests.{lt-ltb, le-ltb}
 use Rattle.prelude.specs.Part.{splice}
 use Rattle.prelude.specs.SpliceLaws.{splice-length, splice-none, write-turn}
-use Rattle.listing.specs.Text.{digitsWithin, decimal, value, word, Written}
+use Rattle.listing.specs.Text.{digitsWithin, decimal, value, word, TextAt}
 
 -- ---- one digit, and the digits before the last
 
@@ -152,22 +153,22 @@ word-length v behind = length-append v (behind ∷ [])
 -- ---- text written piece by piece
 
 module _ {at : ℕ} {before : List ℕ} where
-  pub written-length : {text after : List ℕ} {next : ℕ} → at + length text ≤ length before → Written text at next before after → length after ≡ length before
+  pub written-length : {text after : List ℕ} {next : ℕ} → at + length text ≤ length before → TextAt text at next before after → length after ≡ length before
   written-length {text = text} h w = ap length (w .bytes) ∙ splice-length at text before h
 
-  pub written-as : {u v after : List ℕ} {next : ℕ} → v ≡ u → Written u at next before after → Written v at next before after
+  pub written-as : {u v after : List ℕ} {next : ℕ} → v ≡ u → TextAt u at next before after → TextAt v at next before after
   written-as e w = rw e w
 
-  pub written-none : Written [] at at before before
+  pub written-none : TextAt [] at at before before
   written-none = record { place = sym (add-zero at); bytes = sym (splice-none at before) }
 
-  pub written-then : {u v mid after : List ℕ} {place next : ℕ} → at + length u ≤ length before → Written u at place before mid → Written v place next mid after → Written (u ++ v) at next before after
+  pub written-then : {u v mid after : List ℕ} {place next : ℕ} → at + length u ≤ length before → TextAt u at place before mid → TextAt v place next mid after → TextAt (u ++ v) at next before after
   written-then {u = u} {v = v} h p q = record {
     place = omega (arith, p .place, q .place, length-append u v);
     bytes = q .bytes ∙ write-turn at _ u v before _ h (p .place) (p .bytes);
   }
 
 -- text at the front lies within what was left
-pub written-within : {text before after : List ℕ} {next : ℕ} → Written text 0 next before after → next ≤ length after
+pub written-within : {text before after : List ℕ} {next : ℕ} → TextAt text 0 next before after → next ≤ length after
 unfolding splice
 written-within {text = text} {before = before} w = omega (arith, w .place, ap length (w .bytes), length-append text (drop (0 + length text) before))

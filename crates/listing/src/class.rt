@@ -21,33 +21,25 @@ ghost use mathlib.Core.Path.{_≡_};
 ghost use Prim.Native.Nat.{_+_, _≤_, _<_};
 ghost use lib.ListN.{length};
 ghost use Rattle.schema.specs.Numbers.{classLimit};
-ghost use Rattle.schema.specs.Layout.{commonWidth, arcLimit, classesLength, closureLength};
+ghost use Rattle.schema.specs.Layout.{commonWidth, arcLimit, attributeSet, closureWidth, closureLength};
 ghost use Rattle.schema.specs.Row.{arcCount};
 ghost use Rattle.schema.specs.Store.{classTable};
 ghost use Rattle.tables.specs.Shaped.{ClassesShaped};
-ghost use Rattle.listing.specs.Text.{Written};
-ghost use Rattle.listing.specs.Listing.{mustCount, mayCount, arcText, identifierText, classLine, classLines, ListedClass};
+ghost use Rattle.listing.specs.Text.{TextAt};
+ghost use Rattle.listing.specs.Listing.{keptCount, keptCounts, arcText, identifierText, classLine, classLines, ListedClass};
 
-// How many attributes the kept mandatory set of a class has.
-pub fn must(closure: &[u8], c: ClassNumber) -> usize
-    requires { ⌜ (closureLength ≤ length (now closure)) × (c .0 < classLimit) ⌝ }
-    ensures { λ r. ⌜ r ≡ mustCount (now (closure .entry)) (c .0) ⌝ }
+// How many attributes a kept set of a class has: the mandatory one at DEMANDED, the optional one at ALLOWED.
+fn kept_count(closure: &[u8], c: ClassNumber, at: usize) -> usize
+    requires { ⌜ (closureLength ≤ length (now closure)) × (c .0 < classLimit) × (at + attributeSet ≤ closureWidth) ⌝ }
+    ensures { λ r. ⌜ r ≡ keptCount at (now (closure .entry)) (c .0) ⌝ }
 {
-    count(part_of(closure_row(closure, c), DEMANDED, ATTRIBUTE_SET))
-}
-
-// How many the optional one has.
-pub fn may(closure: &[u8], c: ClassNumber) -> usize
-    requires { ⌜ (closureLength ≤ length (now closure)) × (c .0 < classLimit) ⌝ }
-    ensures { λ r. ⌜ r ≡ mayCount (now (closure .entry)) (c .0) ⌝ }
-{
-    count(part_of(closure_row(closure, c), ALLOWED, ATTRIBUTE_SET))
+    count(part_of(closure_row(closure, c), at, ATTRIBUTE_SET))
 }
 
 // Writes arc k of an object identifier, with a dot before each but the first.
 fn put_arc(row: &[u8], k: usize, out: &mut [u8], at: usize) -> usize
     requires { ⌜ (commonWidth ≤ length (now row)) × (k < arcLimit) × (at + length (arcText (now row) k) ≤ length (now out)) ⌝ }
-    ensures { λ r. ⌜ Written (arcText (now (row .entry)) k) at r (now (out .entry)) (now (out .exit)) ⌝ }
+    ensures { λ r. ⌜ TextAt (arcText (now (row .entry)) k) at r (now (out .entry)) (now (out .exit)) ⌝ }
 {
     let number = arc(row, k) as usize;
     if k == 0 {
@@ -60,7 +52,7 @@ fn put_arc(row: &[u8], k: usize, out: &mut [u8], at: usize) -> usize
 // Writes an object identifier.
 fn put_identifier(row: &[u8], out: &mut [u8], at: usize) -> usize
     requires { ⌜ (commonWidth ≤ length (now row)) × (arcCount (now row) ≤ arcLimit) × (at + length (identifierText (now row)) ≤ length (now out)) ⌝ }
-    ensures { λ r. ⌜ Written (identifierText (now (row .entry))) at r (now (out .entry)) (now (out .exit)) ⌝ }
+    ensures { λ r. ⌜ TextAt (identifierText (now (row .entry))) at r (now (out .entry)) (now (out .exit)) ⌝ }
 {
     let n = arc_count(row);
     let mut next = at;
@@ -74,22 +66,22 @@ fn put_identifier(row: &[u8], out: &mut [u8], at: usize) -> usize
 
 // Writes the line of one class.
 fn put_class(classes: &[u8], closure: &[u8], c: ClassNumber, out: &mut [u8], at: usize) -> usize
-    requires { ⌜ ListedClass (now classes) (now closure) (c .0) × (at + length (classLine (classTable (now classes)) (now closure) (c .0)) ≤ length (now out)) ⌝ }
-    ensures { λ r. ⌜ Written (classLine (classTable (now (classes .entry))) (now (closure .entry)) (c .0)) at r (now (out .entry)) (now (out .exit)) ⌝ }
+    requires { ⌜ ListedClass (now classes) (now closure) (c .0) × (at + length (classLine (keptCounts (now closure)) (classTable (now classes)) (c .0)) ≤ length (now out)) ⌝ }
+    ensures { λ r. ⌜ TextAt (classLine (keptCounts (now (closure .entry))) (classTable (now (classes .entry))) (c .0)) at r (now (out .entry)) (now (out .exit)) ⌝ }
 {
     let row = class_row(classes, c);
     let named = put_number(c.0, SPACE, out, at);
     let identified = put_word(name(row), SPACE, out, named);
     let behind = put_identifier(row, out, identified);
     let counted = put_byte(SPACE, out, behind);
-    let last = put_number(must(closure, c), SPACE, out, counted);
-    put_number(may(closure, c), LINE_FEED, out, last)
+    let last = put_number(kept_count(closure, c, DEMANDED), SPACE, out, counted);
+    put_number(kept_count(closure, c, ALLOWED), LINE_FEED, out, last)
 }
 
 // Writes the lines of all classes, defunct too.
 pub fn put_classes(classes: &[u8], closure: &[u8], out: &mut [u8], at: usize) -> usize
-    requires { ⌜ ClassesShaped (now classes) × (closureLength ≤ length (now closure)) × (at + length (classLines (classTable (now classes)) (now closure)) ≤ length (now out)) ⌝ }
-    ensures { λ r. ⌜ Written (classLines (classTable (now (classes .entry))) (now (closure .entry))) at r (now (out .entry)) (now (out .exit)) ⌝ }
+    requires { ⌜ ClassesShaped (now classes) × (closureLength ≤ length (now closure)) × (at + length (classLines (keptCounts (now closure)) (classTable (now classes))) ≤ length (now out)) ⌝ }
+    ensures { λ r. ⌜ TextAt (classLines (keptCounts (now (closure .entry))) (classTable (now (classes .entry)))) at r (now (out .entry)) (now (out .exit)) ⌝ }
 {
     let n = class_count(classes);
     let mut next = at;

@@ -19,9 +19,9 @@ ghost use Rattle.schema.specs.Layout.{closureLength};
 ghost use Rattle.schema.specs.Store.{classTable};
 ghost use Rattle.tables.specs.Shaped.{ClassesShaped};
 ghost use Rattle.keeper.specs.Load.{load};
-ghost use Rattle.listing.specs.Text.{Written};
+ghost use Rattle.listing.specs.Text.{TextAt};
 ghost use Rattle.stores.specs.Filled.{emptyStores};
-ghost use Rattle.listing.specs.Listing.{listing, refusedLine, textLength, loadedText, listed};
+ghost use Rattle.listing.specs.Listing.{keptCounts, listing, refusedLine, textLength, loadedText, listed};
 
 // "at most 32,768 bytes"
 pub const SHEET_LIMIT: usize = 32768;
@@ -37,7 +37,7 @@ pub const TEXT_LENGTH: usize = HEAD + LINE * ClassNumber::LIMIT;
 // Writes the listing to the front of out, and gives its length.
 fn put_listing(classes: &[u8], closure: &[u8], out: &mut [u8]) -> usize
     requires { ⌜ ClassesShaped (now classes) × (closureLength ≤ length (now closure)) × (textLength ≤ length (now out)) ⌝ }
-    ensures { λ r. ⌜ Written (listing (classTable (now (classes .entry))) (now (closure .entry))) 0 r (now (out .entry)) (now (out .exit)) ⌝ }
+    ensures { λ r. ⌜ TextAt (listing (keptCounts (now (closure .entry))) (classTable (now (classes .entry)))) 0 r (now (out .entry)) (now (out .exit)) ⌝ }
 {
     let next = put_bytes(b"no name oid must may\n", out, 0);
     put_classes(classes, closure, out, next)
@@ -46,7 +46,7 @@ fn put_listing(classes: &[u8], closure: &[u8], out: &mut [u8]) -> usize
 // Writes the line for a refusal to the front of out, and gives its length.
 fn put_refused(answer: Answer, out: &mut [u8]) -> usize
     requires { ⌜ textLength ≤ length (now out) ⌝ }
-    ensures { λ r. ⌜ Written (refusedLine answer) 0 r (now (out .entry)) (now (out .exit)) ⌝ }
+    ensures { λ r. ⌜ TextAt (refusedLine answer) 0 r (now (out .entry)) (now (out .exit)) ⌝ }
 {
     let first = put_word(b"refused", SPACE, out, 0);
     let second = put_number(answer.number as usize, SPACE, out, first);
@@ -57,7 +57,7 @@ fn put_refused(answer: Answer, out: &mut [u8]) -> usize
 // Loads a sheet into stores of its own, and writes what came of it.
 fn list_loaded(sheet: &[u8], out: &mut [u8]) -> usize
     requires { ⌜ textLength ≤ length (now out) ⌝ }
-    ensures { λ r. ⌜ Written (loadedText (load (now (sheet .entry)) emptyStores)) 0 r (now (out .entry)) (now (out .exit)) ⌝ }
+    ensures { λ r. ⌜ TextAt (loadedText (load (now (sheet .entry)) emptyStores)) 0 r (now (out .entry)) (now (out .exit)) ⌝ }
 {
     let mut attributes = [0u8; ATTRIBUTES_LENGTH];
     let mut classes = [0u8; CLASSES_LENGTH];
@@ -71,7 +71,7 @@ fn list_loaded(sheet: &[u8], out: &mut [u8]) -> usize
 
 // Writes the text for a sheet to the front of out, and gives its length.
 pub fn list(sheet: &[u8], out: &mut [u8; TEXT_LENGTH]) -> usize
-    ensures { λ r. ⌜ Written (listed (now (sheet .entry))) 0 r (now (out .entry)) (now (out .exit)) ⌝ }
+    ensures { λ r. ⌜ TextAt (listed (now (sheet .entry))) 0 r (now (out .entry)) (now (out .exit)) ⌝ }
 {
     if sheet.len() > SHEET_LIMIT {
         return put_bytes(b"too long\n", out, 0);

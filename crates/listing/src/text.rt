@@ -2,7 +2,7 @@
 ghost use mathlib.Core.List.{[], _∷_};
 ghost use Prim.Native.Nat.{_+_, _≤_, _<_};
 ghost use lib.ListN.{length};
-ghost use Rattle.listing.specs.Text.{decimal, word, Written};
+ghost use Rattle.listing.specs.Text.{decimal, word, TextAt};
 
 pub const SPACE: u8 = 32;
 
@@ -11,7 +11,7 @@ pub const LINE_FEED: u8 = 10;
 // Writes one byte.
 pub fn put_byte(b: u8, out: &mut [u8], at: usize) -> usize
     requires { ⌜ at < length (now out) ⌝ }
-    ensures { λ r. ⌜ Written (b ∷ []) at r (now (out .entry)) (now (out .exit)) ⌝ }
+    ensures { λ r. ⌜ TextAt (b ∷ []) at r (now (out .entry)) (now (out .exit)) ⌝ }
 {
     out[at] = b;
     at + 1
@@ -20,7 +20,7 @@ pub fn put_byte(b: u8, out: &mut [u8], at: usize) -> usize
 // Writes bytes.
 pub fn put_bytes(v: &[u8], out: &mut [u8], at: usize) -> usize
     requires { ⌜ at + length (now v) ≤ length (now out) ⌝ }
-    ensures { λ r. ⌜ Written (now (v .entry)) at r (now (out .entry)) (now (out .exit)) ⌝ }
+    ensures { λ r. ⌜ TextAt (now (v .entry)) at r (now (out .entry)) (now (out .exit)) ⌝ }
 {
     let n = bytes::copy(v, &mut out[at..]);
     at + n
@@ -29,7 +29,7 @@ pub fn put_bytes(v: &[u8], out: &mut [u8], at: usize) -> usize
 // Writes a number in decimal: the digits before the last by a call of itself, which ends since the number falls.
 pub fn put_decimal(n: usize, out: &mut [u8], at: usize) -> usize
     requires { ⌜ at + length (decimal n) ≤ length (now out) ⌝ }
-    ensures { λ r. ⌜ Written (decimal n) at r (now (out .entry)) (now (out .exit)) ⌝ }
+    ensures { λ r. ⌜ TextAt (decimal n) at r (now (out .entry)) (now (out .exit)) ⌝ }
 {
     let last = b'0' + (n % 10) as u8;
     if n < 10 {
@@ -42,7 +42,7 @@ pub fn put_decimal(n: usize, out: &mut [u8], at: usize) -> usize
 // Writes a word and the byte behind it.
 pub fn put_word(v: &[u8], behind: u8, out: &mut [u8], at: usize) -> usize
     requires { ⌜ at + length (word (now v) behind) ≤ length (now out) ⌝ }
-    ensures { λ r. ⌜ Written (word (now (v .entry)) behind) at r (now (out .entry)) (now (out .exit)) ⌝ }
+    ensures { λ r. ⌜ TextAt (word (now (v .entry)) behind) at r (now (out .entry)) (now (out .exit)) ⌝ }
 {
     let next = put_bytes(v, out, at);
     put_byte(behind, out, next)
@@ -51,7 +51,7 @@ pub fn put_word(v: &[u8], behind: u8, out: &mut [u8], at: usize) -> usize
 // Writes a number and the byte behind it.
 pub fn put_number(n: usize, behind: u8, out: &mut [u8], at: usize) -> usize
     requires { ⌜ at + length (word (decimal n) behind) ≤ length (now out) ⌝ }
-    ensures { λ r. ⌜ Written (word (decimal n) behind) at r (now (out .entry)) (now (out .exit)) ⌝ }
+    ensures { λ r. ⌜ TextAt (word (decimal n) behind) at r (now (out .entry)) (now (out .exit)) ⌝ }
 {
     let next = put_decimal(n, out, at);
     put_byte(behind, out, next)

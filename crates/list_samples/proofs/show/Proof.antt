@@ -1,18 +1,9 @@
 use mathlib.Core.Path.{sym}
 use lib.Seq.{length-take-le}
 use Rattle.listing.specs.TextLaws.{written-within}
-use native.Mathlib.Omega.{arith}
 use borrow.Author.Needs.{needs}
 use Rattle.list_samples.proofs.show.Statement.{statement}
 use Rattle.list_samples.proofs.show.Tie as tie
-use Rattle.list_samples.proofs.show.Reads as reads
-use Rattle.list_samples.proofs.show.Lts as lts
-use Rattle.io.proofs.read_full.Reads as read-full-reads
-use Rattle.io.proofs.write_all.Reads as write-all-reads
-use Rattle.libc.proofs.close.Reads as close-reads
-use Rattle.listing.proofs.list.list.Reads as list-reads
-use Rattle.os.proofs.fail.Reads as fail-reads
-use Rattle.os.proofs.open_read.Reads as open-read-reads
 
 open-read-requires : tie.Need-open-read-requires
 open-read-requires c κs = search needs

@@ -5,23 +5,23 @@ use lib.ListN.{length}
 use Rattle.prelude.specs.Concat.{concatBelow}
 use Rattle.schema.specs.Store.{classTable}
 use Rattle.listing.specs.TextLaws.{written-as}
-use Rattle.listing.specs.Listing.{classLine, classLines}
+use Rattle.listing.specs.Listing.{keptCounts, classLine, classLines}
 use Rattle.listing.proofs.Each.{Writing, writing-none, writing-room, writing-more, writing-length, writing-done}
 use native.Mathlib.Omega.{arith}
 use Rattle.listing.proofs.class.put_classes.Statement.{statement}
 use Rattle.listing.proofs.class.put_classes.Tie as tie
 
 -- by the count that was read
-lines : (classes closure : List ℕ) {n : ℕ} → n ≡ classTable classes .count → classLines (classTable classes) closure ≡ concatBelow n (classLine (classTable classes) closure)
+lines : (classes closure : List ℕ) {n : ℕ} → n ≡ classTable classes .count → classLines (keptCounts closure) (classTable classes) ≡ concatBelow n (classLine (keptCounts closure) (classTable classes))
 unfolding classLines
 lines classes closure e = rw e
 
-room : (classes closure : List ℕ) (at : ℕ) (out : List ℕ) {n : ℕ} → n ≡ classTable classes .count → at + length (classLines (classTable classes) closure) ≤ length out
-    → at + length (concatBelow n (classLine (classTable classes) closure)) ≤ length out
+room : (classes closure : List ℕ) (at : ℕ) (out : List ℕ) {n : ℕ} → n ≡ classTable classes .count → at + length (classLines (keptCounts closure) (classTable classes)) ≤ length out
+    → at + length (concatBelow n (classLine (keptCounts closure) (classTable classes))) ≤ length out
 room classes closure at out e h = rw (lines classes closure e) at h
 
 abbrev Inv-loop : tie.InvT-loop
-Inv-loop classes closure out₀ at n next₀ c₀ out next c = Writing (classLine (classTable classes) closure) n at out₀ out next c
+Inv-loop classes closure out₀ at n next₀ c₀ out next c = Writing (classLine (keptCounts closure) (classTable classes)) n at out₀ out next c
 
 abbrev μ-loop : tie.MeasureT-loop
 μ-loop classes closure out₀ at n next₀ c₀ out next c = n - c

@@ -1,5 +1,4 @@
 use Rattle.prelude.specs.Part.{zeros}
-use Rattle.listing.specs.Listing.{}
 use Rattle.listing.specs.TextLaws.{written-as}
 use Rattle.listing.proofs.Loaded.{loaded-listing, loaded-refused, loaded-shaped}
 use borrow.Author.Needs.{needs}
