@@ -7,3 +7,4 @@ pub mod CallLaws
 pub mod Alike
 pub mod AlikeLaws
 pub mod FrontLaws
+pub mod BytesLaws

@@ -8,3 +8,4 @@ pub mod RulesLaws
 pub mod Formats
 pub mod FormatsLaws
 pub mod ShortLaws
+pub mod BytesLaws

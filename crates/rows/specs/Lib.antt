@@ -9,3 +9,4 @@ pub mod WellFormed
 pub mod WellFormedLaws
 pub mod FormedLaws
 pub mod RoundTripLaws
+pub mod BytesLaws

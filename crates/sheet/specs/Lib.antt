@@ -3,3 +3,4 @@ pub mod Reading
 pub mod ReadingLaws
 pub mod RowWidthLaws
 pub mod FrontLaws
+pub mod BytesLaws
