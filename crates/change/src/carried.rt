@@ -8,12 +8,15 @@ use formats::table::TARGET;
 use prelude::number::byte_at;
 use prelude::number::read_u16;
 use prelude::part::part_of;
+use schema::layout::ATTRIBUTE_WIDTH;
+use schema::layout::CLASS_WIDTH;
 use schema::layout::NAME_LIMIT;
 ghost use mathlib.Core.Path.{_≡_};
 ghost use Prim.Native.Nat.{_≤_};
 ghost use lib.ListN.{length};
+ghost use Rattle.schema.specs.Layout.{attributeWidth, classWidth};
 ghost use Rattle.formats.specs.Formats.{targetWidth, rangeWidth, nameWidth, entryWidth};
-ghost use Rattle.change.specs.Carried.{targetOf, listOf, entryOf, newNameCell, newLowerCell, newUpperCell};
+ghost use Rattle.change.specs.Carried.{targetOf, listOf, entryOf, newNameCell, newLowerCell, newUpperCell, addedAttribute, addedClass};
 
 // The open lists of a class.
 pub enum OpenList {
@@ -79,4 +82,19 @@ pub fn new_upper(row: &[u8]) -> &[u8]
     ensures { λ r. ⌜ now r ≡ newUpperCell (now (row .entry)) ⌝ }
 {
     part_of(row, NEW_UPPER, 5)
+}
+
+// The added row.
+pub fn added_attribute(row: &[u8]) -> &[u8]
+    requires { ⌜ attributeWidth ≤ length (now row) ⌝ }
+    ensures { λ r. ⌜ now r ≡ addedAttribute (now (row .entry)) ⌝ }
+{
+    part_of(row, 0, ATTRIBUTE_WIDTH)
+}
+
+pub fn added_class(row: &[u8]) -> &[u8]
+    requires { ⌜ classWidth ≤ length (now row) ⌝ }
+    ensures { λ r. ⌜ now r ≡ addedClass (now (row .entry)) ⌝ }
+{
+    part_of(row, 0, CLASS_WIDTH)
 }

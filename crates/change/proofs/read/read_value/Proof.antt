@@ -1,6 +1,6 @@
 use mathlib.Core.Path.{ap}
 use Rattle.formats.specs.Formats.{widthOf}
-use Rattle.change.specs.ReadingLaws.{kind-fits-row}
+use Rattle.change.specs.ChangeLaws.{kind-fits-row}
 use Rattle.change.proofs.Cases.{value-bad, value-read, value-followed}
 use native.Mathlib.Omega.{arith}
 use borrow.Author.Needs.{needs}
