@@ -1,0 +1,50 @@
+-- What a change carries, in the scratch row that it was read into. Document 01: "42 to 4A begin with field 20, the target, any u16; then 0A and 0B (an end not given
+-- becomes absent), or 01, or 21 (one byte: 15, 17, 19) and 22, the entry, any u16"
+use mathlib.Core.Bool.{cond}
+use mathlib.Core.List.{List}
+use Prim.Native.Nat.{ℕ, _+_}
+use lib.Dec.{eqb}
+use lib.ListN.{getD}
+use Rattle.prelude.specs.Part.{part}
+use Rattle.prelude.specs.BigEndian.{bigEndian}
+use Rattle.schema.specs.Layout.{nameLimit, attributeWidth, classWidth}
+use Rattle.formats.specs.Formats.{targetAt, newLowerAt, newUpperAt, newNameAt, listAt, entryAt}
+use Rattle.change.specs.declared.carried.OpenList.{OpenList}
+use Rattle.change.specs.declared.carried.OpenList.the-variants.{Optional, Auxiliary, Superior}
+
+-- the number of the row that is changed
+abbrev pub targetOf : List ℕ → ℕ
+targetOf row = bigEndian 2 targetAt row
+
+-- the list that an entry is added to or removed from, by the tag that it has in a class row; and that tag: 15, 17, 19 in hex
+unfoldable pub openList : ℕ → OpenList
+openList tag = cond (eqb tag 21) Optional (cond (eqb tag 23) Auxiliary Superior)
+
+unfoldable pub tagOf : OpenList → ℕ
+tagOf Optional = 21
+tagOf Auxiliary = 23
+tagOf Superior = 25
+
+abbrev pub listOf : List ℕ → OpenList
+listOf row = openList (getD row listAt 0)
+
+-- that entry
+abbrev pub entryOf : List ℕ → ℕ
+entryOf row = bigEndian 2 entryAt row
+
+-- the cells of the new name and of the new ends of a range, each as it stands in a row of a table
+abbrev pub newNameCell : List ℕ → List ℕ
+newNameCell row = part newNameAt (1 + nameLimit) row
+
+abbrev pub newLowerCell : List ℕ → List ℕ
+newLowerCell row = part newLowerAt 5 row
+
+abbrev pub newUpperCell : List ℕ → List ℕ
+newUpperCell row = part newUpperAt 5 row
+
+-- the added row: the front of the scratch row
+abbrev pub addedAttribute : List ℕ → List ℕ
+addedAttribute row = part 0 attributeWidth row
+
+abbrev pub addedClass : List ℕ → List ℕ
+addedClass row = part 0 classWidth row
