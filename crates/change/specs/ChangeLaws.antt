@@ -8,7 +8,7 @@ use native.Mathlib.Omega.{arith}
 use lib.Dec.{eqb}
 use lib.ListN.{length, getD}
 use Rattle.prelude.specs.SaysLaws.{says-eq, says-or, says-false}
-use Rattle.prelude.specs.Part.{part, splice, isZero}
+use Rattle.prelude.specs.Part.{part, splice, isZero, Bytes}
 use Rattle.prelude.specs.PartLaws.{part-at, part-all, part-length, part-part, says-zero, zeros-at}
 use Rattle.prelude.specs.SpliceLaws.{splice-at-before}
 use Rattle.schema.specs.Layout.{nameLimit, defunctAt, omSyntaxAt, syntaxAt, objectClassAt, objectClassLimit, attributeWidth, classWidth}
@@ -26,14 +26,14 @@ use Rattle.formats.specs.declared.shape.Shape.the-variants.{Counted}
 use Rattle.formats.specs.declared.table.Kind.{Kind}
 use Rattle.formats.specs.declared.table.Kind.the-variants.{Attribute, Class, NewAttribute, NewClass, Range, Name, Target, Entry}
 use Rattle.formats.specs.Shapes.{passes, room, holds}
-use Rattle.formats.specs.ShapesLaws.{Bytes, says-holds}
+use Rattle.formats.specs.ShapesLaws.{says-holds}
 use Rattle.formats.specs.Rules.{mark, width, cellAt, hasValue, wellFormedCell, wellFormedBy}
 use Rattle.formats.specs.RulesLaws.{laid, laid-cons, laid-le, formed-at}
 use Rattle.formats.specs.Formats.{listAt, commonFields, attributeFields, classFields, rangeFields, nameFields, entryFields, formatOf, widthOf, noRule}
 use Rattle.formats.specs.FormatsLaws.{kind-laid}
 use Rattle.rows.specs.declared.read.RowRead.{RowRead}
 use Rattle.rows.specs.declared.read.RowRead.the-variants as rows
-use Rattle.rows.specs.Reading.{Out, out, readBy}
+use Rattle.rows.specs.Reading.{out, readBy}
 use Rattle.rows.specs.ObjectClass.{objectClassWidth, isObject, objectClassCell, settled, isSettled, finished, readRow}
 use Rattle.rows.specs.ObjectClassLaws.{cell-long, settled-length}
 use Rattle.rows.specs.WellFormed.{wellFormedAttribute, wellFormedClass}

@@ -2,9 +2,9 @@
 use mathlib.Core.List.{List}
 use Prim.Native.Nat.{ℕ}
 use lib.Dec.{eqb}
+use Rattle.prelude.specs.Part.{Bytes}
 use Rattle.prelude.specs.SaysLaws.{choose}
 use Rattle.schema.specs.Store.{Stores, Result, anyShort}
-use Rattle.formats.specs.ShapesLaws.{Bytes}
 use Rattle.sheet.specs.BytesLaws.{BothBytes, emptied-attributes, emptied-classes, sheet-bytes}
 use Rattle.keeper.specs.Load.{emptied, reading, readAnswer, filled, loaded, load}
 use Rattle.demands.specs.Order.{OfBytes}

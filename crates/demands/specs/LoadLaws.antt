@@ -7,7 +7,7 @@ use mathlib.Core.List.{List}
 use Prim.Native.Nat.{ℕ, _≤_}
 use native.Mathlib.Omega.{arith}
 use lib.ListN.{length}
-use Rattle.prelude.specs.Part.{splice}
+use Rattle.prelude.specs.Part.{splice, Bytes}
 use Rattle.prelude.specs.SpliceLaws.{splice-length}
 use Rattle.prelude.specs.SaysLaws.{says-true, says-eq, says-split, says-test}
 use Rattle.schema.specs.Layout.{closureLength}
@@ -15,7 +15,6 @@ use Rattle.schema.specs.Store.{Stores, LongEnough, Result, result, anyShort, at
 use Rattle.schema.specs.StoreLaws.{says-short, long-enough}
 use Rattle.schema.specs.declared.answer.Answer.{Answer}
 use Rattle.schema.specs.Answers.{answer, done, refused, unreadable}
-use Rattle.formats.specs.ShapesLaws.{Bytes}
 use Rattle.graph.specs.Graph.{closureRows}
 use Rattle.graph.specs.FreshLaws.{closure-rows-length, says-fresh, bytes-fresh}
 use Rattle.sheet.specs.declared.read.SheetRead.{SheetRead}

@@ -4,12 +4,11 @@ use mathlib.Core.Logic.{_⊎_}
 use mathlib.Core.List.{List}
 use Prim.Native.Nat.{ℕ, _<_}
 use lib.ListN.{length}
-use Rattle.prelude.specs.Part.{part, splice}
+use Rattle.prelude.specs.Part.{part, splice, Bytes}
 use Rattle.schema.specs.Layout.{attributesLength, classesLength, closureLength}
 use Rattle.schema.specs.Numbers.{classLimit}
 use Rattle.schema.specs.Store.{Stores, stores, LongEnough, Table, attributeTable, classTable, closureAt}
 use Rattle.graph.specs.Graph.{closureRow}
-use Rattle.formats.specs.ShapesLaws.{Bytes}
 use Rattle.sheet.specs.declared.read.SheetRead.the-variants.{Read}
 use Rattle.keeper.specs.Load.{reading}
 use Rattle.shape.specs.Shape.{AttributesFormed, ClassesFormed}

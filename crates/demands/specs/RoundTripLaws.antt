@@ -5,13 +5,12 @@ use mathlib.Core.List.{List}
 use Prim.Native.Nat.{ℕ, _≤_}
 use native.Mathlib.Omega.{arith}
 use lib.ListN.{length}
-use Rattle.prelude.specs.Part.{part, splice}
+use Rattle.prelude.specs.Part.{part, splice, Bytes}
 use Rattle.prelude.specs.SpliceLaws.{part-splice-same, splice-part}
 use Rattle.prelude.specs.PartLaws.{part-length}
 use Rattle.schema.specs.Layout.{attributesLength, classesLength, closureLength}
 use Rattle.schema.specs.Store.{Stores, stores, LongEnough, Result, result, attributeTable, classTable}
 use Rattle.schema.specs.Answers.{done}
-use Rattle.formats.specs.ShapesLaws.{Bytes}
 use Rattle.graph.specs.Graph.{closureRows}
 use Rattle.graph.specs.FreshLaws.{fresh-bytes}
 use Rattle.graph.specs.SameLaws.{closure-rows-same}
@@ -28,6 +27,7 @@ use Rattle.keeper.specs.Write.{Written, sheetOf, write}
 use Rattle.demands.specs.Order.{MeetsRules, InOrder, OfBytes, Accepts, moved}
 use Rattle.demands.specs.OrderLaws.{order-shape, order-fresh}
 use Rattle.demands.specs.LoadLaws.{load-done, load-order}
+use Rattle.demands.specs.BytesLaws.{load-bytes}
 use Rattle.demands.specs.CallLaws.{write-written}
 
 -- ---- stores, sheet, stores
@@ -93,9 +93,9 @@ write-then-load s t out h bytes room l =
     ∙ ap (λ (x : List ℕ). load x t) (part-splice-same 0 (sheetOf s) out (omega arith) (length (sheetOf s)) refl) ∙ write-load s t h bytes room
 
 -- "An accepted schema written as a sheet and loaded again is the same schema": whatever stores it was loaded into at first, and at last
-pub load-write-load : (sheet : List ℕ) (s t : Stores) (out : List ℕ) → Bytes sheet → Accepts sheet s → OfBytes (load sheet s .left) → LongEnough t → length (sheetOf (load sheet s .left)) ≤ length out
+pub load-write-load : (sheet : List ℕ) (s t : Stores) (out : List ℕ) → Bytes sheet → OfBytes s → Accepts sheet s → LongEnough t → length (sheetOf (load sheet s .left)) ≤ length out
     → load (part 0 (write (load sheet s .left) out .answer .place) (write (load sheet s .left) out .output)) t ≡ result (done 0 0) (moved (load sheet s .left) t)
-load-write-load sheet s t out b h bytes room l = write-then-load (load sheet s .left) t out (load-order sheet s b h) bytes room l
+load-write-load sheet s t out b bytes h room l = write-then-load (load sheet s .left) t out (load-order sheet s b h) (load-bytes sheet s b bytes) room l
 
 -- ---- sheet, stores, sheet
 

@@ -4,16 +4,16 @@ use mathlib.Core.Bool.{true}
 use mathlib.Core.List.{List, [], _∷_, _++_}
 use Prim.Native.Nat.{ℕ, zero, suc, _+_, _-_, _*_, _/_, _%_, _<_}
 use native.Mathlib.Omega.{arith}
-use lib.ListN.{length, getD, take, drop}
+use lib.ListN.{length, take, drop}
 use lib.Seq.{getD-drop}
 use Rattle.prelude.specs.SaysLaws.{says-le}
-use Rattle.prelude.specs.Part.{part, splice, zeros, padded}
+use Rattle.prelude.specs.Part.{part, splice, zeros, padded, Bytes}
 use Rattle.prelude.specs.PartLaws.{part-bytes, zeros-at}
 use Rattle.prelude.specs.BigEndian.{bigEndian, bigEndianBytes}
 use Rattle.sets.specs.SetsLaws.{set-bytes}
 use Rattle.formats.specs.Entries.{entries, among}
 use Rattle.formats.specs.Shapes.{image}
-use Rattle.formats.specs.ShapesLaws.{Bytes, sound, Accepts}
+use Rattle.formats.specs.ShapesLaws.{sound, Accepts}
 use Rattle.formats.specs.Rules.{lead, takes, cellOf}
 use Rattle.formats.specs.RulesLaws.{Sound, takes-accepts}
 use Rattle.formats.specs.declared.shape.Shape.{Shape}

@@ -9,11 +9,11 @@ use lib.Dec.{eqb}
 use lib.ListN.{length, getD, drop, length-append, length-drop}
 use lib.Seq.{drop-at, getD-drop}
 use Rattle.prelude.specs.SaysLaws.{says-and, says-eq, says-false, says-test}
-use Rattle.prelude.specs.Part.{part, splice, zeros}
+use Rattle.prelude.specs.Part.{part, splice, zeros, Bytes}
 use Rattle.prelude.specs.PartLaws.{zeros-at, zeros-zero, zero-zeros}
 use Rattle.prelude.specs.SpliceLaws.{part-splice-before, part-splice-same, part-splice-after}
 use Rattle.formats.specs.Shapes.{accepts, image, room, stored}
-use Rattle.formats.specs.ShapesLaws.{Bytes, sound, room-small, Accepts, says-accepts, Holds, says-holds, image-length, stored-image, image-holds, accepts-stored, image-stored, stored-short, stored-bytes, skippable, image-nonzero}
+use Rattle.formats.specs.ShapesLaws.{sound, room-small, Accepts, says-accepts, Holds, says-holds, image-length, stored-image, image-holds, accepts-stored, image-stored, stored-short, stored-bytes, skippable, image-nonzero}
 use Rattle.wire.specs.Wire.{fieldBytes}
 use Rattle.formats.specs.Rules.{lead, mark, required, possible, width, takes, cellOf, cellAt, hasValue, valueOf, wellFormedCell, wellFormedBy, fieldOf}
 use Rattle.formats.specs.declared.shape.Shape.{Shape}

@@ -11,7 +11,7 @@ use lib.ListN.{length, getD, drop, take, length-drop, take-append-drop}
 use lib.Seq.{take-append-seam, drop-append-seam, length-take-le}
 use Rattle.prelude.specs.Says.{Says}
 use Rattle.prelude.specs.SaysLaws.{says-and, says-not, says-eq, says-le, says-lt, says-false, says-fails, says-test, says-not-test}
-use Rattle.prelude.specs.Part.{part, padded, zeros, isZero}
+use Rattle.prelude.specs.Part.{part, padded, zeros, isZero, Bytes}
 use Rattle.prelude.specs.PartLaws.{part-length, part-all, part-bytes, padded-length, zeros-at, says-zero, zeros-zero, zero-zeros, part-short, length-nil}
 use Rattle.prelude.specs.BigEndian.{bigEndian, bigEndianBytes}
 use Rattle.prelude.specs.BigEndianLaws.{bytes-length, number-of-bytes, bytes-of-number}
@@ -23,10 +23,6 @@ use Rattle.formats.specs.Shapes.{passes, accepts, image, room, stored, h
 use Rattle.formats.specs.declared.shape.Test.the-variants.{Any, Below, NotZero, OpenList}
 use Rattle.formats.specs.declared.shape.Shape.{Shape}
 use Rattle.formats.specs.declared.shape.Shape.the-variants.{Plain, Number, Counted, Arcs, Entries}
-
--- every byte is one
-abbrev pub Bytes : List ℕ → Type 0
-Bytes s = (i : ℕ) → getD s i 0 < 256
 
 -- the numbers of a shape are small enough for its cell: a count and a stored number fit a byte, an entry fits two
 unfoldable pub sound : Shape → Bool

@@ -5,13 +5,12 @@ use mathlib.Core.List.{List}
 use Prim.Native.Nat.{ℕ, _≤_}
 use native.Mathlib.Omega.{arith}
 use lib.ListN.{length}
-use Rattle.prelude.specs.Part.{splice, zeros}
+use Rattle.prelude.specs.Part.{splice, zeros, Bytes}
 use Rattle.schema.specs.Layout.{attributesLength, classesLength, closureLength}
 use Rattle.schema.specs.Store.{Stores, stores, Result, LongEnough, result, anyShort, classTable}
 use Rattle.schema.specs.declared.answer.Answer.{Answer}
 use Rattle.schema.specs.Answers.{answer, refused}
 use Rattle.graph.specs.Graph.{Readable, closureRows}
-use Rattle.formats.specs.ShapesLaws.{Bytes}
 use Rattle.sheet.specs.declared.read.SheetRead.{SheetRead}
 use Rattle.sheet.specs.Reading.{Open, SheetOut, sheetOut, readSheet}
 use Rattle.sheet.specs.ReadingLaws.{emptied-open}

@@ -5,7 +5,7 @@ use mathlib.Core.List.{List, [], _∷_}
 use Prim.Native.Nat.{ℕ, zero, suc, _+_, _≤_, _<_}
 use native.Mathlib.Omega.{arith}
 use lib.ListN.{length, getD}
-use Rattle.prelude.specs.Part.{splice, zeros}
+use Rattle.prelude.specs.Part.{splice, zeros, Bytes}
 use Rattle.prelude.specs.PartLaws.{zeros-length}
 use Rattle.prelude.specs.SpliceLaws.{splice-length, splice-over}
 use Rattle.prelude.specs.SaysLaws.{says-eq, says-true, says-false}
@@ -13,7 +13,6 @@ use Rattle.schema.specs.Store.{Stores, result, anyShort, attributeTable, classT
 use Rattle.schema.specs.declared.answer.Answer.{Answer}
 use Rattle.schema.specs.Answers.{answer, refused, unreadable}
 use Rattle.schema.specs.Layout.{attributesLength, classesLength}
-use Rattle.formats.specs.ShapesLaws.{Bytes}
 use Rattle.stores.specs.Filled.{attributeStore, classStore}
 use Rattle.stores.specs.FilledLaws.{attributes-length, classes-length}
 use Rattle.sheet.specs.declared.read.SheetRead.the-variants.{Read, Bad, Full}

@@ -4,10 +4,10 @@ use mathlib.Core.List.{List}
 use Prim.Native.Nat.{ℕ, _≤_}
 use native.Mathlib.Omega.{arith}
 use lib.ListN.{length}
+use Rattle.prelude.specs.Part.{Bytes}
 use Rattle.schema.specs.declared.answer.Answer.{Answer}
 use Rattle.schema.specs.Layout.{closureLength}
 use Rattle.schema.specs.Store.{classTable, stores, Result, result}
-use Rattle.formats.specs.ShapesLaws.{Bytes}
 use Rattle.tables.specs.Shaped.{ClassesShaped}
 use Rattle.keeper.specs.Load.{load}
 use Rattle.stores.specs.Filled.{emptyStores}

@@ -4,7 +4,7 @@ use mathlib.Core.List.{List}
 use Prim.Native.Nat.{ℕ, _+_, _*_, _^_, _≤_, _<_}
 use native.Mathlib.Omega.{arith}
 use lib.ListN.{length}
-use Rattle.prelude.specs.Part.{part}
+use Rattle.prelude.specs.Part.{part, Bytes}
 use Rattle.prelude.specs.PartLaws.{part-bytes, part-short}
 use Rattle.prelude.specs.BigEndianLaws.{number-small}
 use Rattle.sets.specs.Sets.{member, memberCount}
@@ -15,7 +15,6 @@ use Rattle.schema.specs.Layout.{nameLimit, identifierAt, arcWidth, arcLimit, at
 use Rattle.schema.specs.Row.{nameLength, nameOf, arcCount, arcOf}
 use Rattle.schema.specs.Store.{classTable, closureAt}
 use Rattle.tables.specs.Shaped.{Bounded, ClassesShaped}
-use Rattle.formats.specs.ShapesLaws.{Bytes}
 use Rattle.listing.specs.Text.{ascii, decimal}
 use Rattle.listing.specs.TextLaws.{decimal-short}
 use Rattle.listing.specs.Listing.{keptCount, keptCounts, arcText, identifierText, classLine, classLines, headLine, headLength, lineLength, refusedLine, textLength}

@@ -8,13 +8,12 @@ use lib.ListN.{length}
 use Rattle.prelude.specs.SpliceLaws.{splice-all}
 use borrow.Author.Tests.{eq-eqb, lt-ltb, le-ltb}
 use Rattle.prelude.specs.SaysLaws.{says-eq, says-false}
-use Rattle.prelude.specs.Part.{splice, zeros}
+use Rattle.prelude.specs.Part.{splice, zeros, Bytes}
 use Rattle.prelude.specs.PartLaws.{zeros-length}
 use Rattle.schema.specs.declared.answer.Answer.{Answer}
 use Rattle.schema.specs.Numbers.{classLimit}
 use Rattle.schema.specs.Layout.{attributesLength, classesLength, closureLength}
 use Rattle.schema.specs.Store.{Table, classTable, closureAt, Stores, Result, LongEnough}
-use Rattle.formats.specs.ShapesLaws.{Bytes}
 use Rattle.tables.specs.Shaped.{ClassesShaped}
 use Rattle.prelude.specs.Concat.{concatBelow}
 use Rattle.graph.specs.Graph.{closureRow, closureRows}

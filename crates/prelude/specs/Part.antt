@@ -1,7 +1,7 @@
 -- A part of a byte string, a row of a table, a part replaced, zeros and zero padding, and the test of two byte strings.
 use mathlib.Core.Bool.{Bool, _&&_}
 use mathlib.Core.List.{List, _++_}
-use Prim.Native.Nat.{ℕ, _+_, _-_, _*_}
+use Prim.Native.Nat.{ℕ, _+_, _-_, _*_, _<_}
 use lib.Dec.{eqb}
 use lib.ListN.{length, getD, take, drop, replicate}
 use Rattle.prelude.specs.Below.{allBelow}
@@ -33,3 +33,7 @@ sameBytes a b = eqb (length a) (length b) && allBelow (length a) (λ i. eqb (get
 -- every byte of s is zero
 unfoldable pub isZero : List ℕ → Bool
 isZero s = allBelow (length s) (λ i. eqb (getD s i 0) 0)
+
+-- numbers that are bytes, as all that memory holds
+abbrev pub Bytes : List ℕ → Type 0
+Bytes s = (i : ℕ) → getD s i 0 < 256

@@ -8,7 +8,7 @@ use native.Mathlib.Omega.{arith}
 use lib.Dec.{eqb}
 use lib.ListN.{length, getD}
 use Rattle.prelude.specs.SaysLaws.{says-and, says-eq, says-test, says-fails, choose}
-use Rattle.prelude.specs.Part.{part, zeros}
+use Rattle.prelude.specs.Part.{part, zeros, Bytes}
 use Rattle.prelude.specs.PartLaws.{part-add, part-cons, part-none, part-all, zeros-length}
 use Rattle.wire.specs.declared.FieldRead.{FieldRead}
 use Rattle.wire.specs.declared.FieldRead.the-variants as fields
@@ -20,7 +20,6 @@ use Rattle.schema.specs.Store.{Table, attributeTable, classTable}
 use Rattle.prelude.specs.Concat.{concatBelow}
 use Rattle.formats.specs.declared.table.Kind.{Kind}
 use Rattle.formats.specs.declared.table.Kind.the-variants.{Attribute, Class}
-use Rattle.formats.specs.ShapesLaws.{Bytes}
 use Rattle.formats.specs.Rules.{writeBy}
 use Rattle.formats.specs.Formats.{formatOf, widthOf}
 use Rattle.rows.specs.declared.read.RowRead.{RowRead}

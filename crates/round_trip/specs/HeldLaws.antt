@@ -7,13 +7,12 @@ use native.Mathlib.Omega.{arith}
 use lib.ListN.{length, getD, length-append}
 use Rattle.prelude.specs.SaysLaws.{says-and, says-le, says-eq, says-test}
 use Rattle.prelude.specs.Below.{allBelow}
-use Rattle.prelude.specs.Part.{part, rowAt, zeros, padded, isZero}
+use Rattle.prelude.specs.Part.{part, rowAt, zeros, padded, isZero, Bytes}
 use Rattle.prelude.specs.PartLaws.{part-length, part-none, part-add, part-cons, zero-zeros}
 use Rattle.prelude.specs.BigEndianLaws.{bytes-of-number}
 use Rattle.schema.specs.Numbers.{attributeLimit, classLimit}
 use Rattle.schema.specs.Layout.{rowsAt, attributeWidth, classWidth, attributesLength, classesLength}
 use Rattle.schema.specs.Store.{attributeTable, classTable}
-use Rattle.formats.specs.ShapesLaws.{Bytes}
 use Rattle.rows.specs.WellFormed.{wellFormedAttribute, wellFormedClass}
 use Rattle.stores.specs.Filled.{joined, AllWide, attributeHeader, classHeader, attributeStore, classStore}
 use Rattle.stores.specs.FilledLaws.{wide-append, joined-append}

@@ -6,12 +6,11 @@ use mathlib.Core.List.{List, []}
 use Prim.Native.Nat.{ℕ, _≤_}
 use native.Mathlib.Omega.{arith}
 use lib.ListN.{length}
-use Rattle.prelude.specs.Part.{part, splice, zeros}
+use Rattle.prelude.specs.Part.{part, splice, zeros, Bytes}
 use Rattle.prelude.specs.SaysLaws.{says-and, says-test}
 use Rattle.prelude.specs.SpliceLaws.{splice-part}
 use Rattle.schema.specs.Layout.{attributesLength, classesLength}
 use Rattle.schema.specs.Store.{attributeTable, classTable}
-use Rattle.formats.specs.ShapesLaws.{Bytes}
 use Rattle.stores.specs.FilledLaws.{attributes-count, classes-count, no-attributes, no-classes}
 use Rattle.sheet.specs.declared.read.SheetRead.the-variants.{Read}
 use Rattle.sheet.specs.Reading.{Open, sheetOut, readSheet}

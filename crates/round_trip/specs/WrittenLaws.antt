@@ -6,7 +6,7 @@ use Prim.Native.Nat.{ℕ, suc, _≤_, _<_}
 use native.Mathlib.Omega.{arith}
 use lib.ListN.{length}
 use Rattle.shape.specs.Shape.{AttributesFormed, ClassesFormed}
-use Rattle.prelude.specs.Part.{splice, zeros}
+use Rattle.prelude.specs.Part.{splice, zeros, Bytes}
 use Rattle.prelude.specs.PartLaws.{part-bytes, zeros-length}
 use Rattle.wire.specs.declared.FieldRead.the-variants as fields
 use Rattle.wire.specs.Wire.{fieldAt, headerBytes, fieldBytes}
@@ -17,7 +17,6 @@ use Rattle.schema.specs.Layout.{attributeWidth, classWidth, attributesLength, c
 use Rattle.schema.specs.Store.{attributeTable, classTable}
 use Rattle.schema.specs.StoreLaws.{attribute-row-length, class-row-length}
 use Rattle.formats.specs.declared.table.Kind.the-variants.{Attribute, Class}
-use Rattle.formats.specs.ShapesLaws.{Bytes}
 use Rattle.formats.specs.Formats.{widthOf}
 use Rattle.rows.specs.declared.read.RowRead.the-variants as rows
 use Rattle.rows.specs.RoundTripLaws.{attribute-write-read, class-write-read}

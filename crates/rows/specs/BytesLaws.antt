@@ -10,7 +10,7 @@ use lib.ListN.{length, getD, List·getD-eq-default}
 use Rattle.prelude.specs.Below.{allBelow}
 use Rattle.prelude.specs.BelowLaws.{all-each}
 use Rattle.prelude.specs.SaysLaws.{says-lt, choose}
-use Rattle.prelude.specs.Part.{part, rowAt, splice, zeros, padded}
+use Rattle.prelude.specs.Part.{part, rowAt, splice, zeros, padded, Bytes}
 use Rattle.prelude.specs.PartLaws.{part-bytes}
 use Rattle.schema.specs.Layout.{objectClassLimit, objectClassAt}
 use Rattle.schema.specs.ObjectClasses.{entryWidth, objectClasses, firstEntry, firstObjectClass}
@@ -21,7 +21,6 @@ use Rattle.formats.specs.declared.shape.Rule.{Rule}
 use Rattle.formats.specs.declared.table.Kind.{Kind}
 use Rattle.formats.specs.declared.table.Kind.the-variants.{Attribute, Class, NewAttribute, NewClass, Range, Name, Target, Entry}
 use Rattle.formats.specs.Shapes.{image}
-use Rattle.formats.specs.ShapesLaws.{Bytes}
 use Rattle.formats.specs.Rules.{width, cellOf}
 use Rattle.formats.specs.RulesLaws.{Sound, laid, laid-cons}
 use Rattle.formats.specs.Formats.{formatOf, widthOf}

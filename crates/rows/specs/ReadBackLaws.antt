@@ -9,13 +9,12 @@ use lib.ListN.{length, take}
 use lib.Seq.{take-take}
 use borrow.Author.Tests.{eqb-true}
 use Rattle.prelude.specs.SaysLaws.{neither}
-use Rattle.prelude.specs.Part.{part, splice, zeros}
+use Rattle.prelude.specs.Part.{part, splice, zeros, Bytes}
 use Rattle.prelude.specs.PartLaws.{part-none, part-part, part-add, part-bytes, zeros-length}
 use Rattle.prelude.specs.SpliceLaws.{splice-length, splice-before, part-splice-same}
 use Rattle.wire.specs.Wire.{fieldAt}
 use Rattle.wire.specs.WireLaws.{field-back}
 use Rattle.formats.specs.declared.shape.Rule.{Rule}
-use Rattle.formats.specs.ShapesLaws.{Bytes}
 use Rattle.formats.specs.Rules.{required, width, cellOf, cellAt, hasValue, valueOf, wellFormedCell, wellFormedBy, writeBy}
 use Rattle.formats.specs.RulesLaws.{Laid, laid, laid-cons, laid-le, takes-accepts, cell-length, taken-cell, absent-value, absent-formed, formed-both, field-none, field-some}
 use Rattle.rows.specs.declared.field.Turn.{Turn}

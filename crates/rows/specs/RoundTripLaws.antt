@@ -6,11 +6,10 @@ use mathlib.Core.List.{List, _++_}
 use Prim.Native.Nat.{ℕ, _+_, _-_, _≤_}
 use native.Mathlib.Omega.{arith}
 use lib.ListN.{length}
-use Rattle.prelude.specs.Part.{part}
+use Rattle.prelude.specs.Part.{part, Bytes}
 use Rattle.schema.specs.Layout.{attributeWidth, classWidth}
 use Rattle.formats.specs.declared.table.Kind.{Kind}
 use Rattle.formats.specs.declared.table.Kind.the-variants.{Attribute, Class, NewAttribute, NewClass}
-use Rattle.formats.specs.ShapesLaws.{Bytes}
 use Rattle.formats.specs.Rules.{wellFormedBy, writeBy}
 use Rattle.formats.specs.Formats.{formatOf, widthOf}
 use Rattle.formats.specs.FormatsLaws.{kind-laid, kind-distinct}

@@ -11,13 +11,12 @@ use lib.ListN.{length, take, drop, length-append}
 use lib.Seq.{take-add, take-all, take-at, length-take-le}
 use borrow.Author.Tests.{eq-eqb}
 use Rattle.prelude.specs.SaysLaws.{says-and, says-not, says-eq, says-test, true-or-false}
-use Rattle.prelude.specs.Part.{part, splice}
+use Rattle.prelude.specs.Part.{part, splice, Bytes}
 use Rattle.prelude.specs.PartLaws.{part-length, part-bytes}
 use Rattle.prelude.specs.SpliceLaws.{splice-length}
 use Rattle.wire.specs.Wire.{fieldAt, fieldBytes}
 use Rattle.wire.specs.WireLaws.{field-end, field-length, field-read, value-read}
 use Rattle.formats.specs.declared.shape.Rule.{Rule}
-use Rattle.formats.specs.ShapesLaws.{Bytes}
 use Rattle.formats.specs.Rules.{width, cellAt, hasValue, valueOf, wellFormedCell, wellFormedBy, fieldOf, writeBy}
 use Rattle.formats.specs.RulesLaws.{Laid, laid, laid-cons, laid-end, laid-le, value-cell, blank-cell, formed-cons, field-none, field-some}
 use Rattle.formats.specs.FormatsLaws.{without, distinct}

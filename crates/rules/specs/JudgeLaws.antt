@@ -16,7 +16,7 @@ use Rattle.schema.specs.Store.{Table}
 use Rattle.schema.specs.declared.answer.Answer.{Answer}
 use Rattle.rules.specs.Rules.{RowRule, schemaRules, numbered, rulesOf}
 use Rattle.rules.specs.RulesLaws.{rules-next, rules-end, numbered-number}
-use Rattle.rules.specs.Judge.{judgeRule, judgeRules, judged, brokenCases, Kept, AllKept, Lowest, FirstBroken}
+use Rattle.rules.specs.Judge.{judgeRule, judgeRules, judged, brokenCases, AllKept, Lowest, FirstBroken}
 
 lowest : (p : ℕ → Bool) (n : ℕ) → anyBelow n p ≡ true → Lowest p n (firstBelow n p)
 lowest p n e = let f = first-some p n e in record { below = f .0; passes = f .1; none = f .2 }

@@ -6,7 +6,7 @@ use Prim.Native.Nat.{ℕ, zero, suc, _+_, _*_, _≤_, _<_}
 use native.Mathlib.Omega.{arith}
 use lib.Dec.{eqb}
 use lib.ListN.{length, getD}
-use Rattle.prelude.specs.Part.{splice, zeros}
+use Rattle.prelude.specs.Part.{splice, zeros, Bytes}
 use Rattle.prelude.specs.SaysLaws.{says-eq, says-fails, choose}
 use Rattle.schema.specs.Numbers.{attributeLimit, classLimit}
 use Rattle.schema.specs.Layout.{rowsAt, attributeWidth, classWidth, attributesLength, classesLength}
@@ -16,7 +16,6 @@ use Rattle.wire.specs.declared.FieldRead.the-variants as fields
 use Rattle.wire.specs.Wire.{fieldAt}
 use Rattle.wire.specs.WireLaws.{field-is}
 use Rattle.formats.specs.declared.table.Kind.the-variants.{Attribute, Class}
-use Rattle.formats.specs.ShapesLaws.{Bytes}
 use Rattle.formats.specs.Formats.{widthOf}
 use Rattle.formats.specs.BytesLaws.{no-bytes, cons-bytes, zeros-bytes, splice-bytes, digits-bytes}
 use Rattle.rows.specs.declared.read.RowRead.{RowRead}

@@ -7,7 +7,7 @@ use native.Mathlib.Omega.{arith}
 use lib.Dec.{eqb}
 use lib.ListN.{length, getD, length-append}
 use borrow.Author.Tests.{eq-eqb, ne-eqb}
-use Rattle.prelude.specs.Part.{splice, zeros}
+use Rattle.prelude.specs.Part.{splice, zeros, Bytes}
 use Rattle.prelude.specs.PartLaws.{zeros-length}
 use Rattle.prelude.specs.SpliceLaws.{splice-length}
 use Rattle.prelude.specs.SaysLaws.{says-eq, says-fails, choose}
@@ -19,7 +19,6 @@ use Rattle.wire.specs.declared.FieldRead.the-variants as fields
 use Rattle.wire.specs.Wire.{fieldAt}
 use Rattle.wire.specs.WireLaws.{field-is}
 use Rattle.formats.specs.declared.table.Kind.the-variants.{Attribute, Class}
-use Rattle.formats.specs.ShapesLaws.{Bytes}
 use Rattle.formats.specs.Formats.{widthOf}
 use Rattle.rows.specs.declared.read.RowRead.{RowRead}
 use Rattle.rows.specs.declared.read.RowRead.the-variants as rows
