@@ -1,15 +1,14 @@
--- Strings of bytes stay such: put together, cut and put into one another, and a value that is stored.
+-- A value of bytes is stored as bytes.
 use mathlib.Core.Path.{_≡_}
 use mathlib.Core.Bool.{true}
-use mathlib.Core.List.{List, [], _∷_, _++_}
-use Prim.Native.Nat.{ℕ, zero, suc, _+_, _-_, _*_, _/_, _%_, _<_}
+use mathlib.Core.List.{List, []}
+use Prim.Native.Nat.{ℕ, _*_, _/_}
 use native.Mathlib.Omega.{arith}
-use lib.ListN.{length, take, drop}
-use lib.Seq.{getD-drop}
+use lib.ListN.{length}
+use Rattle.prelude.specs.BytesLaws.{no-bytes, cons-bytes, append-bytes, padded-bytes}
 use Rattle.prelude.specs.SaysLaws.{says-le}
-use Rattle.prelude.specs.Part.{part, splice, zeros, padded, Bytes}
-use Rattle.prelude.specs.PartLaws.{part-bytes, zeros-at}
-use Rattle.prelude.specs.BigEndian.{bigEndian, bigEndianBytes}
+use Rattle.prelude.specs.Part.{padded, Bytes}
+use Rattle.prelude.specs.BigEndian.{bigEndian}
 use Rattle.sets.specs.SetsLaws.{set-bytes}
 use Rattle.formats.specs.Entries.{entries, among}
 use Rattle.formats.specs.Shapes.{image}
@@ -21,47 +20,6 @@ use Rattle.formats.specs.declared.shape.Shape.the-variants.{Plain, Numbe
 use Rattle.formats.specs.declared.shape.Presence.{Presence}
 use Rattle.formats.specs.declared.shape.Presence.the-variants.{Required, Optional, Marked, Never}
 use Rattle.formats.specs.declared.shape.Rule.{Rule}
-
--- ---- strings
-
-pub no-bytes : Bytes []
-no-bytes i = omega arith
-
-pub cons-bytes : (x : ℕ) (s : List ℕ) → x < 256 → Bytes s → Bytes (x ∷ s)
-cons-bytes x s h b zero = h
-cons-bytes x s h b (suc i) = b i
-
-pub append-bytes : (s t : List ℕ) → Bytes s → Bytes t → Bytes (s ++ t)
-append-bytes [] t b c i = c i
-append-bytes (x ∷ s) t b c zero = b 0
-append-bytes (x ∷ s) t b c (suc i) = append-bytes s t (λ k. b (suc k)) c i
-
-pub zeros-bytes : (n : ℕ) → Bytes (zeros n)
-zeros-bytes n i = omega (arith, zeros-at n i)
-
-pub padded-bytes : (n : ℕ) (s : List ℕ) → Bytes s → Bytes (padded n s)
-unfolding padded
-padded-bytes n s b = append-bytes s (zeros (n - length s)) b (zeros-bytes (n - length s))
-
-take-bytes : (n : ℕ) (s : List ℕ) → Bytes s → Bytes (take n s)
-unfolding part
-take-bytes n s b = part-bytes 0 n s b
-
-drop-bytes : (n : ℕ) (s : List ℕ) → Bytes s → Bytes (drop n s)
-drop-bytes n s b i = rw getD-drop (b (n + i))
-
-pub splice-bytes : (at : ℕ) (new s : List ℕ) → Bytes new → Bytes s → Bytes (splice at new s)
-unfolding splice
-splice-bytes at new s b c =
-    append-bytes (take at s) (new ++ drop (at + length new) s) (take-bytes at s c) (append-bytes new (drop (at + length new) s) b (drop-bytes (at + length new) s c))
-
--- a number of any size, written: its digits are bytes
-pub digits-bytes : (n x : ℕ) → Bytes (bigEndianBytes n x)
-unfolding bigEndianBytes
-digits-bytes zero x = no-bytes
-digits-bytes (suc n) x = append-bytes (bigEndianBytes n (x / 256)) (x % 256 ∷ []) (digits-bytes n (x / 256)) (cons-bytes (x % 256) [] (omega arith) no-bytes)
-
--- ---- cells
 
 -- a count or number that is accepted fits a byte
 pub image-bytes : (shape : Shape) (v : List ℕ) → sound shape ≡ true → Bytes v → Accepts shape v → Bytes (image shape v)

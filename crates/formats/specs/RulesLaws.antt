@@ -7,7 +7,8 @@ use Prim.Native.Nat.{ℕ, zero, suc, _+_, _≤_, _<_}
 use native.Mathlib.Omega.{arith}
 use lib.Dec.{eqb}
 use lib.ListN.{length, getD, drop, length-append, length-drop}
-use lib.Seq.{drop-at, getD-drop}
+use lib.Seq.{drop-at}
+use Rattle.prelude.specs.BytesLaws.{drop-bytes}
 use Rattle.prelude.specs.SaysLaws.{says-and, says-eq, says-false, says-test}
 use Rattle.prelude.specs.Part.{part, splice, zeros, Bytes}
 use Rattle.prelude.specs.PartLaws.{zeros-at, zeros-zero, zero-zeros}
@@ -150,9 +151,6 @@ lead-back Optional cell h l = refl
 lead-back Marked [] h l = absurd (omega arith)
 lead-back Marked (x ∷ cell) h l = ap (λ (y : ℕ). y ∷ cell) (sym (says-eq x 1 .holds h))
 lead-back Never cell h l = refl
-
-drop-bytes : (n : ℕ) (cell : List ℕ) → Bytes cell → Bytes (drop n cell)
-drop-bytes n cell b i = rw (getD-drop n cell i 0) (b (n + i))
 
 pub value-cell : (r : Rule) (cell : List ℕ) → Sound r → Bytes cell → length cell ≡ width r → wellFormedCell r cell ≡ true → hasValue (r .presence) cell ≡ true → ValueCell r cell
 unfolding wellFormedCell takes valueOf cellOf width

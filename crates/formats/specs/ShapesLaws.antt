@@ -3,12 +3,13 @@
 use mathlib.Core.Path.{_≡_, refl, ap, _∙_}
 use mathlib.Core.Bool.{Bool, true, false, false≢true}
 use mathlib.Core.List.{List, [], _∷_, append-nil}
-use Prim.Native.Nat.{ℕ, zero, suc, _+_, _-_, _*_, _/_, _%_, _≤_, _<_}
+use Prim.Native.Nat.{ℕ, _+_, _-_, _*_, _/_, _%_, _≤_, _<_}
 use native.Mathlib.Omega.{arith}
 use native.Mathlib.Numerals.{add-one}
 use lib.Dec.{leb, ltb}
 use lib.ListN.{length, getD, drop, take, length-drop, take-append-drop}
 use lib.Seq.{take-append-seam, drop-append-seam, length-take-le}
+use Rattle.prelude.specs.BytesLaws.{digits-bytes}
 use Rattle.prelude.specs.Says.{Says}
 use Rattle.prelude.specs.SaysLaws.{says-and, says-not, says-eq, says-le, says-lt, says-false, says-fails, says-test, says-not-test}
 use Rattle.prelude.specs.Part.{part, padded, zeros, isZero, Bytes}
@@ -129,12 +130,6 @@ image-holds (Entries bytes) v h = some-member bytes (entries v) (h .1 .1) (λ e.
 
 -- ---- a cell and its value
 
-number-bytes : (x i : ℕ) → getD (bigEndianBytes 2 x) i 0 < 256
-unfolding bigEndianBytes
-number-bytes x zero = omega arith
-number-bytes x (suc zero) = omega arith
-number-bytes x (suc (suc i)) = omega arith
-
 -- a value has at most sixteen bytes for each byte of its cell, or two
 pub stored-bound : (shape : Shape) (cell : List ℕ) → length (stored shape cell) ≤ 2 + 16 * length cell
 unfolding stored
@@ -197,7 +192,7 @@ module _ (cell : List ℕ) (b : Bytes cell) where
   pub stored-bytes : (shape : Shape) → Bytes (stored shape cell)
   unfolding stored
   stored-bytes (Plain len test) = b
-  stored-bytes (Number limit) = number-bytes (getD cell 0 0)
+  stored-bytes (Number limit) = digits-bytes 2 (getD cell 0 0)
   stored-bytes (Counted least most) = part-bytes 1 (getD cell 0 0) cell b
   stored-bytes (Arcs most) = part-bytes 1 (getD cell 0 0 * 4) cell b
   stored-bytes (Entries bytes) = entry-bytes (membersFrom 0 cell)

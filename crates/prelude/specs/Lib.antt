@@ -16,3 +16,4 @@ pub mod ConcatLaws
 pub mod BigEndian
 pub mod BigEndianLaws
 pub mod FrontLaws
+pub mod BytesLaws

@@ -25,7 +25,8 @@ use Rattle.formats.specs.Rules.{width, cellOf}
 use Rattle.formats.specs.RulesLaws.{Sound, laid, laid-cons}
 use Rattle.formats.specs.Formats.{formatOf, widthOf}
 use Rattle.formats.specs.FormatsLaws.{kind-laid}
-use Rattle.formats.specs.BytesLaws.{no-bytes, cons-bytes, zeros-bytes, padded-bytes, splice-bytes, cell-bytes}
+use Rattle.prelude.specs.BytesLaws.{no-bytes, cons-bytes, zeros-bytes, padded-bytes, splice-bytes}
+use Rattle.formats.specs.BytesLaws.{cell-bytes}
 use Rattle.rows.specs.declared.field.Turn.{Turn}
 use Rattle.rows.specs.declared.field.Turn.the-variants.{Taken, Passed, Refused}
 use Rattle.rows.specs.declared.read.RowRead.{RowRead}

@@ -17,6 +17,7 @@ use Rattle.prelude.specs.BelowLaws.{says-any, says-all}
 use Rattle.prelude.specs.SaysLaws.{says-iff, says-or, says-not, says-eq, says-true, says-false, says-same, says-test, true-or-false}
 use Rattle.prelude.specs.Part.{zeros, sameBytes}
 use Rattle.prelude.specs.PartLaws.{zeros-at, says-same-bytes}
+use Rattle.prelude.specs.BytesLaws.{append-bytes}
 use Rattle.sets.specs.Sets.{flag, digit, bit, member, digitsOf, setOf, withMember, withoutMember, union, subset, isEmpty}
 
 -- ---- digits
@@ -343,13 +344,6 @@ bit-right a b k h =
     let e : k / 8 ≡ length a + (k - length a * 8) / 8 = omega arith in
     let r : k % 8 ≡ (k - length a * 8) % 8 = omega arith in
     ap₂ (λ (i j : ℕ). digit (getD (a ++ b) i 0) j) e r ∙ ap (λ (x : ℕ). digit x ((k - length a * 8) % 8)) (getD-append-add a b ((k - length a * 8) / 8) 0)
-
-append-bytes : (a b : List ℕ) → ((i : ℕ) → getD a i 0 < 256) → ((i : ℕ) → getD b i 0 < 256) → (i : ℕ) → getD (a ++ b) i 0 < 256
-append-bytes a b p q i = go (decLt i (length a))
-  where
-    go : Dec (i < length a) → getD (a ++ b) i 0 < 256
-    go (yes l) = rw (List·getD-append a b 0 i l) (p i)
-    go (no g) = let e : i ≡ length a + (i - length a) = omega arith in rw (e, getD-append-add a b (i - length a) 0) (q (i - length a))
 
 pub union-bytes : (a b : List ℕ) (i : ℕ) → getD (union a b) i 0 < 256
 unfolding union

@@ -17,17 +17,17 @@ use Rattle.wire.specs.Wire.{fieldAt}
 use Rattle.wire.specs.WireLaws.{field-is}
 use Rattle.formats.specs.declared.table.Kind.the-variants.{Attribute, Class}
 use Rattle.formats.specs.Formats.{widthOf}
-use Rattle.formats.specs.BytesLaws.{no-bytes, cons-bytes, zeros-bytes, splice-bytes, digits-bytes}
-use Rattle.rows.specs.declared.read.RowRead.{RowRead}
+use Rattle.prelude.specs.BytesLaws.{no-bytes, cons-bytes, zeros-bytes, splice-bytes, digits-bytes}
 use Rattle.rows.specs.declared.read.RowRead.the-variants as rows
 use Rattle.rows.specs.BytesLaws.{read-bytes}
 use Rattle.stores.specs.Filled.{attributeHeader, plusAttribute, plusClass}
 use Rattle.stores.specs.FilledLaws.{attribute-plus-count, class-plus-count}
+use Rattle.sheet.specs.FrontLaws.{row-kept}
 use Rattle.sheet.specs.declared.read.Phase.{Phase}
 use Rattle.sheet.specs.declared.read.Phase.the-variants.{Heading, Attributes, Classes}
 use Rattle.sheet.specs.declared.read.Turn.{Turn}
 use Rattle.sheet.specs.declared.read.Turn.the-variants.{On, Stop}
-use Rattle.sheet.specs.Reading.{HasRoom, attributesOpen, rowStep, rowOut, attributeStep, classStep, Step, taggedStep, fieldStep, fullTable, stepAt, SheetOut, onward, readFrom, readSheet}
+use Rattle.sheet.specs.Reading.{HasRoom, attributesOpen, rowOut, attributeStep, classStep, Step, taggedStep, fieldStep, fullTable, stepAt, SheetOut, onward, readFrom, readSheet}
 use Rattle.sheet.specs.ReadingLaws.{has-room, attributes-few, classes-few, held-no-attributes, held-no-classes}
 
 -- ---- one row more
@@ -61,13 +61,6 @@ class-more row c b h l = record { bytes = put; few = omega (arith, class-plus-co
 
 -- ---- a step
 
--- a row that was read is put last, one that was refused is not
-row-put : (P : List ℕ → Type 0) (plus : List ℕ → List ℕ → List ℕ) (phase : Phase) (stop : ℕ) (missing : Bool) (store row : List ℕ) (r : RowRead) → P store → P (plus row store)
-    → P (rowStep plus phase stop missing store row r .store)
-unfolding rowStep
-row-put P plus phase stop missing store row rows.Read h more = more
-row-put P plus phase stop missing store row (rows.Bad at) h more = h
-
 pub record BothBytes (a c : List ℕ) : Type 0 where
   pub attributes : AttributeBytes a
   pub classes : ClassBytes c
@@ -80,13 +73,13 @@ module _ (s : List ℕ) (bytes : Bytes s) where
     attribute-kept : (a : List ℕ) → AttributeBytes a → attributeTable a .count < attributeLimit → AttributeBytes (attributeStep s start stop missing a .store)
     unfolding attributeStep
     attribute-kept a h l =
-        row-put AttributeBytes plusAttribute Attributes stop missing a (rowOut Attribute s start stop .row) (rowOut Attribute s start stop .answer) h
+        row-kept AttributeBytes plusAttribute Attributes stop missing a (rowOut Attribute s start stop .row) (rowOut Attribute s start stop .answer) h
         (attribute-more (rowOut Attribute s start stop .row) a (read-bytes Attribute s start stop (zeros (widthOf Attribute)) bytes (zeros-bytes (widthOf Attribute))) h l)
 
     class-kept : (c : List ℕ) → ClassBytes c → classTable c .count < classLimit → ClassBytes (classStep s start stop missing c .store)
     unfolding classStep
     class-kept c h l =
-        row-put ClassBytes plusClass Classes stop missing c (rowOut Class s start stop .row) (rowOut Class s start stop .answer) h
+        row-kept ClassBytes plusClass Classes stop missing c (rowOut Class s start stop .row) (rowOut Class s start stop .answer) h
         (class-more (rowOut Class s start stop .row) c (read-bytes Class s start stop (zeros (widthOf Class)) bytes (zeros-bytes (widthOf Class))) h l)
 
   module _ (at : ℕ) (phase : Phase) (missing : Bool) (a c : List ℕ) (h : BothBytes a c) where

@@ -126,7 +126,7 @@ row-front plus phase stop missing store t row rows.Read e = ap (storeStep (On st
 row-front plus phase stop missing store t row (rows.Bad at) e = refl
 
 -- and what holds of the store as it was and with the row put last holds of it after the step
-row-kept : (P : List ℕ → Type 0) (plus : List ℕ → List ℕ → List ℕ) (phase : Phase) (stop : ℕ) (missing : Bool) (store row : List ℕ) (r : RowRead) → P store → P (plus row store)
+pub row-kept : (P : List ℕ → Type 0) (plus : List ℕ → List ℕ → List ℕ) (phase : Phase) (stop : ℕ) (missing : Bool) (store row : List ℕ) (r : RowRead) → P store → P (plus row store)
     → P (rowStep plus phase stop missing store row r .store)
 unfolding rowStep
 row-kept P plus phase stop missing store row rows.Read h more = more
