@@ -134,9 +134,8 @@ pub fn read_change(s: &[u8], row: &mut [u8]) -> ChangeRead
     ensures { λ r. ⌜ (r ≡ readChange (now (s .entry)) (now (row .entry)) .answer)
         × (now (row .exit) ≡ readChange (now (s .entry)) (now (row .entry)) .row) ⌝ }
 {
-    match field_at(s, 0, s.len()) {
-        FieldRead::End => ChangeRead::Bad { at: 0 },
-        FieldRead::Bad { at } => ChangeRead::Bad { at },
-        FieldRead::Field { tag, start, end } => read_tagged(s, tag, start, end, row),
-    }
+    let FieldRead::Field { tag, start, end } = field_at(s, 0, s.len()) else {
+        return ChangeRead::Bad { at: 0 };
+    };
+    read_tagged(s, tag, start, end, row)
 }
