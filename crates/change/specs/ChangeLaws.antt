@@ -45,7 +45,7 @@ use Rattle.change.specs.declared.read.Tagged.{Tagged}
 use Rattle.change.specs.declared.read.Tagged.the-variants.{Known, Unknown}
 use Rattle.change.specs.declared.read.ChangeRead.the-variants.{Read, Bad}
 use Rattle.change.specs.Reading.{changeOf, kindOf, ChangeOut, changeOut, wholeRead, valueOut, taggedOut, fieldOut, readChange}
-use Rattle.change.specs.Carried.{openList, tagOf, listOf, newNameCell, newLowerCell, newUpperCell, addedAttribute, addedClass}
+use Rattle.change.specs.Carried.{openList, listTag, listOf, newNameCell, newLowerCell, newUpperCell, addedAttribute, addedClass}
 
 -- what any change carries has room in a row of a class
 pub kind-fits-row : (change : Change) → widthOf (kindOf change) ≤ classWidth
@@ -138,8 +138,8 @@ finished-length Target row h = refl
 finished-length Entry row h = refl
 
 -- each of the three is the tag of the list that it stands for
-open-tag : (x : ℕ) → (x ≡ 21) ⊎ ((x ≡ 23) ⊎ (x ≡ 25)) → x ≡ tagOf (openList x)
-unfolding openList tagOf
+open-tag : (x : ℕ) → (x ≡ 21) ⊎ ((x ≡ 23) ⊎ (x ≡ 25)) → x ≡ listTag (openList x)
+unfolding openList listTag
 open-tag x (inl e) = rw e
 open-tag x (inr (inl e)) = rw e
 open-tag x (inr (inr e)) = rw e
@@ -202,7 +202,7 @@ module _ (s row : List ℕ) (change : Change) (new : List ℕ) (bytes : Bytes s)
   unfolding formatOf entryFields cellAt width mark room wellFormedCell hasValue holds finished
   list-passes is = formed-at (formatOf Entry) noRule new 1 (kept Entry is (λ x. refl)) (omega arith)
 
-  pub list-tag : kindOf change ≡ Entry → getD new listAt 0 ≡ tagOf (listOf new)
+  pub list-tag : kindOf change ≡ Entry → getD new listAt 0 ≡ listTag (listOf new)
   unfolding passes
   list-tag is =
       let x : ℕ = getD (part listAt 1 new) 0 0 in
