@@ -1,12 +1,19 @@
 -- Each way that reading a change can go, from what the code's tests leave.
-use mathlib.Core.Path.{_≡_}
-use mathlib.Core.List.{List}
-use Prim.Native.Nat.{ℕ}
+use mathlib.Core.Path.{_≡_, refl, sym}
+use mathlib.Core.Bool.{Bool, true, false}
+use mathlib.Core.List.{List, [], _∷_}
+use mathlib.Core.Logic.{⊎-elim}
+use Prim.Native.Nat.{ℕ, _+_}
+use native.Mathlib.Omega.{arith}
+use types.Run.{OneOf}
+use denote.Enum.Declared.{tagOf}
+use lib.Dec.{eqb, leb}
 use lib.ListN.{length}
 use borrow.Author.Tests.{eq-eqb, ne-eqb}
 use Rattle.wire.specs.declared.FieldRead.{FieldRead}
 use Rattle.wire.specs.declared.FieldRead.the-variants as fields
-use Rattle.wire.specs.Wire.{fieldAt}
+use Rattle.wire.specs.Wire.{valueEnd, fieldAt}
+use Rattle.wire.proofs.FieldRead
 use Rattle.formats.specs.declared.table.Kind.{Kind}
 use Rattle.rows.specs.declared.read.RowRead.{RowRead}
 use Rattle.rows.specs.declared.read.RowRead.the-variants as rows
@@ -59,14 +66,27 @@ module _ (tagged : Tagged) (tag : ℕ) (is : tagged ≡ changeOf tag) (s : List 
 
 -- ---- the field in front
 
-module _ (s row : List ℕ) (field : FieldRead) (is : field ≡ fieldAt s 0 (length s)) where
-  pub front-missing : field ≡ fields.End → Comes (Bad 0) row (readChange s row)
-  unfolding readChange fieldOut
-  front-missing e = (rw (← is, e), rw (← is, e))
+-- a field that is cut is told by its own place
+cut-place : (s : List ℕ) (at end place : ℕ) → fieldAt s at end ≡ fields.Bad place → place ≡ at
+unfolding fieldAt
+cut-place s at end place e = go (eqb at end) refl (leb (at + 3) end) refl (leb (valueEnd s at) end) refl
+  where
+    go : (x : Bool) → eqb at end ≡ x → (y : Bool) → leb (at + 3) end ≡ y → (z : Bool) → leb (valueEnd s at) end ≡ z → place ≡ at
+    go true p y q z r = let no : _≡_ {A = ℕ} 0 1 = cc in absurd (omega arith)
+    go false p false q z r = cc
+    go false p true q false r = cc
+    go false p true q true r = let no : _≡_ {A = ℕ} 0 1 = cc in absurd (omega arith)
 
-  pub front-cut : (at : ℕ) → field ≡ fields.Bad at → Comes (Bad at) row (readChange s row)
+module _ (s row : List ℕ) (field : FieldRead) (is : field ≡ fieldAt s 0 (length s)) where
+  -- no whole field: none, or one that is cut
+  pub front-none : OneOf (1 ∷ 2 ∷ []) (tagOf FieldRead.the-type field) → Comes (Bad 0) row (readChange s row)
   unfolding readChange fieldOut
-  front-cut at e = (rw (← is, e), rw (← is, e))
+  front-none k = go field is k
+    where
+      go : (f : FieldRead) → f ≡ fieldAt s 0 (length s) → OneOf (1 ∷ 2 ∷ []) (tagOf FieldRead.the-type f) → Comes (Bad 0) row (readChange s row)
+      go (fields.Field tag start stop) e h = absurd (⊎-elim (λ (q : _≡_ {A = ℕ} 0 1). omega (arith, q)) (λ (q : _≡_ {A = ℕ} 0 2). omega (arith, q)) h)
+      go fields.End e h = (rw (← e), rw (← e))
+      go (fields.Bad at) e h = (rw (← e, cut-place s 0 (length s) at (sym e)), rw (← e))
 
   pub front-whole : (tag start stop : ℕ) (answer : ChangeRead) (new : List ℕ) → field ≡ fields.Field tag start stop → Comes answer new (taggedOut (changeOf tag) s start stop row)
       → Comes answer new (readChange s row)

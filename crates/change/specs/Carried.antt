@@ -20,10 +20,10 @@ targetOf row = bigEndian 2 targetAt row
 unfoldable pub openList : ℕ → OpenList
 openList tag = cond (eqb tag 21) Optional (cond (eqb tag 23) Auxiliary Superior)
 
-unfoldable pub tagOf : OpenList → ℕ
-tagOf Optional = 21
-tagOf Auxiliary = 23
-tagOf Superior = 25
+unfoldable pub listTag : OpenList → ℕ
+listTag Optional = 21
+listTag Auxiliary = 23
+listTag Superior = 25
 
 abbrev pub listOf : List ℕ → OpenList
 listOf row = openList (getD row listAt 0)

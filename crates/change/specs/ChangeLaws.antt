@@ -27,7 +27,7 @@ use Rattle.formats.specs.declared.table.Kind.{Kind}
 use Rattle.formats.specs.declared.table.Kind.the-variants.{Attribute, Class, NewAttribute, NewClass, Range, Name, Target, Entry}
 use Rattle.formats.specs.Shapes.{passes, room, holds}
 use Rattle.formats.specs.ShapesLaws.{says-holds}
-use Rattle.formats.specs.Rules.{mark, width, cellAt, hasValue, wellFormedCell, wellFormedBy}
+use Rattle.formats.specs.Rules.{mark, width, cellAt, hasValue, wellFormedCell, wellFormedBy, writeBy}
 use Rattle.formats.specs.RulesLaws.{laid, laid-cons, laid-le, formed-at}
 use Rattle.formats.specs.Formats.{listAt, commonFields, attributeFields, classFields, rangeFields, nameFields, entryFields, formatOf, widthOf, noRule}
 use Rattle.formats.specs.FormatsLaws.{kind-laid}
@@ -45,7 +45,7 @@ use Rattle.change.specs.declared.read.Tagged.{Tagged}
 use Rattle.change.specs.declared.read.Tagged.the-variants.{Known, Unknown}
 use Rattle.change.specs.declared.read.ChangeRead.the-variants.{Read, Bad}
 use Rattle.change.specs.Reading.{changeOf, kindOf, ChangeOut, changeOut, wholeRead, valueOut, taggedOut, fieldOut, readChange}
-use Rattle.change.specs.Carried.{openList, tagOf, listOf, newNameCell, newLowerCell, newUpperCell, addedAttribute, addedClass}
+use Rattle.change.specs.Carried.{openList, listTag, listOf, newNameCell, newLowerCell, newUpperCell, addedAttribute, addedClass}
 
 -- what any change carries has room in a row of a class
 pub kind-fits-row : (change : Change) → widthOf (kindOf change) ≤ classWidth
@@ -119,10 +119,11 @@ change-whole s row change new bytes e =
 
 -- ---- what it carries, as its fields were read and before it was finished
 
-record Fields (kind : Kind) (row new : List ℕ) : Type 0 where
+record Fields (kind : Kind) (s row new : List ℕ) : Type 0 where
   raw : List ℕ
   long : length raw ≡ length row
   formed : wellFormedBy (formatOf kind) raw ≡ true
+  written : writeBy (formatOf kind) raw ≡ part 3 (length s - 3) s
   is : new ≡ finished kind raw
 
 finished-length : (kind : Kind) (row : List ℕ) → widthOf kind ≤ length row → length (finished kind row) ≡ length row
@@ -137,21 +138,22 @@ finished-length Target row h = refl
 finished-length Entry row h = refl
 
 -- each of the three is the tag of the list that it stands for
-open-tag : (x : ℕ) → (x ≡ 21) ⊎ ((x ≡ 23) ⊎ (x ≡ 25)) → x ≡ tagOf (openList x)
-unfolding openList tagOf
+open-tag : (x : ℕ) → (x ≡ 21) ⊎ ((x ≡ 23) ⊎ (x ≡ 25)) → x ≡ listTag (openList x)
+unfolding openList listTag
 open-tag x (inl e) = rw e
 open-tag x (inr (inl e)) = rw e
 open-tag x (inr (inr e)) = rw e
 
 module _ (s row : List ℕ) (change : Change) (new : List ℕ) (bytes : Bytes s) (fits : classWidth ≤ length row) (e : readChange s row ≡ changeOut (Read change) new) where
-  change-fields : Fields (kindOf change) row new
+  change-fields : Fields (kindOf change) s row new
   change-fields =
       let p = change-parts s row change new e in
       let kind : Kind = kindOf change in
       let raw : List ℕ = readBy s (length s) (formatOf kind) (p .start) false row .row in
       let r = row-read kind s (p .start) (length s) row new (p .read) in
       let b = fields-back kind s (p .start) (length s) row raw bytes (omega arith) (omega (arith, kind-fits-row change)) (r .0) in
-      record { raw = raw; long = b .0; formed = b .1 .0; is = r .1 }
+      let w = field-is s 0 (length s) (p .tag) (p .start) (length s) (p .field) in
+      record { raw = raw; long = b .0; formed = b .1 .0; written = b .1 .1 ∙ ap (λ (k : ℕ). part k (length s - k) s) (w .start-is); is = r .1 }
 
   -- the scratch row keeps its length
   pub change-length : length new ≡ length row
@@ -159,11 +161,19 @@ module _ (s row : List ℕ) (change : Change) (new : List ℕ) (bytes : Bytes s)
       let f = change-fields in
       ap length (f .is) ∙ finished-length (kindOf change) (f .raw) (omega (arith, f .long, kind-fits-row change)) ∙ f .long
 
-  -- what is kept as it was read is well-formed by its table
-  kept : (kind : Kind) → kindOf change ≡ kind → ((x : List ℕ) → finished kind x ≡ x) → wellFormedBy (formatOf kind) new ≡ true
-  kept kind is same =
-      let f : Fields kind row new = subst (λ (k : Kind). Fields k row new) is change-fields in
-      rw (f .is ∙ same (f .raw)) (f .formed)
+  -- what is kept as it was read, and that is all but an added attribute's oMObjectClass, is well-formed by its table
+  module _ (kind : Kind) (is : kindOf change ≡ kind) (same : (x : List ℕ) → finished kind x ≡ x) where
+    kept-fields : Fields kind s row new
+    kept-fields = subst (λ (k : Kind). Fields k s row new) is change-fields
+
+    kept : wellFormedBy (formatOf kind) new ≡ true
+    kept = rw (kept-fields .is ∙ same (kept-fields .raw)) (kept-fields .formed)
+
+    -- and written again it is the change that was read
+    pub change-written : s ≡ fieldBytes (getD s 0 0) (writeBy (formatOf kind) new)
+    change-written =
+        change-whole s row change new bytes e .1
+        ∙ ap (fieldBytes (getD s 0 0)) (sym (ap (writeBy (formatOf kind)) (kept-fields .is ∙ same (kept-fields .raw)) ∙ kept-fields .written))
 
   -- ---- a name: a cell that both tables take, of at most 64 bytes
 
@@ -192,7 +202,7 @@ module _ (s row : List ℕ) (change : Change) (new : List ℕ) (bytes : Bytes s)
   unfolding formatOf entryFields cellAt width mark room wellFormedCell hasValue holds finished
   list-passes is = formed-at (formatOf Entry) noRule new 1 (kept Entry is (λ x. refl)) (omega arith)
 
-  pub list-tag : kindOf change ≡ Entry → getD new listAt 0 ≡ tagOf (listOf new)
+  pub list-tag : kindOf change ≡ Entry → getD new listAt 0 ≡ listTag (listOf new)
   unfolding passes
   list-tag is =
       let x : ℕ = getD (part listAt 1 new) 0 0 in
@@ -265,7 +275,7 @@ module _ (s row new : List ℕ) (bytes : Bytes s) (fits : classWidth ≤ length 
   unfolding kindOf finished
   attribute-added e =
       let p = change-parts s row AddAttribute new e in
-      let f : Fields NewAttribute row new = change-fields s row AddAttribute new bytes fits e in
+      let f : Fields NewAttribute s row new = change-fields s row AddAttribute new bytes fits e in
       let long : length new ≡ length row = change-length s row AddAttribute new bytes fits e in
       let byte : getD new defunctAt 0 ≡ 0 = ap (λ (x : List ℕ). getD x defunctAt 0) (f .is) ∙ settled-defunct (f .raw) (omega (arith, f .long)) ∙ never-attribute (f .raw) (f .formed) in
       record {
@@ -278,7 +288,7 @@ module _ (s row new : List ℕ) (bytes : Bytes s) (fits : classWidth ≤ length 
   unfolding kindOf finished
   class-added e =
       let p = change-parts s row AddClass new e in
-      let f : Fields NewClass row new = change-fields s row AddClass new bytes fits e in
+      let f : Fields NewClass s row new = change-fields s row AddClass new bytes fits e in
       let long : length new ≡ length row = change-length s row AddClass new bytes fits e in
       let byte : getD new defunctAt 0 ≡ 0 = ap (λ (x : List ℕ). getD x defunctAt 0) (f .is) ∙ never-class (f .raw) (f .formed) in
       record {

@@ -29,20 +29,20 @@ changeAnswer (Read change) = done 0 0
 changeAnswer (Bad at) = unreadable at
 
 -- "40, 41 add attribute, class (value as a row, no 05); 42 range; 43, 44 name of attribute, class; 45, 46 deactivate; 47, 48 reactivate; 49, 4A list
--- addition, removal", in hex: 64 is 40, 74 is 4A
+-- addition, removal", with the paper's hex beside each tag
 unfoldable pub changeOf : ℕ → Tagged
 changeOf tag =
-    cond (eqb tag 64) (Known AddAttribute)
-    (cond (eqb tag 65) (Known AddClass)
-    (cond (eqb tag 66) (Known SetRange)
-    (cond (eqb tag 67) (Known RenameAttribute)
-    (cond (eqb tag 68) (Known RenameClass)
-    (cond (eqb tag 69) (Known DeactivateAttribute)
-    (cond (eqb tag 70) (Known DeactivateClass)
-    (cond (eqb tag 71) (Known ReactivateAttribute)
-    (cond (eqb tag 72) (Known ReactivateClass)
-    (cond (eqb tag 73) (Known AddEntry)
-    (cond (eqb tag 74) (Known RemoveEntry) Unknown))))))))))
+    cond (eqb tag 64) (Known AddAttribute)  -- 40
+    (cond (eqb tag 65) (Known AddClass)  -- 41
+    (cond (eqb tag 66) (Known SetRange)  -- 42
+    (cond (eqb tag 67) (Known RenameAttribute)  -- 43
+    (cond (eqb tag 68) (Known RenameClass)  -- 44
+    (cond (eqb tag 69) (Known DeactivateAttribute)  -- 45
+    (cond (eqb tag 70) (Known DeactivateClass)  -- 46
+    (cond (eqb tag 71) (Known ReactivateAttribute)  -- 47
+    (cond (eqb tag 72) (Known ReactivateClass)  -- 48
+    (cond (eqb tag 73) (Known AddEntry)  -- 49
+    (cond (eqb tag 74) (Known RemoveEntry) Unknown))))))))))  -- 4A
 
 -- "42 to 4A begin with field 20, the target, any u16; then 0A and 0B .., or 01, or 21 .. and 22, the entry": the table that its value is read by
 unfoldable pub kindOf : Change → Kind

@@ -26,9 +26,9 @@ pub enum OpenList {
 }
 
 // The tags of the first two.
-pub const OPEN_OPTIONAL: u8 = 0x15;
+pub const OPTIONAL_LIST: u8 = 0x15;
 
-pub const OPEN_AUXILIARY: u8 = 0x17;
+pub const AUXILIARY_LIST: u8 = 0x17;
 
 // The row that is changed: an attribute's or a class's number, as the change says.
 pub fn target(row: &[u8]) -> u16
@@ -44,10 +44,10 @@ pub fn open_list(row: &[u8]) -> OpenList
     ensures { λ r. ⌜ r ≡ listOf (now (row .entry)) ⌝ }
 {
     let tag = byte_at(row, LIST);
-    if tag == OPEN_OPTIONAL {
+    if tag == OPTIONAL_LIST {
         return OpenList::Optional;
     }
-    if tag == OPEN_AUXILIARY {
+    if tag == AUXILIARY_LIST {
         return OpenList::Auxiliary;
     }
     OpenList::Superior

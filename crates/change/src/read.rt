@@ -8,7 +8,7 @@ ghost use mathlib.Core.Path.{_≡_};
 ghost use Prim.Native.Nat.{_≤_};
 ghost use lib.ListN.{length};
 ghost use Rattle.schema.specs.Layout.{classWidth};
-ghost use Rattle.change.specs.Reading.{changeOf, kindOf, valueOut, taggedOut, readChange};
+ghost use Rattle.change.specs.Reading.{changeOf, kindOf, valueOut, readChange};
 
 // What a change asks for.
 pub enum Change {
@@ -116,27 +116,17 @@ fn read_value(change: Change, s: &[u8], start: usize, stop: usize, row: &mut [u8
     }
 }
 
-// A whole field, by its tag.
-fn read_tagged(s: &[u8], tag: u8, start: usize, stop: usize, row: &mut [u8]) -> ChangeRead
-    requires { ⌜ (start ≤ stop) × (stop ≤ length (now s)) × (classWidth ≤ length (now row)) ⌝ }
-    ensures { λ r. ⌜ (r ≡ taggedOut (changeOf tag) (now (s .entry)) start stop (now (row .entry)) .answer)
-        × (now (row .exit) ≡ taggedOut (changeOf tag) (now (s .entry)) start stop (now (row .entry)) .row) ⌝ }
-{
-    let Tagged::Known(change) = change_of(tag) else {
-        return ChangeRead::Bad { at: 0 };
-    };
-    read_value(change, s, start, stop, row)
-}
-
 // Reads a change. The scratch row then holds what it carries; after a refusal, what was stored before it.
 pub fn read_change(s: &[u8], row: &mut [u8]) -> ChangeRead
     requires { ⌜ classWidth ≤ length (now row) ⌝ }
     ensures { λ r. ⌜ (r ≡ readChange (now (s .entry)) (now (row .entry)) .answer)
         × (now (row .exit) ≡ readChange (now (s .entry)) (now (row .entry)) .row) ⌝ }
 {
-    match field_at(s, 0, s.len()) {
-        FieldRead::End => ChangeRead::Bad { at: 0 },
-        FieldRead::Bad { at } => ChangeRead::Bad { at },
-        FieldRead::Field { tag, start, end } => read_tagged(s, tag, start, end, row),
-    }
+    let FieldRead::Field { tag, start, end } = field_at(s, 0, s.len()) else {
+        return ChangeRead::Bad { at: 0 };
+    };
+    let Tagged::Known(change) = change_of(tag) else {
+        return ChangeRead::Bad { at: 0 };
+    };
+    read_value(change, s, start, end, row)
 }
