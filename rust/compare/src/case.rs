@@ -1,6 +1,6 @@
 //! One input: a call, and all that is lent to it.
 
-use crate::keeper::Keeper;
+use crate::keeper::{Keeper, Lent, LentMut};
 use crate::outcome::Outcome;
 use generate::Stores;
 use generate::stores::PAST;
@@ -62,16 +62,11 @@ impl Case {
             Call::Write(length) => vec![PAST; length],
             _ => Vec::new(),
         };
-        let Stores {
-            attrs,
-            classes,
-            closure,
-        } = &mut stores;
         let number = match &self.call {
-            Call::Load(sheet) => keeper.load(sheet, attrs, classes, closure, &mut detail),
-            Call::Write(_) => keeper.write(attrs, classes, closure, &mut output, &mut detail),
-            Call::Audit => keeper.audit(attrs, classes, closure, &mut detail),
-            Call::Depth(class) => keeper.depth(attrs, classes, closure, *class, &mut detail),
+            Call::Load(sheet) => keeper.load(sheet, lent_mut(&mut stores), &mut detail),
+            Call::Write(_) => keeper.write(lent(&stores), &mut output, &mut detail),
+            Call::Audit => keeper.audit(lent(&stores), &mut detail),
+            Call::Depth(class) => keeper.depth(lent(&stores), *class, &mut detail),
         };
         Outcome {
             number,
@@ -79,5 +74,23 @@ impl Case {
             stores,
             output,
         }
+    }
+}
+
+/// The stores, to be read.
+fn lent(stores: &Stores) -> Lent<'_> {
+    Lent {
+        attributes: &stores.attrs,
+        classes: &stores.classes,
+        closure: &stores.closure,
+    }
+}
+
+/// The stores, to be loaded into.
+fn lent_mut(stores: &mut Stores) -> LentMut<'_> {
+    LentMut {
+        attributes: &mut stores.attrs,
+        classes: &mut stores.classes,
+        closure: &mut stores.closure,
     }
 }

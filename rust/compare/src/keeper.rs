@@ -2,41 +2,42 @@
 
 use reference::Answer;
 
+/// The three stores, lent to be read.
+#[derive(Clone, Copy, Debug)]
+pub struct Lent<'a> {
+    /// The attribute store.
+    pub attributes: &'a [u8],
+    /// The class store.
+    pub classes: &'a [u8],
+    /// The closure store.
+    pub closure: &'a [u8],
+}
+
+/// The three stores, lent to be loaded into.
+#[derive(Debug)]
+pub struct LentMut<'a> {
+    /// The attribute store.
+    pub attributes: &'a mut [u8],
+    /// The class store.
+    pub classes: &'a mut [u8],
+    /// The closure store.
+    pub closure: &'a mut [u8],
+}
+
 /// A keeper: each call gives a number back and tells table and place in
 /// `detail`.
 pub trait Keeper {
     /// `keeper_load`
-    fn load(
-        &self,
-        sheet: &[u8],
-        attributes: &mut [u8],
-        classes: &mut [u8],
-        closure: &mut [u8],
-        detail: &mut [u64],
-    ) -> u64;
+    fn load(&self, sheet: &[u8], stores: LentMut<'_>, detail: &mut [u64]) -> u64;
 
     /// `keeper_write`
-    fn write(
-        &self,
-        attributes: &[u8],
-        classes: &[u8],
-        closure: &[u8],
-        output: &mut [u8],
-        detail: &mut [u64],
-    ) -> u64;
+    fn write(&self, stores: Lent<'_>, output: &mut [u8], detail: &mut [u64]) -> u64;
 
     /// `keeper_audit`
-    fn audit(&self, attributes: &[u8], classes: &[u8], closure: &[u8], detail: &mut [u64]) -> u64;
+    fn audit(&self, stores: Lent<'_>, detail: &mut [u64]) -> u64;
 
     /// `keeper_depth`
-    fn depth(
-        &self,
-        attributes: &[u8],
-        classes: &[u8],
-        closure: &[u8],
-        class: u16,
-        detail: &mut [u64],
-    ) -> u64;
+    fn depth(&self, stores: Lent<'_>, class: u16, detail: &mut [u64]) -> u64;
 }
 
 /// The reference behind the same calls.
@@ -55,46 +56,27 @@ pub fn tell(detail: &mut [u64], call: impl FnOnce() -> Answer) -> u64 {
 }
 
 impl Keeper for Reference {
-    fn load(
-        &self,
-        sheet: &[u8],
-        attributes: &mut [u8],
-        classes: &mut [u8],
-        closure: &mut [u8],
-        detail: &mut [u64],
-    ) -> u64 {
+    fn load(&self, sheet: &[u8], s: LentMut<'_>, detail: &mut [u64]) -> u64 {
         tell(detail, || {
-            reference::load(sheet, attributes, classes, closure)
+            reference::load(sheet, s.attributes, s.classes, s.closure)
         })
     }
 
-    fn write(
-        &self,
-        attributes: &[u8],
-        classes: &[u8],
-        closure: &[u8],
-        output: &mut [u8],
-        detail: &mut [u64],
-    ) -> u64 {
+    fn write(&self, s: Lent<'_>, output: &mut [u8], detail: &mut [u64]) -> u64 {
         tell(detail, || {
-            reference::write(attributes, classes, closure, output)
+            reference::write(s.attributes, s.classes, s.closure, output)
         })
     }
 
-    fn audit(&self, attributes: &[u8], classes: &[u8], closure: &[u8], detail: &mut [u64]) -> u64 {
-        tell(detail, || reference::audit(attributes, classes, closure))
+    fn audit(&self, s: Lent<'_>, detail: &mut [u64]) -> u64 {
+        tell(detail, || {
+            reference::audit(s.attributes, s.classes, s.closure)
+        })
     }
 
-    fn depth(
-        &self,
-        attributes: &[u8],
-        classes: &[u8],
-        closure: &[u8],
-        class: u16,
-        detail: &mut [u64],
-    ) -> u64 {
+    fn depth(&self, s: Lent<'_>, class: u16, detail: &mut [u64]) -> u64 {
         tell(detail, || {
-            reference::depth(attributes, classes, closure, class)
+            reference::depth(s.attributes, s.classes, s.closure, class)
         })
     }
 }

@@ -14,7 +14,7 @@ mod run;
 
 pub use case::{Call, Case};
 pub use cases::{EXPECTED, cases};
-pub use keeper::{Keeper, Reference};
+pub use keeper::{Keeper, Lent, LentMut, Reference};
 pub use listings::{Listings, compare_listings};
 pub use outcome::{Difference, Outcome};
 pub use run::{Report, compare};

@@ -1,6 +1,6 @@
 //! The keeper in the static library, by both ways that lead to it.
 
-use crate::keeper::{Keeper, tell};
+use crate::keeper::{Keeper, Lent, LentMut, tell};
 use reference::Answer;
 
 /// Through the declarations of include/keeper.h.
@@ -8,41 +8,20 @@ use reference::Answer;
 pub struct Declared;
 
 impl Keeper for Declared {
-    fn load(
-        &self,
-        sheet: &[u8],
-        attributes: &mut [u8],
-        classes: &mut [u8],
-        closure: &mut [u8],
-        detail: &mut [u64],
-    ) -> u64 {
-        keeper::c::load(sheet, attributes, classes, closure, detail)
+    fn load(&self, sheet: &[u8], s: LentMut<'_>, detail: &mut [u64]) -> u64 {
+        keeper::c::load(sheet, s.attributes, s.classes, s.closure, detail)
     }
 
-    fn write(
-        &self,
-        attributes: &[u8],
-        classes: &[u8],
-        closure: &[u8],
-        output: &mut [u8],
-        detail: &mut [u64],
-    ) -> u64 {
-        keeper::c::write(attributes, classes, closure, output, detail)
+    fn write(&self, s: Lent<'_>, output: &mut [u8], detail: &mut [u64]) -> u64 {
+        keeper::c::write(s.attributes, s.classes, s.closure, output, detail)
     }
 
-    fn audit(&self, attributes: &[u8], classes: &[u8], closure: &[u8], detail: &mut [u64]) -> u64 {
-        keeper::c::audit(attributes, classes, closure, detail)
+    fn audit(&self, s: Lent<'_>, detail: &mut [u64]) -> u64 {
+        keeper::c::audit(s.attributes, s.classes, s.closure, detail)
     }
 
-    fn depth(
-        &self,
-        attributes: &[u8],
-        classes: &[u8],
-        closure: &[u8],
-        class: u16,
-        detail: &mut [u64],
-    ) -> u64 {
-        keeper::c::depth(attributes, classes, closure, class, detail)
+    fn depth(&self, s: Lent<'_>, class: u16, detail: &mut [u64]) -> u64 {
+        keeper::c::depth(s.attributes, s.classes, s.closure, class, detail)
     }
 }
 
@@ -66,46 +45,27 @@ fn same(answer: keeper::Answer) -> Answer {
 }
 
 impl Keeper for Wrapped {
-    fn load(
-        &self,
-        sheet: &[u8],
-        attributes: &mut [u8],
-        classes: &mut [u8],
-        closure: &mut [u8],
-        detail: &mut [u64],
-    ) -> u64 {
+    fn load(&self, sheet: &[u8], s: LentMut<'_>, detail: &mut [u64]) -> u64 {
         tell(detail, || {
-            same(keeper::load(sheet, attributes, classes, closure))
+            same(keeper::load(sheet, s.attributes, s.classes, s.closure))
         })
     }
 
-    fn write(
-        &self,
-        attributes: &[u8],
-        classes: &[u8],
-        closure: &[u8],
-        output: &mut [u8],
-        detail: &mut [u64],
-    ) -> u64 {
+    fn write(&self, s: Lent<'_>, output: &mut [u8], detail: &mut [u64]) -> u64 {
         tell(detail, || {
-            same(keeper::write(attributes, classes, closure, output))
+            same(keeper::write(s.attributes, s.classes, s.closure, output))
         })
     }
 
-    fn audit(&self, attributes: &[u8], classes: &[u8], closure: &[u8], detail: &mut [u64]) -> u64 {
-        tell(detail, || same(keeper::audit(attributes, classes, closure)))
+    fn audit(&self, s: Lent<'_>, detail: &mut [u64]) -> u64 {
+        tell(detail, || {
+            same(keeper::audit(s.attributes, s.classes, s.closure))
+        })
     }
 
-    fn depth(
-        &self,
-        attributes: &[u8],
-        classes: &[u8],
-        closure: &[u8],
-        class: u16,
-        detail: &mut [u64],
-    ) -> u64 {
+    fn depth(&self, s: Lent<'_>, class: u16, detail: &mut [u64]) -> u64 {
         tell(detail, || {
-            same(keeper::depth(attributes, classes, closure, class))
+            same(keeper::depth(s.attributes, s.classes, s.closure, class))
         })
     }
 }

@@ -1,6 +1,6 @@
 //! The comparison finds what it is there to find, without the library linked.
 
-use compare::{EXPECTED, Keeper, Reference, compare};
+use compare::{EXPECTED, Keeper, Lent, LentMut, Reference, compare};
 use generate::coverage::may_give;
 
 #[test]
@@ -32,32 +32,18 @@ enum Wrong {
 }
 
 impl Keeper for Wrong {
-    fn load(
-        &self,
-        sheet: &[u8],
-        attributes: &mut [u8],
-        classes: &mut [u8],
-        closure: &mut [u8],
-        detail: &mut [u64],
-    ) -> u64 {
-        if let (Wrong::PastTheEnd, Some(past)) = (self, attributes.get_mut(48_386)) {
+    fn load(&self, sheet: &[u8], stores: LentMut<'_>, detail: &mut [u64]) -> u64 {
+        if let (Wrong::PastTheEnd, Some(past)) = (self, stores.attributes.get_mut(48_386)) {
             *past = 0;
         }
         if let (Wrong::ShortDetail, [told]) = (self, &mut *detail) {
             *told = 0;
         }
-        Reference.load(sheet, attributes, classes, closure, detail)
+        Reference.load(sheet, stores, detail)
     }
 
-    fn write(
-        &self,
-        attributes: &[u8],
-        classes: &[u8],
-        closure: &[u8],
-        output: &mut [u8],
-        detail: &mut [u64],
-    ) -> u64 {
-        let number = Reference.write(attributes, classes, closure, output, detail);
+    fn write(&self, stores: Lent<'_>, output: &mut [u8], detail: &mut [u64]) -> u64 {
+        let number = Reference.write(stores, output, detail);
         let length = detail.get(1).copied().unwrap_or_default() as usize;
         if let (Wrong::OneByteMore, 0, Some(more)) = (self, number, output.get_mut(length)) {
             *more = 0;
@@ -65,22 +51,15 @@ impl Keeper for Wrong {
         number
     }
 
-    fn audit(&self, attributes: &[u8], classes: &[u8], closure: &[u8], detail: &mut [u64]) -> u64 {
-        match (self, Reference.audit(attributes, classes, closure, detail)) {
+    fn audit(&self, stores: Lent<'_>, detail: &mut [u64]) -> u64 {
+        match (self, Reference.audit(stores, detail)) {
             (Wrong::ClosurePassed, 3) => 0,
             (_, number) => number,
         }
     }
 
-    fn depth(
-        &self,
-        attributes: &[u8],
-        classes: &[u8],
-        closure: &[u8],
-        class: u16,
-        detail: &mut [u64],
-    ) -> u64 {
-        let number = Reference.depth(attributes, classes, closure, class, detail);
+    fn depth(&self, stores: Lent<'_>, class: u16, detail: &mut [u64]) -> u64 {
+        let number = Reference.depth(stores, class, detail);
         if let (Wrong::OneStepLess, [_, place]) = (self, detail) {
             *place = place.saturating_sub(1);
         }
