@@ -1,6 +1,6 @@
 -- Reading a change. Document 01: "A change is one field"; "Number 4 tells the first field that cannot be accepted (the innermost; out of order counts) by its
 -- tag's offset; a missing field, where the rest of its value is sound, by the end of that value; leftover bytes by their start."
--- READINGS R24: without bytes that one field is missing, at 0; its tag stands at 0; what stands behind it is looked at last.
+-- docs/DECISIONS.md, R24: without bytes that one field is missing, at 0; its tag stands at 0; what stands behind it is looked at last.
 use mathlib.Core.Bool.{cond}
 use mathlib.Core.List.{List}
 use Prim.Native.Nat.{ℕ}
