@@ -1,12 +1,13 @@
 -- Unions over the rows of chosen classes: one row more, all rows, and that they give what a class demands and allows.
-use mathlib.Core.Path.{_≡_, refl, sym, ap, ap₂, _∙_}
 use mathlib.Core.Bool.{Bool, true, false, _&&_, _||_}
-use mathlib.Core.Logic.{_⊎_, inl, inr, ⊎-elim}
 use mathlib.Core.List.{List}
+use mathlib.Core.Logic.{_⊎_, inl, inr, ⊎-elim}
+use mathlib.Core.Path.{_≡_, refl, sym, ap, ap₂, _∙_}
 use Prim.Native.Nat.{ℕ, _+_, _*_, _≤_, _<_}
 use native.Mathlib.Numerals.{add-one}
 use native.Mathlib.Omega.{arith}
 use lib.ListN.{length, getD}
+use borrow.Fn.PlainCycle.{is}
 use Rattle.prelude.specs.SaysLaws.{says, says-or, says-iff, says-same, says-false}
 use Rattle.prelude.specs.Below.{anyBelow, Some}
 use Rattle.prelude.specs.BelowLaws.{says-any, any-cong}
@@ -16,6 +17,7 @@ use Rattle.sets.specs.SetsLaws.{bit-flag, bit-zeros, says-member, is-set, set-c
 use Rattle.schema.specs.Numbers.{classLimit}
 use Rattle.schema.specs.Layout.{classSet, attributeSet, mandatoryAt, fixedOptionalAt, openOptionalAt}
 use Rattle.schema.specs.Store.{Table}
+use Rattle.tables.specs.Named.{lists}
 use Rattle.graph.specs.Graph.{collectsBy, listsMandatory, listsOptional, reaches, demands, allows, demandedSet}
 use Rattle.graph.specs.Collect.{chosenLists, collected, collectedOptional, plus}
 
@@ -39,7 +41,8 @@ no-member n k = says-false (says-member (zeros n) k) (λ o. omega (arith, bit-ze
 
 module _ (t : Table) (chosen : ℕ → Bool) (at k : ℕ) (out : List ℕ) (long : length out ≡ attributeSet) where
   -- chosen: its set is joined in
-  pub chosen-joined : (row p r : List ℕ) → chosen k ≡ true → row ≡ t .row k → p ≡ part at attributeSet row → r ≡ union out p → r ≡ plus out (chosenLists t chosen at k)
+  pub chosen-joined : (row p r : List ℕ) → chosen k ≡ true → row ≡ t .row k → p ≡ part at attributeSet row → r ≡ union out p → r
+      ≡ plus out (chosenLists t chosen at k)
   unfolding union plus chosenLists
   chosen-joined row p r e w q u = rw (u, long, e, q, w)
 
@@ -82,7 +85,8 @@ module _ (t : Table) (chosen : ℕ → Bool) (at : ℕ) where
   -- from an empty set
   pub from-empty : (o out : List ℕ) → o ≡ zeros attributeSet → out ≡ plus o (collected t chosen at) → out ≡ setOf attributeSet (collected t chosen at)
   unfolding plus
-  from-empty o out z q = q ∙ set-cong attributeSet (λ b. member o b || collected t chosen at b) (collected t chosen at) (λ b l. rw (z, no-member attributeSet b))
+  from-empty o out z q = q ∙ set-cong attributeSet (λ b. member o b || collected t chosen at b) (collected t chosen at)
+      (λ b l. rw (z, no-member attributeSet b))
 
 -- the fixed ones, and then the open ones
 pub both-lists : (t : Table) (chosen : ℕ → Bool) (o f out : List ℕ) → o ≡ zeros attributeSet → f ≡ plus o (collected t chosen fixedOptionalAt)
@@ -90,19 +94,24 @@ pub both-lists : (t : Table) (chosen : ℕ → Bool) (o f out : List ℕ) → o 
 unfolding collectedOptional plus
 both-lists t chosen o f out z p q =
     let e : f ≡ setOf attributeSet (collected t chosen fixedOptionalAt) = from-empty t chosen fixedOptionalAt o f z p in
-    q ∙ set-cong attributeSet (λ b. member f b || collected t chosen openOptionalAt b) (λ b. collected t chosen fixedOptionalAt b || collected t chosen openOptionalAt b)
-    (λ b l. ap (λ (x : Bool). x || collected t chosen openOptionalAt b) (ap (λ (s : List ℕ). member s b) e ∙ member-within attributeSet (collected t chosen fixedOptionalAt) b l))
+    q ∙ set-cong attributeSet (λ b. member f b || collected t chosen openOptionalAt b)
+    (λ b. collected t chosen fixedOptionalAt b || collected t chosen openOptionalAt b)
+    (λ b l. ap (λ (x : Bool). x || collected t chosen openOptionalAt b)
+    (ap (λ (s : List ℕ). member s b) e ∙ member-within attributeSet (collected t chosen fixedOptionalAt) b l))
 
 -- ---- over the classes reached
 
 -- some chosen number is in one set or in another
 either : (n : ℕ) (chosen p q : ℕ → Bool) → anyBelow n (λ k. chosen k && p k) || anyBelow n (λ k. chosen k && q k) ≡ anyBelow n (λ k. chosen k && (p k || q k))
 either n chosen p q =
-    says-same (says-or (says-any n {P = λ k. (chosen k ≡ true) × (p k ≡ true)} (λ k l. search says)) (says-any n {P = λ k. (chosen k ≡ true) × (q k ≡ true)} (λ k l. search says)))
+    says-same (says-or (says-any n {P = λ k. (chosen k ≡ true) × (p k ≡ true)} (λ k l. search says))
+    (says-any n {P = λ k. (chosen k ≡ true) × (q k ≡ true)} (λ k l. search says)))
     (says-iff (says-any n {P = λ k. (chosen k ≡ true) × ((p k ≡ true) ⊎ (q k ≡ true))} (λ k l. search says)) (apart, ⊎-elim left right))
   where
-    apart : Some n (λ k. (chosen k ≡ true) × ((p k ≡ true) ⊎ (q k ≡ true))) → Some n (λ k. (chosen k ≡ true) × (p k ≡ true)) ⊎ Some n (λ k. (chosen k ≡ true) × (q k ≡ true))
-    apart s = ⊎-elim (λ h. inl (record { at = s .at; below = s .below; is = (s .is .0, h) })) (λ h. inr (record { at = s .at; below = s .below; is = (s .is .0, h) })) (s .is .1)
+    apart : Some n (λ k. (chosen k ≡ true) × ((p k ≡ true) ⊎ (q k ≡ true))) → Some n (λ k. (chosen k ≡ true) × (p k ≡ true))
+        ⊎ Some n (λ k. (chosen k ≡ true) × (q k ≡ true))
+    apart s = ⊎-elim (λ h. inl (record { at = s .at; below = s .below; is = (s .is .0, h) }))
+        (λ h. inr (record { at = s .at; below = s .below; is = (s .is .0, h) })) (s .is .1)
 
     left : Some n (λ k. (chosen k ≡ true) × (p k ≡ true)) → Some n (λ k. (chosen k ≡ true) × ((p k ≡ true) ⊎ (q k ≡ true)))
     left s = record { at = s .at; below = s .below; is = (s .is .0, inl (s .is .1)) }
@@ -121,7 +130,8 @@ module _ (t : Table) (c : ℕ) (s : List ℕ) (few : t .count ≤ classLimit) (r
   pub collected-allows : (b : ℕ) → collectedOptional t (member s) b ≡ allows t c b
   unfolding collectedOptional collected chosenLists collectsBy listsOptional
   collected-allows b =
-      ap₂ _||_ (any-cong n _ _ (λ k l. ap (λ (x : Bool). x && fixed k) (chosen-reached k l))) (any-cong n _ _ (λ k l. ap (λ (x : Bool). x && other k) (chosen-reached k l)))
+      ap₂ _||_ (any-cong n _ _ (λ k l. ap (λ (x : Bool). x && fixed k) (chosen-reached k l)))
+      (any-cong n _ _ (λ k l. ap (λ (x : Bool). x && other k) (chosen-reached k l)))
       ∙ either n (reaches t c) fixed other
     where
       n : ℕ

@@ -1,7 +1,7 @@
 -- Walks that avoid a set of visited classes, for any number n of classes and any test e of naming; and sets that grow by what such walks reach.
-use mathlib.Core.Path.{_≡_, refl, sym, _∙_}
 use mathlib.Core.Bool.{Bool, true, false, true≢false}
 use mathlib.Core.Logic.{_⊎_, inl, inr, ⊎-elim}
+use mathlib.Core.Path.{_≡_, refl, sym, _∙_}
 use Prim.Native.Nat.{ℕ, _<_}
 use Rattle.prelude.specs.Says.{Says}
 use Rattle.prelude.specs.SaysLaws.{says-and, says-test, says-false, says-not-test, true-or-false}
@@ -102,7 +102,13 @@ module _ (n : ℕ) (e : ℕ → ℕ → Bool) where
   found {u} a d l p = ⊎-elim (λ k. a .keep d k) (λ v. a .new d (p v)) (true-or-false (u d))
 
   pub past-added : {s u : Set} (c : ℕ) → ((k : ℕ) → Says (u k) ((s k ≡ true) ⊎ Past s c k)) → Added s u (Past s c)
-  past-added {s} c h = record { to = λ k. h k .holds; keep = λ k q. h k .passes (inl q); new = λ k p. h k .passes (inr p); on = λ y z p q l v. past-on s c y z p q l v }
+  past-added {s} c h = record {
+    to = λ k. h k .holds;
+    keep = λ k q. h k .passes (inl q);
+    new = λ k p. h k .passes (inr p);
+    on = λ y z p q l v. past-on
+        s c y z p q l v;
+  }
 
   -- ---- the two theorems
 
@@ -118,7 +124,9 @@ module _ (n : ℕ) (e : ℕ → ℕ → Bool) where
     keep-u k q = above .keep k (keep-m k q)
 
     to : (k : ℕ) → r k ≡ true → (s k ≡ true) ⊎ Past s c k
-    to k h = ⊎-elim (λ q. from-u (above .to k q)) (λ q. inr (past-from s c (q .0) k present unseen (names-c (q .0) .passes (inr (q .1))) (past-less s u keep-u (q .0) k (q .2)))) (beside .to k h)
+    to k h = ⊎-elim (λ q. from-u (above .to k q))
+        (λ q. inr (past-from s c (q .0) k present unseen (names-c (q .0) .passes (inr (q .1))) (past-less s u keep-u (q .0) k (q .2))))
+        (beside .to k h)
       where
         from-u : (m k ≡ true) ⊎ Past m up k → (s k ≡ true) ⊎ Past s c k
         from-u (inl q) = ⊎-elim inl (λ w. inr (rw w (past-here s c present unseen))) (marked k .holds q)
@@ -128,7 +136,8 @@ module _ (n : ℕ) (e : ℕ → ℕ → Bool) where
     r-c = beside .keep c (above .keep c (marked c .passes (inr refl)))
 
     closed : Closed s r
-    closed y z h w q l = ⊎-elim (λ v. at-c z (marked y .holds v) q l) (λ v. closed-then (added-closed above) (added-closed beside) (beside .keep) y z h v q l) (true-or-false (m y))
+    closed y z h w q l = ⊎-elim (λ v. at-c z (marked y .holds v) q l)
+        (λ v. closed-then (added-closed above) (added-closed beside) (beside .keep) y z h v q l) (true-or-false (m y))
       where
         at-c : (z : ℕ) → (s y ≡ true) ⊎ (y ≡ c) → e y z ≡ true → z < n → r z ≡ true
         at-c z (inl k) q l = absurd (true≢false (sym k ∙ w))

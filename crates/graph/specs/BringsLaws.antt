@@ -1,9 +1,11 @@
 -- What is brought along walks: the union of the own sets of the classes reached, and how it changes with one step, one class or one own
 -- entry more. `M x b` says that class x lists attribute b itself; it stands for the mandatory as for the optional sets.
-use mathlib.Core.Path.{_≡_}
 use mathlib.Core.Logic.{_⊎_, inl, inr, ⊎-elim, ⊎-map, _↔_}
+use mathlib.Core.Path.{_≡_}
 use Prim.Native.Nat.{ℕ, _<_}
 use native.Mathlib.Decide.{ℕ-discrete}
+use Rattle.schema.specs.NumbersLaws.{apart}
+use Rattle.tables.specs.Named.{lists}
 use Rattle.graph.specs.Walk.{Rel, Reach, here, step, Brings, Grown, Extended}
 use Rattle.graph.specs.WalkLaws.{join, widen, grown-keep, reach-grown, old-below, reach-old, reach-new, Off, off-walk, walk-split}
 

@@ -1,14 +1,16 @@
 -- How the tests of the class graph change with one change: what a quick change works out from the sets before it equals what is worked out afresh.
 -- Here e and f are the tests of naming, and o and p of the own lists, before and after.
-use mathlib.Core.Path.{_≡_, sym, _∙_}
-use mathlib.Core.Logic.{_⊎_, inl, inr, ⊎-elim, ⊎-map, _↔_}
 use mathlib.Core.Bool.{Bool, true, false, _&&_, _||_}
+use mathlib.Core.Logic.{_⊎_, inl, inr, ⊎-elim, ⊎-map, _↔_}
+use mathlib.Core.Path.{_≡_, sym, _∙_}
 use Prim.Native.Nat.{ℕ, suc, _<_}
 use native.Mathlib.Omega.{arith}
 use lib.Dec.{eqb}
+use borrow.Fn.PlainCycle.{is}
 use Rattle.prelude.specs.SaysLaws.{says-and, says-or, says-eq, says-iff, says-same, says-test, says-fails}
 use Rattle.prelude.specs.Below.{anyBelow, Some}
 use Rattle.prelude.specs.BelowLaws.{says-any, last-or-less}
+use Rattle.tables.specs.Named.{lists}
 use Rattle.graph.specs.Walk.{Reach, Grown, Extended}
 use Rattle.graph.specs.WalkLaws.{off-walk, walk-split, walk-to, widen, reach-grown, grown-keep, reach-old, reach-new}
 use Rattle.graph.specs.BringsLaws.{off-same, brings-apart, brings-grown, brings-keep, brings-old, brings-new, brings-listed}
@@ -63,7 +65,8 @@ module _ (n : ℕ) (e f : Test) (h : (x y : ℕ) → x < n → y < n → e x y �
 module _ (n : ℕ) (e f : Test) (t a : ℕ) (g : Grown (Edge n e) (Edge n f) t a) where
   -- the classes reached: a's are joined in for the classes that reached t
   pub reach-joined : (c x : ℕ) → reachesBy n f c x ≡ reachesBy n e c x || (reachesBy n e c t && reachesBy n e a x)
-  reach-joined c x = says-same (says-reaches n f c x) (says-iff (says-or (says-reaches n e c x) (says-and (says-reaches n e c t) (says-reaches n e a x))) (to, from))
+  reach-joined c x = says-same (says-reaches n f c x)
+      (says-iff (says-or (says-reaches n e c x) (says-and (says-reaches n e c t) (says-reaches n e a x))) (to, from))
     where
       to : Reaches n e c x ⊎ (Reaches n e c t × Reaches n e a x) → Reaches n f c x
       to (inl r) = record { present = r .present; walk = grown-keep g (r .walk) }
@@ -76,7 +79,8 @@ module _ (n : ℕ) (e f : Test) (t a : ℕ) (g : Grown (Edge n e) (Edge n f) t a
 
   -- the attributes collected: likewise
   pub collect-joined : (o : Test) (c b : ℕ) → collectsBy n f o c b ≡ collectsBy n e o c b || (reachesBy n e c t && collectsBy n e o a b)
-  collect-joined o c b = says-same (says-collects n f o c b) (says-iff (says-or (says-collects n e o c b) (says-and (says-reaches n e c t) (says-collects n e o a b))) (to, from))
+  collect-joined o c b = says-same (says-collects n f o c b)
+      (says-iff (says-or (says-collects n e o c b) (says-and (says-reaches n e c t) (says-collects n e o a b))) (to, from))
     where
       to : Collects n e o c b ⊎ (Reaches n e c t × Collects n e o a b) → Collects n f o c b
       to (inl d) = record { present = d .present; brought = brings-keep g (λ x a. o x a ≡ true) (d .brought) }
@@ -124,8 +128,16 @@ module _ (n : ℕ) (e f o p : Test) (k : ℕ) (steps : (x y : ℕ) → ¬ (x ≡
     reach-kept x =
         says-same (says-reaches n f c x)
         (says-iff (says-reaches n e c x) (
-          λ r. record { present = r .present; walk = ⊎-elim (λ q. off-walk (Edge n f) k (off-same to-f to-p q)) (λ q. absurd (not-e (r .present) (off-walk (Edge n e) k (q .0)))) (walk-split (Edge n e) k (r .walk)) },
-          λ r. record { present = r .present; walk = ⊎-elim (λ q. off-walk (Edge n e) k (off-same to-e to-o q)) (λ q. absurd (not-f (r .present) (off-walk (Edge n f) k (q .0)))) (walk-split (Edge n f) k (r .walk)) },
+          λ r. record {
+            present = r .present;
+            walk = ⊎-elim (λ q. off-walk (Edge n f) k (off-same to-f to-p q))
+                (λ q. absurd (not-e (r .present) (off-walk (Edge n e) k (q .0)))) (walk-split (Edge n e) k (r .walk));
+          },
+          λ r. record {
+            present = r .present;
+            walk = ⊎-elim (λ q. off-walk (Edge n e) k (off-same to-e to-o q))
+                (λ q. absurd (not-f (r .present) (off-walk (Edge n f) k (q .0)))) (walk-split (Edge n f) k (r .walk));
+          },
         ))
 
     pub collect-kept : (b : ℕ) → collectsBy n f p c b ≡ collectsBy n e o c b
@@ -141,15 +153,28 @@ module _ (n : ℕ) (e f o p : Test) (k : ℕ) (steps : (x y : ℕ) → ¬ (x ≡
   collect-same b h c =
       says-same (says-collects n f p c b)
       (says-iff (says-collects n e o c b) (
-        λ d. record { present = d .present; brought = brings-apart to-f to-p (λ q m. says-collects n f p k b .holds (h ∙ says-collects n e o k b .passes (record { present = reach-below (d .present) (off-walk (Edge n e) k q); brought = m })) .brought) (d .brought) },
-        λ d. record { present = d .present; brought = brings-apart to-e to-o (λ q m. says-collects n e o k b .holds (sym h ∙ says-collects n f p k b .passes (record { present = reach-below (d .present) (off-walk (Edge n f) k q); brought = m })) .brought) (d .brought) },
+        λ d. record {
+          present = d .present;
+          brought = brings-apart to-f to-p
+              (λ q m. says-collects n f p k b .holds
+              (h ∙ says-collects n e o k b .passes (record { present = reach-below (d .present) (off-walk (Edge n e) k q); brought = m })) .brought)
+              (d .brought);
+        },
+        λ d. record {
+          present = d .present;
+          brought = brings-apart to-e to-o
+              (λ q m. says-collects n e o k b .holds
+              (sym h ∙ says-collects n f p k b .passes (record { present = reach-below (d .present) (off-walk (Edge n f) k q); brought = m })) .brought)
+              (d .brought);
+        },
       ))
 
 -- ---- an own entry more: p is o with k listed by t
 
 module _ (n : ℕ) (e o p : Test) (t k : ℕ) (g : Grown (λ x b. o x b ≡ true) (λ x b. p x b ≡ true) t k) where
   pub collect-listed : (c b : ℕ) → collectsBy n e p c b ≡ collectsBy n e o c b || (reachesBy n e c t && eqb b k)
-  collect-listed c b = says-same (says-collects n e p c b) (says-iff (says-or (says-collects n e o c b) (says-and (says-reaches n e c t) (says-eq b k))) (to, from))
+  collect-listed c b = says-same (says-collects n e p c b)
+      (says-iff (says-or (says-collects n e o c b) (says-and (says-reaches n e c t) (says-eq b k))) (to, from))
     where
       to : Collects n e o c b ⊎ (Reaches n e c t × (b ≡ k)) → Collects n e p c b
       to (inl d) = record { present = d .present; brought = brings-listed (Edge n e) g c b .1 (inl (d .brought)) }
@@ -170,7 +195,12 @@ pub record OneMore (e f : Test) (n : ℕ) : Type 0 where
 module _ (n : ℕ) (e f o p : Test) (d : OneMore e f n) (same : (x b : ℕ) → x < n → o x b ≡ p x b) where
   extended : Extended (Edge n e) (Edge (suc n) f) n (λ y. (y < n) × (f n y ≡ true))
   extended = record {
-    keep = λ x y r. record { source = omega (arith, r .source); target = omega (arith, r .target); named = sym (d .same x y (r .source) (r .target)) ∙ r .named };
+    keep = λ x y r. record {
+      source = omega (arith, r .source);
+      target = omega (arith, r .target);
+      named = sym (d .same x y (r .source) (r .target))
+          ∙ r .named;
+    };
     new = λ y q. record { source = omega arith; target = omega (arith, q .0); named = q .1 };
     back = λ x y r. back x y r (last-or-less (r .source)) (last-or-less (r .target));
     ends = λ x y r. (r .source, r .target);
@@ -190,8 +220,11 @@ module _ (n : ℕ) (e f o p : Test) (d : OneMore e f n) (same : (x b : ℕ) → 
   pub reach-before : (c x : ℕ) → c < n → reachesBy (suc n) f c x ≡ reachesBy n e c x
   reach-before c x h =
       says-same (says-reaches (suc n) f c x)
-      (says-iff (says-reaches n e c x)
-      (λ r. record { present = omega arith; walk = reach-old extended c h x .1 (r .walk) }, λ r. record { present = h; walk = reach-old extended c h x .0 (r .walk) }))
+      (says-iff (says-reaches n e c x) (
+        λ r. record { present = omega arith; walk = reach-old extended c h x .1 (r .walk) },
+        λ r. record
+            { present = h; walk = reach-old extended c h x .0 (r .walk) },
+      ))
 
   pub collect-before : (c b : ℕ) → c < n → collectsBy (suc n) f p c b ≡ collectsBy n e o c b
   collect-before c b h =
@@ -205,7 +238,8 @@ module _ (n : ℕ) (e f o p : Test) (d : OneMore e f n) (same : (x b : ℕ) → 
   pub reach-of-new : (x : ℕ) → reachesBy (suc n) f n x ≡ eqb x n || anyBelow n (λ y. f n y && reachesBy n e y x)
   reach-of-new x =
       says-same (says-reaches (suc n) f n x)
-      (says-iff (says-or (says-eq x n) (says-any n {P = λ y. (f n y ≡ true) × Reaches n e y x} (λ y l. says-and (says-test (f n y)) (says-reaches n e y x)))) (to, from))
+      (says-iff (says-or (says-eq x n)
+      (says-any n {P = λ y. (f n y ≡ true) × Reaches n e y x} (λ y l. says-and (says-test (f n y)) (says-reaches n e y x)))) (to, from))
     where
       to : (x ≡ n) ⊎ Some n (λ y. (f n y ≡ true) × Reaches n e y x) → Reaches (suc n) f n x
       to (inl q) = record { present = omega arith; walk = reach-new extended x .1 (inl q) }
@@ -219,7 +253,8 @@ module _ (n : ℕ) (e f o p : Test) (d : OneMore e f n) (same : (x b : ℕ) → 
   pub collect-of-new : (b : ℕ) → collectsBy (suc n) f p n b ≡ p n b || anyBelow n (λ y. f n y && collectsBy n e o y b)
   collect-of-new b =
       says-same (says-collects (suc n) f p n b)
-      (says-iff (says-or (says-test (p n b)) (says-any n {P = λ y. (f n y ≡ true) × Collects n e o y b} (λ y l. says-and (says-test (f n y)) (says-collects n e o y b)))) (to, from))
+      (says-iff (says-or (says-test (p n b))
+      (says-any n {P = λ y. (f n y ≡ true) × Collects n e o y b} (λ y l. says-and (says-test (f n y)) (says-collects n e o y b)))) (to, from))
     where
       to : (p n b ≡ true) ⊎ Some n (λ y. (f n y ≡ true) × Collects n e o y b) → Collects (suc n) f p n b
       to (inl q) = record { present = omega arith; brought = brings-new extended same-own b .1 (inl q) }

@@ -1,13 +1,14 @@
 -- The closure afresh after one change, from the closure afresh before it, for any class table; and rule 30 judged at the changed class alone.
-use mathlib.Core.Path.{_≡_, refl, sym, ap, ap₂, _∙_}
 use mathlib.Core.Bool.{Bool, true, false, not, cond, _&&_, _||_}
-use mathlib.Core.Logic.{_⊎_, inl, inr, ⊎-elim}
 use mathlib.Core.List.{List, _++_}
+use mathlib.Core.Logic.{_⊎_, inl, inr, ⊎-elim}
+use mathlib.Core.Path.{_≡_, refl, sym, ap, ap₂, _∙_}
 use Prim.Native.Nat.{ℕ, suc, _*_, _≤_, _<_}
-use native.Mathlib.Omega.{arith}
 use native.Mathlib.Decide.{ℕ-discrete, decLt}
+use native.Mathlib.Omega.{arith}
 use lib.Dec.{eqb}
 use lib.ListN.{length, length-append}
+use borrow.Fn.PlainCycle.{is}
 use Rattle.prelude.specs.Says.{Says}
 use Rattle.prelude.specs.SaysLaws.{says-and, says-or, says-not, says-eq, says-test, says-iff, says-same, says-true, says-false, true-or-false}
 use Rattle.prelude.specs.Below.{anyBelow}
@@ -19,26 +20,33 @@ use Rattle.schema.specs.Layout.{classSet, attributeSet}
 use Rattle.schema.specs.ClassRow.{superclassOf, mandatoryOf, fixedOptionalOf, openOptionalOf, fixedAuxiliaryOf, openAuxiliaryOf}
 use Rattle.schema.specs.Store.{Table, withRow, plusRow}
 use Rattle.schema.specs.StoreLaws.{with-same, with-other, plus-other}
+use Rattle.tables.specs.Named.{lists}
 use Rattle.graph.specs.Walk.{Grown, here}
-use Rattle.graph.specs.Graph.{Edge, reachesBy, collectsBy, auxiliary, names, listsMandatory, listsOptional, reaches, demands, allows, demandedSet, closureRow, mandatoryDiffers}
+use Rattle.graph.specs.Graph.{Edge, reachesBy, collectsBy, inherits, listsMandatory, listsOptional, reaches, demands, allows, demandedSet}
+use Rattle.graph.specs.Graph.{closureRow, mandatoryDiffers}
 use Rattle.graph.specs.GraphLaws.{says-reaches, says-collects}
 use Rattle.graph.specs.Changes.{SameLists, SameNames, AuxiliaryMore, OptionalMore}
-use Rattle.graph.specs.ChangeLaws.{reach-unchanged, collect-unchanged, reach-joined, collect-joined, reach-changed, reach-kept, collect-kept, collect-same, collect-listed, OneMore, reach-before, collect-before, reach-of-new, collect-of-new}
+use Rattle.graph.specs.ChangeLaws.{reach-unchanged, collect-unchanged, reach-joined, collect-joined, reach-changed, reach-kept, collect-kept}
+use Rattle.graph.specs.ChangeLaws.{collect-same, collect-listed, OneMore, reach-before, collect-before, reach-of-new, collect-of-new}
 
 -- ---- rows made of equal sets
 
-pub row-cong : (t u : Table) (c d : ℕ) → ((x : ℕ) → reaches u c x ≡ reaches t d x) → ((b : ℕ) → demands u c b ≡ demands t d b) → ((b : ℕ) → allows u c b ≡ allows t d b) → closureRow u c ≡ closureRow t d
+pub row-cong : (t u : Table) (c d : ℕ) → ((x : ℕ) → reaches u c x ≡ reaches t d x) → ((b : ℕ) → demands u c b ≡ demands t d b)
+    → ((b : ℕ) → allows u c b ≡ allows t d b) → closureRow u c ≡ closureRow t d
 unfolding closureRow
-row-cong t u c d r m o = ap₂ _++_ (set-cong classSet (reaches u c) (reaches t d) (λ x l. r x)) (ap₂ _++_ (set-cong attributeSet (demands u c) (demands t d) (λ b l. m b)) (set-cong attributeSet (allows u c) (allows t d) (λ b l. o b)))
+row-cong t u c d r m o = ap₂ _++_ (set-cong classSet (reaches u c) (reaches t d) (λ x l. r x))
+    (ap₂ _++_ (set-cong attributeSet (demands u c) (demands t d) (λ b l. m b)) (set-cong attributeSet (allows u c) (allows t d) (λ b l. o b)))
 
 -- rows whose three sets are unions: the three sets stand side by side, so a whole row is joined at once
-pub row-union : (t u : Table) (c a : ℕ) → ((x : ℕ) → reaches u c x ≡ reaches t c x || reaches t a x) → ((b : ℕ) → demands u c b ≡ demands t c b || demands t a b)
+pub row-union : (t u : Table) (c a : ℕ) → ((x : ℕ) → reaches u c x ≡ reaches t c x || reaches t a x)
+    → ((b : ℕ) → demands u c b ≡ demands t c b || demands t a b)
     → ((b : ℕ) → allows u c b ≡ allows t c b || allows t a b) → closureRow u c ≡ union (closureRow t c) (closureRow t a)
 unfolding closureRow
 row-union t u c a r m o =
     ap₂ _++_ (joined classSet (reaches u c) (reaches t c) (reaches t a) r)
     (ap₂ _++_ (joined attributeSet (demands u c) (demands t c) (demands t a) m) (joined attributeSet (allows u c) (allows t c) (allows t a) o))
-    ∙ sym (union-append (setOf classSet (reaches t c)) (setOf attributeSet (demands t c) ++ setOf attributeSet (allows t c)) (setOf classSet (reaches t a)) (setOf attributeSet (demands t a) ++ setOf attributeSet (allows t a))
+    ∙ sym (union-append (setOf classSet (reaches t c)) (setOf attributeSet (demands t c) ++ setOf attributeSet (allows t c))
+    (setOf classSet (reaches t a)) (setOf attributeSet (demands t a) ++ setOf attributeSet (allows t a))
     (same classSet (reaches t a) (reaches t c)) (simp (length-append, set-length))
     ∙ ap (λ (x : List ℕ). union (setOf classSet (reaches t c)) (setOf classSet (reaches t a)) ++ x)
     (union-append (setOf attributeSet (demands t c)) (setOf attributeSet (allows t c)) (setOf attributeSet (demands t a)) (setOf attributeSet (allows t a))
@@ -54,7 +62,8 @@ row-union t u c a r m o =
 
 -- a member of a set with one more
 member-with : (m : ℕ) (s : List ℕ) (k : ℕ) → m < length s * 8 → member (withMember m s) k ≡ member s k || eqb k m
-member-with m s k l = says-same (says-member (withMember m s) k) (says-iff (says-or (says-member s k) (says-eq k m)) (to (ℕ-discrete k m), from (ℕ-discrete k m)))
+member-with m s k l = says-same (says-member (withMember m s) k)
+    (says-iff (says-or (says-member s k) (says-eq k m)) (to (ℕ-discrete k m), from (ℕ-discrete k m)))
   where
     to : Dec (k ≡ m) → (bit s k ≡ 1) ⊎ (k ≡ m) → bit (withMember m s) k ≡ 1
     to (yes e) d = ap (bit (withMember m s)) e ∙ bit-with s m l
@@ -70,9 +79,10 @@ or-more false b c = refl
 
 module _ (t : Table) (k : ℕ) (new : List ℕ) where
   -- the other rows name and list what they did
-  pub names-other : (x y : ℕ) → ¬ (x ≡ k) → names t x y ≡ names (withRow t k new) x y
-  unfolding names auxiliary
-  names-other x y d = ap (λ (r : List ℕ). eqb (superclassOf r) y || (member (fixedAuxiliaryOf r) y || member (openAuxiliaryOf r) y)) (sym (with-other t k new x d))
+  pub names-other : (x y : ℕ) → ¬ (x ≡ k) → inherits t x y ≡ inherits (withRow t k new) x y
+  unfolding inherits lists
+  names-other x y d = ap (λ (r : List ℕ). eqb (superclassOf r) y || (member (fixedAuxiliaryOf r) y || member (openAuxiliaryOf r) y))
+      (sym (with-other t k new x d))
 
   pub mandatory-other : (x b : ℕ) → ¬ (x ≡ k) → listsMandatory t x b ≡ listsMandatory (withRow t k new) x b
   unfolding listsMandatory
@@ -83,7 +93,8 @@ module _ (t : Table) (k : ℕ) (new : List ℕ) where
   optional-other x b d = ap (λ (r : List ℕ). member (fixedOptionalOf r) b || member (openOptionalOf r) b) (sym (with-other t k new x d))
 
   -- a test of a row that holds for one thing more in the new row
-  one-more : (by : List ℕ → Bool) (extra : Bool) → by new ≡ by (t .row k) || extra → (x : ℕ) → by (withRow t k new .row x) ≡ by (t .row x) || (eqb x k && extra)
+  one-more : (by : List ℕ → Bool) (extra : Bool) → by new ≡ by (t .row k) || extra → (x : ℕ) → by (withRow t k new .row x)
+      ≡ by (t .row x) || (eqb x k && extra)
   one-more by extra h x = go (ℕ-discrete x k)
     where
       or-no : (b : Bool) → b ≡ b || false
@@ -91,7 +102,8 @@ module _ (t : Table) (k : ℕ) (new : List ℕ) where
       or-no false = refl
 
       go : Dec (x ≡ k) → by (withRow t k new .row x) ≡ by (t .row x) || (eqb x k && extra)
-      go (yes e) = ap by (with-same t k new x e) ∙ h ∙ ap₂ (λ (r : List ℕ) (b : Bool). by r || (b && extra)) (ap (t .row) (sym e)) (sym (says-true (says-eq x k) e))
+      go (yes e) = ap by (with-same t k new x e) ∙ h ∙ ap₂ (λ (r : List ℕ) (b : Bool). by r || (b && extra)) (ap (t .row) (sym e))
+          (sym (says-true (says-eq x k) e))
       go (no d) = ap by (with-other t k new x d) ∙ or-no (by (t .row x)) ∙ ap (λ (b : Bool). by (t .row x) || (b && extra)) (sym (says-false (says-eq x k) d))
 
 -- ---- any change of row k
@@ -102,22 +114,30 @@ module _ (t : Table) (k : ℕ) (new : List ℕ) where
   unfolding withRow
   closure-kept c z =
       row-cong t (withRow t k new) c c
-      (reach-kept (t .count) (names t) (names (withRow t k new)) (listsMandatory t) (listsMandatory (withRow t k new)) k (names-other t k new) (mandatory-other t k new) c z)
-      (collect-kept (t .count) (names t) (names (withRow t k new)) (listsMandatory t) (listsMandatory (withRow t k new)) k (names-other t k new) (mandatory-other t k new) c z)
-      (collect-kept (t .count) (names t) (names (withRow t k new)) (listsOptional t) (listsOptional (withRow t k new)) k (names-other t k new) (optional-other t k new) c z)
+      (reach-kept (t .count) (inherits t) (inherits (withRow t k new)) (listsMandatory t) (listsMandatory (withRow t k new)) k (names-other t k new)
+      (mandatory-other t k new) c z)
+      (collect-kept (t .count) (inherits t) (inherits (withRow t k new)) (listsMandatory t) (listsMandatory (withRow t k new)) k (names-other t k new)
+      (mandatory-other t k new) c z)
+      (collect-kept (t .count) (inherits t) (inherits (withRow t k new)) (listsOptional t) (listsOptional (withRow t k new)) k (names-other t k new)
+      (optional-other t k new) c z)
 
   -- who reaches k does not change
   pub reaches-target : (c : ℕ) → reaches (withRow t k new) c k ≡ reaches t c k
   unfolding withRow
-  reaches-target c = reach-changed (t .count) (names t) (names (withRow t k new)) (listsMandatory t) (listsMandatory (withRow t k new)) k (names-other t k new) (mandatory-other t k new) c
+  reaches-target c = reach-changed (t .count) (inherits t) (inherits (withRow t k new)) (listsMandatory t) (listsMandatory (withRow t k new)) k
+      (names-other t k new) (mandatory-other t k new) c
 
   -- Rule 30: "some present class's mandatory set would differ" exactly where k's does
   pub rule30-target : k < t .count → mandatoryDiffers t (withRow t k new) ≡ not (sameBytes (demandedSet t k) (demandedSet (withRow t k new) k))
   unfolding mandatoryDiffers demandedSet withRow
   rule30-target h =
       says-same (says-any (t .count) (λ c l. says-not (says-same-sets attributeSet (demands t c) (demands (withRow t k new) c))))
-      (says-iff (says-not (says-same-sets attributeSet (demands t k) (demands (withRow t k new) k)))
-      (λ d. record { at = k; below = h; is = d }, λ s e. s .is (λ b l. sym (collect-same (t .count) (names t) (names (withRow t k new)) (listsMandatory t) (listsMandatory (withRow t k new)) k (names-other t k new) (mandatory-other t k new) b (sym (e b l)) (s .at)))))
+      (says-iff (says-not (says-same-sets attributeSet (demands t k) (demands (withRow t k new) k))) (
+        λ d. record { at = k; below = h; is = d },
+        λ s e. s .is
+            (λ b l. sym (collect-same (t .count) (inherits t) (inherits (withRow t k new)) (listsMandatory t) (listsMandatory (withRow t k new)) k
+            (names-other t k new) (mandatory-other t k new) b (sym (e b l)) (s .at))),
+      ))
 
 -- ---- nothing that the graph sees is touched
 
@@ -134,10 +154,11 @@ module _ (t : Table) (k : ℕ) (new : List ℕ) where
   unfolding listsMandatory
   same-mandatory q x b l = same-by (λ r. member (mandatoryOf r) b) (rw q) x
 
-  same-names : SameNames (t .row k) new → (x y : ℕ) → x < t .count → y < t .count → names t x y ≡ names (withRow t k new) x y
-  unfolding names auxiliary
+  same-names : SameNames (t .row k) new → (x y : ℕ) → x < t .count → y < t .count → inherits t x y ≡ inherits (withRow t k new) x y
+  unfolding inherits lists
   same-names q x y l m =
-      same-by (λ r. eqb (superclassOf r) y || (member (fixedAuxiliaryOf r) y || member (openAuxiliaryOf r) y)) (rw (q .superclass, q .fixedAuxiliary, q .openAuxiliary)) x
+      same-by (λ r. eqb (superclassOf r) y || (member (fixedAuxiliaryOf r) y || member (openAuxiliaryOf r) y))
+      (rw (q .superclass, q .fixedAuxiliary, q .openAuxiliary)) x
 
   same-optional : SameLists (t .row k) new → (x b : ℕ) → x < t .count → listsOptional t x b ≡ listsOptional (withRow t k new) x b
   unfolding listsOptional
@@ -147,9 +168,11 @@ module _ (t : Table) (k : ℕ) (new : List ℕ) where
   pub closure-untouched : SameNames (t .row k) new → SameLists (t .row k) new → (c : ℕ) → closureRow (withRow t k new) c ≡ closureRow t c
   unfolding withRow
   closure-untouched q l c =
-      row-cong t (withRow t k new) c c (reach-unchanged (t .count) (names t) (names (withRow t k new)) (same-names q) c)
-      (collect-unchanged (t .count) (names t) (names (withRow t k new)) (same-names q) (listsMandatory t) (listsMandatory (withRow t k new)) (same-mandatory (l .mandatory)) c)
-      (collect-unchanged (t .count) (names t) (names (withRow t k new)) (same-names q) (listsOptional t) (listsOptional (withRow t k new)) (same-optional l) c)
+      row-cong t (withRow t k new) c c (reach-unchanged (t .count) (inherits t) (inherits (withRow t k new)) (same-names q) c)
+      (collect-unchanged (t .count) (inherits t) (inherits (withRow t k new)) (same-names q) (listsMandatory t) (listsMandatory (withRow t k new))
+      (same-mandatory (l .mandatory)) c)
+      (collect-unchanged (t .count) (inherits t) (inherits (withRow t k new)) (same-names q) (listsOptional t) (listsOptional (withRow t k new))
+      (same-optional l) c)
 
   -- and rule 30 does not hold
   pub rule30-untouched : SameNames (t .row k) new → mandatoryOf new ≡ mandatoryOf (t .row k) → mandatoryDiffers t (withRow t k new) ≡ false
@@ -157,14 +180,15 @@ module _ (t : Table) (k : ℕ) (new : List ℕ) where
   rule30-untouched q m =
       any-false (λ c. not (sameBytes (setOf attributeSet (demands t c)) (setOf attributeSet (demands (withRow t k new) c)))) (t .count)
       (λ c l. ap not (says-true (says-same-sets attributeSet (demands t c) (demands (withRow t k new) c))
-      (λ b n. sym (collect-unchanged (t .count) (names t) (names (withRow t k new)) (same-names q) (listsMandatory t) (listsMandatory (withRow t k new)) (same-mandatory m) c b))))
+      (λ b n. sym (collect-unchanged (t .count) (inherits t) (inherits (withRow t k new)) (same-names q) (listsMandatory t)
+      (listsMandatory (withRow t k new)) (same-mandatory m) c b))))
 
 -- ---- an open auxiliary more
 
 module _ (t : Table) (k a : ℕ) (new : List ℕ) (present : k < t .count) (there : a < t .count) (room : a < length (openAuxiliaryOf (t .row k)) * 8)
     (more : AuxiliaryMore a (t .row k) new) where
-  names-more : (x y : ℕ) → names (withRow t k new) x y ≡ names t x y || (eqb x k && eqb y a)
-  unfolding names auxiliary
+  names-more : (x y : ℕ) → inherits (withRow t k new) x y ≡ inherits t x y || (eqb x k && eqb y a)
+  unfolding inherits lists
   names-more x y = one-more t k new by (eqb y a) at-new x
     where
       by : List ℕ → Bool
@@ -173,13 +197,14 @@ module _ (t : Table) (k a : ℕ) (new : List ℕ) (present : k < t .count) (ther
       at-new : by new ≡ by (t .row k) || eqb y a
       at-new =
           rw (more .superclass, more .fixedAuxiliary, more .openAuxiliary, member-with a (openAuxiliaryOf (t .row k)) y room)
-          (ap (λ (b : Bool). eqb (superclassOf (t .row k)) y || b) (or-more (member (fixedAuxiliaryOf (t .row k)) y) (member (openAuxiliaryOf (t .row k)) y) (eqb y a))
+          (ap (λ (b : Bool). eqb (superclassOf (t .row k)) y || b)
+          (or-more (member (fixedAuxiliaryOf (t .row k)) y) (member (openAuxiliaryOf (t .row k)) y) (eqb y a))
           ∙ or-more (eqb (superclassOf (t .row k)) y) (member (fixedAuxiliaryOf (t .row k)) y || member (openAuxiliaryOf (t .row k)) y) (eqb y a))
 
-  says-more : (x y : ℕ) → Says (names (withRow t k new) x y) ((names t x y ≡ true) ⊎ ((x ≡ k) × (y ≡ a)))
-  says-more x y = rw (names-more x y) (says-or (says-test (names t x y)) (says-and (says-eq x k) (says-eq y a)))
+  says-more : (x y : ℕ) → Says (inherits (withRow t k new) x y) ((inherits t x y ≡ true) ⊎ ((x ≡ k) × (y ≡ a)))
+  says-more x y = rw (names-more x y) (says-or (says-test (inherits t x y)) (says-and (says-eq x k) (says-eq y a)))
 
-  grown : Grown (Edge (t .count) (names t)) (Edge (t .count) (names (withRow t k new))) k a
+  grown : Grown (Edge (t .count) (inherits t)) (Edge (t .count) (inherits (withRow t k new))) k a
   grown = record {
     keep = λ x y r. record { source = r .source; target = r .target; named = says-more x y .passes (inl (r .named)) };
     new = record { source = present; target = there; named = says-more k a .passes (inr (refl, refl)) };
@@ -192,19 +217,21 @@ module _ (t : Table) (k a : ℕ) (new : List ℕ) (present : k < t .count) (ther
   -- a's sets are joined in for the classes that reached k
   reach-more : (c x : ℕ) → reaches (withRow t k new) c x ≡ reaches t c x || (reaches t c k && reaches t a x)
   unfolding withRow
-  reach-more c x = reach-joined (t .count) (names t) (names (withRow t k new)) k a grown c x
+  reach-more c x = reach-joined (t .count) (inherits t) (inherits (withRow t k new)) k a grown c x
 
   demand-more : (c b : ℕ) → demands (withRow t k new) c b ≡ demands t c b || (reaches t c k && demands t a b)
   unfolding withRow
   demand-more c b =
-      collect-unchanged (t .count) (names (withRow t k new)) (names (withRow t k new)) (λ x y l m. refl) (listsMandatory t) (listsMandatory (withRow t k new)) lists-mandatory c b
-      ∙ collect-joined (t .count) (names t) (names (withRow t k new)) k a grown (listsMandatory t) c b
+      collect-unchanged (t .count) (inherits (withRow t k new)) (inherits (withRow t k new)) (λ x y l m. refl) (listsMandatory t)
+      (listsMandatory (withRow t k new)) lists-mandatory c b
+      ∙ collect-joined (t .count) (inherits t) (inherits (withRow t k new)) k a grown (listsMandatory t) c b
 
   allow-more : (c b : ℕ) → allows (withRow t k new) c b ≡ allows t c b || (reaches t c k && allows t a b)
   unfolding withRow
   allow-more c b =
-      collect-unchanged (t .count) (names (withRow t k new)) (names (withRow t k new)) (λ x y l m. refl) (listsOptional t) (listsOptional (withRow t k new)) (same-optional t k new (more .lists)) c b
-      ∙ collect-joined (t .count) (names t) (names (withRow t k new)) k a grown (listsOptional t) c b
+      collect-unchanged (t .count) (inherits (withRow t k new)) (inherits (withRow t k new)) (λ x y l m. refl) (listsOptional t)
+      (listsOptional (withRow t k new)) (same-optional t k new (more .lists)) c b
+      ∙ collect-joined (t .count) (inherits t) (inherits (withRow t k new)) k a grown (listsOptional t) c b
 
   pub closure-joined : (c : ℕ) → closureRow (withRow t k new) c ≡ cond (reaches t c k) (union (closureRow t c) (closureRow t a)) (closureRow t c)
   closure-joined c = go (true-or-false (reaches t c k))
@@ -223,10 +250,11 @@ module _ (t : Table) (k a : ℕ) (new : List ℕ) (present : k < t .count) (ther
   unfolding demandedSet
   rule30-joined =
       rule30-target t k new present
-      ∙ ap not (says-same (says-same-sets attributeSet (demands t k) (demands (withRow t k new) k)) (says-iff (says-subset-sets attributeSet (demands t a) (demands t k)) (to, from)))
+      ∙ ap not (says-same (says-same-sets attributeSet (demands t k) (demands (withRow t k new) k))
+      (says-iff (says-subset-sets attributeSet (demands t a) (demands t k)) (to, from)))
     where
       self : reaches t k k ≡ true
-      self = says-reaches (t .count) (names t) k k .passes (record { present = present; walk = here })
+      self = says-reaches (t .count) (inherits t) k k .passes (record { present = present; walk = here })
 
       at-k : (b : ℕ) → demands (withRow t k new) k b ≡ demands t k b || demands t a b
       at-k b = demand-more k b ∙ ap (λ (r : Bool). demands t k b || (r && demands t a b)) self
@@ -240,10 +268,12 @@ module _ (t : Table) (k a : ℕ) (new : List ℕ) (present : k < t .count) (ther
       within true y e q = refl
       within false y e q = e ∙ q
 
-      to : ((b : ℕ) → b < attributeSet * 8 → demands t a b ≡ true → demands t k b ≡ true) → (b : ℕ) → b < attributeSet * 8 → demands t k b ≡ demands (withRow t k new) k b
+      to : ((b : ℕ) → b < attributeSet * 8 → demands t a b ≡ true → demands t k b ≡ true) → (b : ℕ) → b < attributeSet * 8 → demands t k b
+          ≡ demands (withRow t k new) k b
       to h b l = absorb (demands t k b) (demands t a b) (h b l) ∙ sym (at-k b)
 
-      from : ((b : ℕ) → b < attributeSet * 8 → demands t k b ≡ demands (withRow t k new) k b) → (b : ℕ) → b < attributeSet * 8 → demands t a b ≡ true → demands t k b ≡ true
+      from : ((b : ℕ) → b < attributeSet * 8 → demands t k b ≡ demands (withRow t k new) k b) → (b : ℕ) → b < attributeSet * 8 → demands t a b ≡ true
+          → demands t k b ≡ true
       from h b l = within (demands t k b) (demands t a b) (h b l ∙ at-k b)
 
 -- ---- an open optional attribute more
@@ -277,7 +307,8 @@ module _ (t : Table) (k a : ℕ) (new : List ℕ) (room : a < length (openOption
   unfolding closureRow withRow
   closure-listed c =
       ap₂ _++_ (set-cong classSet (reaches (withRow t k new) c) (reaches t c) (λ x l. reach-unchanged n e f same c x))
-      (ap₂ _++_ (set-cong attributeSet (demands (withRow t k new) c) (demands t c) (λ b l. collect-unchanged n e f same (listsMandatory t) (listsMandatory (withRow t k new)) (same-mandatory t k new (more .mandatory)) c b))
+      (ap₂ _++_ (set-cong attributeSet (demands (withRow t k new) c) (demands t c)
+      (λ b l. collect-unchanged n e f same (listsMandatory t) (listsMandatory (withRow t k new)) (same-mandatory t k new (more .mandatory)) c b))
       (set-cong attributeSet (allows (withRow t k new) c) (λ b. allows t c b || (reaches t c k && eqb b a)) (λ b l.
       collect-unchanged n e f same (listsOptional (withRow t k new)) (listsOptional (withRow t k new)) (λ x d m. refl) c b
       ∙ collect-listed n e (listsOptional t) (listsOptional (withRow t k new)) k a listed c b)))
@@ -286,12 +317,12 @@ module _ (t : Table) (k a : ℕ) (new : List ℕ) (room : a < length (openOption
       n = t .count
 
       e : ℕ → ℕ → Bool
-      e = names t
+      e = inherits t
 
       f : ℕ → ℕ → Bool
-      f = names (withRow t k new)
+      f = inherits (withRow t k new)
 
-      same : (x y : ℕ) → x < t .count → y < t .count → names t x y ≡ names (withRow t k new) x y
+      same : (x y : ℕ) → x < t .count → y < t .count → inherits t x y ≡ inherits (withRow t k new) x y
       same = same-names t k new (more .names)
 
 -- ---- a class more
@@ -303,13 +334,13 @@ reach-absent n e c x h = says-false (says-reaches n e c x) (λ r. omega (arith, 
 collect-absent : (n : ℕ) (e o : ℕ → ℕ → Bool) (c b : ℕ) → n ≤ c → collectsBy n e o c b ≡ false
 collect-absent n e o c b h = says-false (says-collects n e o c b) (λ r. omega (arith, r .present))
 
-module _ (t : Table) (new : List ℕ) (unnamed : (x : ℕ) → x < t .count → names t x (t .count) ≡ false) where
+module _ (t : Table) (new : List ℕ) (unnamed : (x : ℕ) → x < t .count → inherits t x (t .count) ≡ false) where
   -- the rows before name and list what they did, and none of them names the new one
   by-row : {A : Type 0} (f : List ℕ → A) (x : ℕ) → x < t .count → f (t .row x) ≡ f (plusRow t new .row x)
   by-row f x l = ap f (sym (plus-other t new x l))
 
-  names-before : (x y : ℕ) → x < t .count → names t x y ≡ names (plusRow t new) x y
-  unfolding names auxiliary
+  names-before : (x y : ℕ) → x < t .count → inherits t x y ≡ inherits (plusRow t new) x y
+  unfolding inherits lists
   names-before x y l = by-row (λ r. eqb (superclassOf r) y || (member (fixedAuxiliaryOf r) y || member (openAuxiliaryOf r) y)) x l
 
   mandatory-before : (x b : ℕ) → x < t .count → listsMandatory t x b ≡ listsMandatory (plusRow t new) x b
@@ -320,7 +351,7 @@ module _ (t : Table) (new : List ℕ) (unnamed : (x : ℕ) → x < t .count → 
   unfolding listsOptional
   optional-before x b l = by-row (λ r. member (fixedOptionalOf r) b || member (openOptionalOf r) b) x l
 
-  one-class-more : OneMore (names t) (names (plusRow t new)) (t .count)
+  one-class-more : OneMore (inherits t) (inherits (plusRow t new)) (t .count)
   one-class-more = record { same = λ x y l m. names-before x y l; unnamed = λ x l. sym (names-before x (t .count) l) ∙ unnamed x l }
 
   -- every other class keeps its sets
@@ -333,24 +364,35 @@ module _ (t : Table) (new : List ℕ) (unnamed : (x : ℕ) → x < t .count → 
 
       go : Dec (c < n) → closureRow (plusRow t new) c ≡ closureRow t c
       go (yes l) =
-          row-cong t (plusRow t new) c c (λ x. reach-before n (names t) (names (plusRow t new)) (listsMandatory t) (listsMandatory (plusRow t new)) one-class-more mandatory-before c x l)
-          (λ b. collect-before n (names t) (names (plusRow t new)) (listsMandatory t) (listsMandatory (plusRow t new)) one-class-more mandatory-before c b l)
-          (λ b. collect-before n (names t) (names (plusRow t new)) (listsOptional t) (listsOptional (plusRow t new)) one-class-more optional-before c b l)
+          row-cong t (plusRow t new) c c (λ x. reach-before n (inherits t) (inherits (plusRow t new)) (listsMandatory t)
+          (listsMandatory (plusRow t new)) one-class-more mandatory-before c x l)
+          (λ b. collect-before n (inherits t) (inherits (plusRow t new)) (listsMandatory t) (listsMandatory (plusRow t new)) one-class-more
+          mandatory-before c b l)
+          (λ b. collect-before n (inherits t) (inherits (plusRow t new)) (listsOptional t) (listsOptional (plusRow t new)) one-class-more
+          optional-before c b l)
       go (no g) =
-          row-cong t (plusRow t new) c c (λ x. reach-absent (suc n) (names (plusRow t new)) c x (omega arith) ∙ sym (reach-absent n (names t) c x (omega arith)))
-          (λ b. collect-absent (suc n) (names (plusRow t new)) (listsMandatory (plusRow t new)) c b (omega arith) ∙ sym (collect-absent n (names t) (listsMandatory t) c b (omega arith)))
-          (λ b. collect-absent (suc n) (names (plusRow t new)) (listsOptional (plusRow t new)) c b (omega arith) ∙ sym (collect-absent n (names t) (listsOptional t) c b (omega arith)))
+          row-cong t (plusRow t new) c c (λ x. reach-absent (suc n) (inherits (plusRow t new)) c x (omega arith)
+          ∙ sym (reach-absent n (inherits t) c x (omega arith)))
+          (λ b. collect-absent (suc n) (inherits (plusRow t new)) (listsMandatory (plusRow t new)) c b (omega arith)
+          ∙ sym (collect-absent n (inherits t) (listsMandatory t) c b (omega arith)))
+          (λ b. collect-absent (suc n) (inherits (plusRow t new)) (listsOptional (plusRow t new)) c b (omega arith)
+          ∙ sym (collect-absent n (inherits t) (listsOptional t) c b (omega arith)))
 
   -- the new class: itself, its own lists, and the union over the classes that it names
   pub closure-new : closureRow (plusRow t new) (t .count)
-      ≡ setOf classSet (λ x. eqb x (t .count) || anyBelow (t .count) (λ y. names (plusRow t new) (t .count) y && reaches t y x))
-      ++ (setOf attributeSet (λ b. listsMandatory (plusRow t new) (t .count) b || anyBelow (t .count) (λ y. names (plusRow t new) (t .count) y && demands t y b))
-      ++ setOf attributeSet (λ b. listsOptional (plusRow t new) (t .count) b || anyBelow (t .count) (λ y. names (plusRow t new) (t .count) y && allows t y b)))
+      ≡ setOf classSet (λ x. eqb x (t .count) || anyBelow (t .count) (λ y. inherits (plusRow t new) (t .count) y && reaches t y x))
+      ++ (setOf attributeSet (λ b. listsMandatory (plusRow t new) (t .count) b || anyBelow (t .count)
+      (λ y. inherits (plusRow t new) (t .count) y && demands t y b))
+      ++ setOf attributeSet (λ b. listsOptional (plusRow t new) (t .count) b || anyBelow (t .count)
+      (λ y. inherits (plusRow t new) (t .count) y && allows t y b)))
   unfolding closureRow plusRow
   closure-new =
-      ap₂ _++_ (set-cong classSet _ _ (λ x l. reach-of-new (t .count) (names t) (names (plusRow t new)) (listsMandatory t) (listsMandatory (plusRow t new)) one-class-more mandatory-before x))
-      (ap₂ _++_ (set-cong attributeSet _ _ (λ b l. collect-of-new (t .count) (names t) (names (plusRow t new)) (listsMandatory t) (listsMandatory (plusRow t new)) one-class-more mandatory-before b))
-      (set-cong attributeSet _ _ (λ b l. collect-of-new (t .count) (names t) (names (plusRow t new)) (listsOptional t) (listsOptional (plusRow t new)) one-class-more optional-before b)))
+      ap₂ _++_ (set-cong classSet _ _ (λ x l. reach-of-new (t .count) (inherits t) (inherits (plusRow t new)) (listsMandatory t)
+      (listsMandatory (plusRow t new)) one-class-more mandatory-before x))
+      (ap₂ _++_ (set-cong attributeSet _ _ (λ b l. collect-of-new (t .count) (inherits t) (inherits (plusRow t new)) (listsMandatory t)
+      (listsMandatory (plusRow t new)) one-class-more mandatory-before b))
+      (set-cong attributeSet _ _ (λ b l. collect-of-new (t .count) (inherits t) (inherits (plusRow t new)) (listsOptional t)
+      (listsOptional (plusRow t new)) one-class-more optional-before b)))
 
   -- Rule 30 never holds for an added class
   pub rule30-class : mandatoryDiffers t (plusRow t new) ≡ false
@@ -358,4 +400,5 @@ module _ (t : Table) (new : List ℕ) (unnamed : (x : ℕ) → x < t .count → 
   rule30-class =
       any-false (λ c. not (sameBytes (setOf attributeSet (demands t c)) (setOf attributeSet (demands (plusRow t new) c)))) (t .count)
       (λ c l. ap not (says-true (says-same-sets attributeSet (demands t c) (demands (plusRow t new) c))
-      (λ b m. sym (collect-before (t .count) (names t) (names (plusRow t new)) (listsMandatory t) (listsMandatory (plusRow t new)) one-class-more mandatory-before c b l))))
+      (λ b m. sym (collect-before (t .count) (inherits t) (inherits (plusRow t new)) (listsMandatory t) (listsMandatory (plusRow t new))
+      one-class-more mandatory-before c b l))))

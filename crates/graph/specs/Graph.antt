@@ -1,9 +1,9 @@
 -- The class graph and its closure. Document 01, "Kept sets": "A class *reaches* itself, its superclass, all its auxiliaries, and what these reach; each
 -- auxiliary brings its own superclass and its own auxiliaries. Auxiliary loops are legal. Nothing more is reached; numbers without a row are
 -- passed over. *Afresh* means by these definitions, from the rows alone." A defunct row counts like any other.
-use mathlib.Core.Path.{_≡_}
 use mathlib.Core.Bool.{Bool, true, not, _&&_, _||_}
 use mathlib.Core.List.{List, _++_}
+use mathlib.Core.Path.{_≡_}
 use Prim.Native.Nat.{ℕ, _≤_, _<_}
 use lib.Dec.{eqb, ltb}
 use lib.ListN.{length}
@@ -12,9 +12,12 @@ use Rattle.prelude.specs.Part.{sameBytes}
 use Rattle.prelude.specs.Concat.{concatBelow}
 use Rattle.sets.specs.Sets.{member, setOf}
 use Rattle.schema.specs.Numbers.{classLimit}
-use Rattle.schema.specs.Layout.{classSet, attributeSet, classesLength}
-use Rattle.schema.specs.ClassRow.{superclassOf, mandatoryOf, fixedOptionalOf, openOptionalOf, fixedAuxiliaryOf, openAuxiliaryOf}
-use Rattle.schema.specs.Store.{Table, classTable, closureAt}
+use Rattle.schema.specs.Layout.{classSet, attributeSet, storeLength}
+use Rattle.schema.specs.ClassRow.{superclassOf, mandatoryOf, fixedOptionalOf, openOptionalOf}
+use Rattle.schema.specs.Store.{Table, tableIn, closureAt}
+use Rattle.schema.specs.declared.number.TableId.the-variants.{Classes}
+use Rattle.tables.specs.Named.{lists}
+use Rattle.tables.specs.declared.named.ClassList.the-variants.{Auxiliaries}
 use Rattle.graph.specs.Walk.{Reach, Brings, via}
 
 -- ---- n classes, of which each names others by the test e
@@ -46,16 +49,12 @@ collectsBy n e o c b = anyBelow n (λ x. reachesBy n e c x && o x b)
 
 -- a class store that can be read: it has its length, and no more rows than there are numbers
 pub record Readable (classes : List ℕ) : Type 0 where
-  pub long : classesLength ≤ length classes
-  pub few : classTable classes .count ≤ classLimit
+  pub long : storeLength Classes ≤ length classes
+  pub few : tableIn Classes classes .count ≤ classLimit
 
--- c has d for an auxiliary, fixed or open
-unfoldable pub auxiliary : Table → ℕ → ℕ → Bool
-auxiliary t c d = member (fixedAuxiliaryOf (t .row c)) d || member (openAuxiliaryOf (t .row c)) d
-
--- d is the superclass of c or one of its auxiliaries
-unfoldable pub names : Table → ℕ → ℕ → Bool
-names t c d = eqb (superclassOf (t .row c)) d || auxiliary t c d
+-- d is the superclass of c or one of its auxiliaries, fixed or open
+unfoldable pub inherits : Table → ℕ → ℕ → Bool
+inherits t c d = eqb (superclassOf (t .row c)) d || lists Auxiliaries (t .row c) d
 
 -- c itself lists b as mandatory; as optional, fixed or open
 unfoldable pub listsMandatory : Table → ℕ → ℕ → Bool
@@ -66,15 +65,15 @@ listsOptional t c b = member (fixedOptionalOf (t .row c)) b || member (openOptio
 
 -- c reaches x
 abbrev pub reaches : Table → ℕ → ℕ → Bool
-reaches t = reachesBy (t .count) (names t)
+reaches t = reachesBy (t .count) (inherits t)
 
 -- "mandatory attributes (what it *demands*: the union over the classes reached)"
 abbrev pub demands : Table → ℕ → ℕ → Bool
-demands t = collectsBy (t .count) (names t) (listsMandatory t)
+demands t = collectsBy (t .count) (inherits t) (listsMandatory t)
 
 -- "optional attributes (likewise, fixed and open)"
 abbrev pub allows : Table → ℕ → ℕ → Bool
-allows t = collectsBy (t .count) (names t) (listsOptional t)
+allows t = collectsBy (t .count) (inherits t) (listsOptional t)
 
 -- ---- the closure store
 

@@ -1,12 +1,14 @@
 -- What the tests of the class graph say.
-use mathlib.Core.Path.{_≡_}
 use mathlib.Core.Bool.{Bool, true, _&&_}
+use mathlib.Core.Path.{_≡_}
 use Prim.Native.Nat.{ℕ, _<_}
 use lib.Dec.{ltb}
+use borrow.Fn.PlainCycle.{is}
 use Rattle.prelude.specs.Says.{Says}
 use Rattle.prelude.specs.SaysLaws.{says, says-iff, says-and, says-lt, says-test}
 use Rattle.prelude.specs.Below.{Some}
 use Rattle.prelude.specs.BelowLaws.{says-any}
+use Rattle.tables.specs.Named.{lists}
 use Rattle.graph.specs.Walk.{Reach, here, step}
 use Rattle.graph.specs.WarshallLaws.{says-via}
 use Rattle.graph.specs.Graph.{Edge, Reaches, Collects, reachesBy, collectsBy}

@@ -1,14 +1,15 @@
 -- What a class reaches, its closure and its depth depend only on the rows that the class table holds.
-use mathlib.Core.Path.{_≡_, refl, sym, ap, ap₂, _∙_}
 use mathlib.Core.Bool.{Bool, true, false, cond, not, _||_}
 use mathlib.Core.List.{List}
 use mathlib.Core.Logic.{_⊎_, inl, inr}
+use mathlib.Core.Path.{_≡_, refl, sym, ap, ap₂, _∙_}
 use Prim.Native.Nat.{ℕ, zero, suc, _<_}
 use native.Mathlib.Omega.{arith}
 use lib.Dec.{eqb, ltb}
 use Rattle.prelude.specs.SaysLaws.{says-lt, says-split}
 use Rattle.prelude.specs.BelowLaws.{all-cong}
 use Rattle.prelude.specs.Part.{sameBytes}
+use Rattle.prelude.specs.ConcatLaws.{concat-same}
 use Rattle.sets.specs.Sets.{member}
 use Rattle.sets.specs.SetsLaws.{set-cong}
 use Rattle.schema.specs.Numbers.{classLimit}
@@ -17,12 +18,13 @@ use Rattle.schema.specs.ClassRow.{superclassOf, mandatoryOf, fixedOptionalOf, o
 use Rattle.schema.specs.Store.{Table, closureAt}
 use Rattle.tables.specs.Same.{Same}
 use Rattle.tables.specs.SameLaws.{any-same}
+use Rattle.tables.specs.Named.{lists}
 use Rattle.graph.specs.declared.depth.Depth.{Depth}
 use Rattle.graph.specs.declared.depth.Depth.the-variants.{Steps, NotEarlier}
-use Rattle.graph.specs.Graph.{reachesBy, collectsBy, auxiliary, names, listsMandatory, listsOptional, reaches, demands, allows, demandedSet, closureRow, closureRows, isFresh, mandatoryDiffers}
+use Rattle.graph.specs.Graph.{reachesBy, collectsBy, inherits, listsMandatory, listsOptional, reaches, demands, allows, demandedSet, closureRow}
+use Rattle.graph.specs.Graph.{closureRows, isFresh, mandatoryDiffers}
 use Rattle.graph.specs.ChangeLaws.{reach-unchanged, collect-unchanged}
 use Rattle.graph.specs.ClosureLaws.{row-cong}
-use Rattle.prelude.specs.ConcatLaws.{concat-same}
 use Rattle.graph.specs.Depth.{oneMore, depthWithin, depthOf}
 
 module _ {t u : Table} (s : Same t u) where
@@ -31,8 +33,8 @@ module _ {t u : Table} (s : Same t u) where
   by-row : {A : Type 0} (f : List ℕ → A) (x : ℕ) → x < t .count → f (t .row x) ≡ f (u .row x)
   by-row f x l = ap f (s .rows x l)
 
-  names-same : (x y : ℕ) → x < t .count → names t x y ≡ names u x y
-  unfolding names auxiliary
+  names-same : (x y : ℕ) → x < t .count → inherits t x y ≡ inherits u x y
+  unfolding inherits lists
   names-same x y l = by-row (λ r. eqb (superclassOf r) y || (member (fixedAuxiliaryOf r) y || member (openAuxiliaryOf r) y)) x l
 
   mandatory-same : (x b : ℕ) → x < t .count → listsMandatory t x b ≡ listsMandatory u x b
@@ -46,11 +48,14 @@ module _ {t u : Table} (s : Same t u) where
   -- ---- the three sets of any class, also of one without a row
 
   pub reaches-same : (c x : ℕ) → reaches t c x ≡ reaches u c x
-  reaches-same c x = sym (reach-unchanged (t .count) (names t) (names u) (λ x y l m. names-same x y l) c x) ∙ ap (λ (n : ℕ). reachesBy n (names u) c x) (s .count)
+  reaches-same c x = sym (reach-unchanged (t .count) (inherits t) (inherits u) (λ x y l m. names-same x y l) c x)
+      ∙ ap (λ (n : ℕ). reachesBy n (inherits u) c x) (s .count)
 
-  collects-same : (o p : ℕ → ℕ → Bool) → ((x b : ℕ) → x < t .count → o x b ≡ p x b) → (c b : ℕ) → collectsBy (t .count) (names t) o c b ≡ collectsBy (u .count) (names u) p c b
+  collects-same : (o p : ℕ → ℕ → Bool) → ((x b : ℕ) → x < t .count → o x b ≡ p x b) → (c b : ℕ) → collectsBy (t .count) (inherits t) o c b
+      ≡ collectsBy (u .count) (inherits u) p c b
   collects-same o p h c b =
-      sym (collect-unchanged (t .count) (names t) (names u) (λ x y l m. names-same x y l) o p h c b) ∙ ap (λ (n : ℕ). collectsBy n (names u) p c b) (s .count)
+      sym (collect-unchanged (t .count) (inherits t) (inherits u) (λ x y l m. names-same x y l) o p h c b)
+      ∙ ap (λ (n : ℕ). collectsBy n (inherits u) p c b) (s .count)
 
   pub demands-same : (c b : ℕ) → demands t c b ≡ demands u c b
   demands-same = collects-same (listsMandatory t) (listsMandatory u) mandatory-same

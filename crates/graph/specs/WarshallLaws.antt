@@ -1,7 +1,7 @@
 -- Warshall's rule decides whether a walk leads from one number to another.
-use mathlib.Core.Path.{_≡_, refl}
 use mathlib.Core.Bool.{Bool, true}
 use mathlib.Core.Logic.{_⊎_, inl, inr, ⊎-elim}
+use mathlib.Core.Path.{_≡_, refl}
 use Prim.Native.Nat.{ℕ, zero, suc, _<_}
 use native.Mathlib.Omega.{arith}
 use Rattle.prelude.specs.Says.{Says}
@@ -32,7 +32,8 @@ module _ (e : ℕ → ℕ → Bool) where
   via-edge (suc k) c x t = via-suc k c x .passes (inl (via-edge k c x t))
 
   -- two walks that meet at m: below k, where such walks can be joined, or at k
-  meet-below : (k m : ℕ) → ((c x : ℕ) → Via k c m → Via k m x → Via k c x) → (c x : ℕ) → Via k c m ⊎ (Via k c k × Via k k m) → Via k m x ⊎ (Via k m k × Via k k x) → Via k c x ⊎ (Via k c k × Via k k x)
+  meet-below : (k m : ℕ) → ((c x : ℕ) → Via k c m → Via k m x → Via k c x) → (c x : ℕ) → Via k c m ⊎ (Via k c k × Via k k m) → Via k m x
+      ⊎ (Via k m k × Via k k x) → Via k c x ⊎ (Via k c k × Via k k x)
   meet-below k m both c x (inl p) (inl q) = inl (both c x p q)
   meet-below k m both c x (inl p) (inr q) = inr (both c k p (q .0), q .1)
   meet-below k m both c x (inr p) (inl q) = inr (p .0, both k x (p .1) q)

@@ -15,14 +15,15 @@ ghost use lib.ListN.{length};
 ghost use Rattle.prelude.specs.Part.{splice, sameBytes};
 ghost use Rattle.schema.specs.Numbers.{classLimit};
 ghost use Rattle.schema.specs.Layout.{attributeSet, closureWidth, closureLength};
-ghost use Rattle.schema.specs.Store.{classTable, closureAt};
+ghost use Rattle.schema.specs.Store.{tableIn};
+ghost use Rattle.schema.specs.declared.number.TableId.the-variants.{Classes};
 ghost use Rattle.graph.specs.Graph.{Readable, demandedSet, closureRow, closureRows, isFresh};
 
 // out becomes the set of attributes that c demands.
 pub fn write_demanded(classes: &[u8], c: ClassNumber, out: &mut [u8])
     requires { ⌜ Readable (now classes) ⌝ }
     requires { ⌜ length (now out) ≡ attributeSet ⌝ }
-    ensures { λ _. ⌜ now (out .exit) ≡ demandedSet (classTable (now (classes .entry))) (c .0) ⌝ }
+    ensures { λ _. ⌜ now (out .exit) ≡ demandedSet (tableIn Classes (now (classes .entry))) (c .0) ⌝ }
 {
     write_mandatory(classes, reached(classes, c), out);
 }
@@ -31,7 +32,7 @@ pub fn write_demanded(classes: &[u8], c: ClassNumber, out: &mut [u8])
 pub fn write_row(classes: &[u8], c: ClassNumber, row: &mut [u8])
     requires { ⌜ Readable (now classes) ⌝ }
     requires { ⌜ length (now row) ≡ closureWidth ⌝ }
-    ensures { λ _. ⌜ now (row .exit) ≡ closureRow (classTable (now (classes .entry))) (c .0) ⌝ }
+    ensures { λ _. ⌜ now (row .exit) ≡ closureRow (tableIn Classes (now (classes .entry))) (c .0) ⌝ }
 {
     let seen = reached(classes, c);
     let bits = seen.bits;
@@ -44,7 +45,8 @@ pub fn write_row(classes: &[u8], c: ClassNumber, row: &mut [u8])
 pub fn refresh(classes: &[u8], c: ClassNumber, closure: &mut [u8])
     requires { ⌜ Readable (now classes) ⌝ }
     requires { ⌜ (c .0 < classLimit) × (closureLength ≤ length (now closure)) ⌝ }
-    ensures { λ _. ⌜ now (closure .exit) ≡ splice (closureWidth * c .0) (closureRow (classTable (now (classes .entry))) (c .0)) (now (closure .entry)) ⌝ }
+    ensures { λ _. ⌜ now (closure .exit) ≡ splice (closureWidth * c .0) (closureRow (tableIn Classes (now (classes .entry))) (c .0))
+        (now (closure .entry)) ⌝ }
 {
     let at = CLOSURE_WIDTH * c.0;
     let end = at + CLOSURE_WIDTH;
@@ -55,7 +57,7 @@ pub fn refresh(classes: &[u8], c: ClassNumber, closure: &mut [u8])
 pub fn refresh_all(classes: &[u8], closure: &mut [u8])
     requires { ⌜ Readable (now classes) ⌝ }
     requires { ⌜ closureLength ≤ length (now closure) ⌝ }
-    ensures { λ _. ⌜ now (closure .exit) ≡ splice 0 (closureRows (classTable (now (classes .entry)))) (now (closure .entry)) ⌝ }
+    ensures { λ _. ⌜ now (closure .exit) ≡ splice 0 (closureRows (tableIn Classes (now (classes .entry)))) (now (closure .entry)) ⌝ }
 {
     let mut c = 0;
     while c < ClassNumber::LIMIT {
@@ -67,7 +69,7 @@ pub fn refresh_all(classes: &[u8], closure: &mut [u8])
 // Whether a row is the three kept sets of c.
 fn row_is_fresh(classes: &[u8], c: ClassNumber, row: &[u8]) -> bool
     requires { ⌜ Readable (now classes) ⌝ }
-    ensures { λ r. ⌜ r ≡ sameBytes (now (row .entry)) (closureRow (classTable (now (classes .entry))) (c .0)) ⌝ }
+    ensures { λ r. ⌜ r ≡ sameBytes (now (row .entry)) (closureRow (tableIn Classes (now (classes .entry))) (c .0)) ⌝ }
 {
     let mut fresh = [0u8; CLOSURE_WIDTH];
     write_row(classes, c, &mut fresh);
@@ -78,7 +80,7 @@ fn row_is_fresh(classes: &[u8], c: ClassNumber, row: &[u8]) -> bool
 pub fn is_fresh(classes: &[u8], closure: &[u8]) -> bool
     requires { ⌜ Readable (now classes) ⌝ }
     requires { ⌜ closureLength ≤ length (now closure) ⌝ }
-    ensures { λ r. ⌜ r ≡ isFresh (classTable (now (classes .entry))) (now (closure .entry)) ⌝ }
+    ensures { λ r. ⌜ r ≡ isFresh (tableIn Classes (now (classes .entry))) (now (closure .entry)) ⌝ }
 {
     let mut c = 0;
     while c < ClassNumber::LIMIT {

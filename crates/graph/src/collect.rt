@@ -6,23 +6,25 @@ use schema::layout::FIXED_OPTIONAL;
 use schema::layout::MANDATORY;
 use schema::layout::OPEN_OPTIONAL;
 use schema::number::ClassNumber;
-use schema::store::class_count;
+use schema::number::TableId;
 use schema::store::class_row;
+use schema::store::row_count;
 use sets::visited::Visited;
 ghost use mathlib.Core.Path.{_≡_};
 ghost use Prim.Native.Nat.{_+_, _≤_, _<_};
 ghost use lib.ListN.{length};
 ghost use Rattle.sets.specs.Sets.{member, setOf};
 ghost use Rattle.schema.specs.Layout.{attributeSet, classWidth, mandatoryAt};
-ghost use Rattle.schema.specs.Store.{classTable};
+ghost use Rattle.schema.specs.Store.{tableIn};
+ghost use Rattle.schema.specs.declared.number.TableId.the-variants.{Classes};
 ghost use Rattle.graph.specs.Graph.{Readable};
 ghost use Rattle.graph.specs.Collect.{chosenLists, collected, collectedOptional, plus};
 
 // Adds to out the members of the set at a place of row k, if k is chosen.
 fn add_chosen(classes: &[u8], chosen: Visited, at: usize, k: usize, out: &mut [u8])
     requires { ⌜ Readable (now classes) ⌝ }
-    requires { ⌜ (at + attributeSet ≤ classWidth) × (k < classTable (now classes) .count) × (length (now out) ≡ attributeSet) ⌝ }
-    ensures { λ _. ⌜ now (out .exit) ≡ plus (now (out .entry)) (chosenLists (classTable (now (classes .entry))) (member (chosen .bits)) at k) ⌝ }
+    requires { ⌜ (at + attributeSet ≤ classWidth) × (k < tableIn Classes (now classes) .count) × (length (now out) ≡ attributeSet) ⌝ }
+    ensures { λ _. ⌜ now (out .exit) ≡ plus (now (out .entry)) (chosenLists (tableIn Classes (now (classes .entry))) (member (chosen .bits)) at k) ⌝ }
 {
     if chosen.has(k) {
         let row = class_row(classes, ClassNumber(k));
@@ -34,9 +36,9 @@ fn add_chosen(classes: &[u8], chosen: Visited, at: usize, k: usize, out: &mut [u
 fn add_all(classes: &[u8], chosen: Visited, at: usize, out: &mut [u8])
     requires { ⌜ Readable (now classes) ⌝ }
     requires { ⌜ (at + attributeSet ≤ classWidth) × (length (now out) ≡ attributeSet) ⌝ }
-    ensures { λ _. ⌜ now (out .exit) ≡ plus (now (out .entry)) (collected (classTable (now (classes .entry))) (member (chosen .bits)) at) ⌝ }
+    ensures { λ _. ⌜ now (out .exit) ≡ plus (now (out .entry)) (collected (tableIn Classes (now (classes .entry))) (member (chosen .bits)) at) ⌝ }
 {
-    let n = class_count(classes);
+    let n = row_count(TableId::Classes, classes);
     let mut k = 0;
     while k < n {
         add_chosen(classes, chosen, at, k, out);
@@ -48,7 +50,7 @@ fn add_all(classes: &[u8], chosen: Visited, at: usize, out: &mut [u8])
 pub fn write_mandatory(classes: &[u8], chosen: Visited, out: &mut [u8])
     requires { ⌜ Readable (now classes) ⌝ }
     requires { ⌜ length (now out) ≡ attributeSet ⌝ }
-    ensures { λ _. ⌜ now (out .exit) ≡ setOf attributeSet (collected (classTable (now (classes .entry))) (member (chosen .bits)) mandatoryAt) ⌝ }
+    ensures { λ _. ⌜ now (out .exit) ≡ setOf attributeSet (collected (tableIn Classes (now (classes .entry))) (member (chosen .bits)) mandatoryAt) ⌝ }
 {
     clear(out);
     add_all(classes, chosen, MANDATORY, out);
@@ -58,7 +60,7 @@ pub fn write_mandatory(classes: &[u8], chosen: Visited, out: &mut [u8])
 pub fn write_optional(classes: &[u8], chosen: Visited, out: &mut [u8])
     requires { ⌜ Readable (now classes) ⌝ }
     requires { ⌜ length (now out) ≡ attributeSet ⌝ }
-    ensures { λ _. ⌜ now (out .exit) ≡ setOf attributeSet (collectedOptional (classTable (now (classes .entry))) (member (chosen .bits))) ⌝ }
+    ensures { λ _. ⌜ now (out .exit) ≡ setOf attributeSet (collectedOptional (tableIn Classes (now (classes .entry))) (member (chosen .bits))) ⌝ }
 {
     clear(out);
     add_all(classes, chosen, FIXED_OPTIONAL, out);

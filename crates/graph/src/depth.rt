@@ -1,4 +1,5 @@
-// The depth of a class. Document 01: "The chain of superclasses from a class up to row 0 is counted by a *depth* call: the place is the number of steps, 0 for
+// The depth of a class. Document 01: "The chain of superclasses from a class up to row 0 is counted by a *depth* call: the place is the number of
+// steps, 0 for
 // row 0. Refusals: 1, 2, 5, and 18 where a superclass met is not earlier."
 use schema::class::superclass;
 use schema::number::ClassNumber;
@@ -8,8 +9,9 @@ ghost use mathlib.Core.Path.{_≡_};
 ghost use Prim.Native.Nat.{_≤_, _<_};
 ghost use lib.ListN.{length};
 ghost use Rattle.schema.specs.Numbers.{classLimit};
-ghost use Rattle.schema.specs.Layout.{classesLength};
-ghost use Rattle.schema.specs.Store.{classTable};
+ghost use Rattle.schema.specs.Layout.{storeLength};
+ghost use Rattle.schema.specs.Store.{tableIn};
+ghost use Rattle.schema.specs.declared.number.TableId.the-variants.{Classes};
 ghost use Rattle.graph.specs.Depth.{depthOf};
 
 // What walking up the superclasses finds.
@@ -22,8 +24,8 @@ pub enum Depth {
 
 // The depth of c: one more than its superclass's, down to row 0. The class number falls at each call.
 pub fn depth_of(classes: &[u8], c: ClassNumber) -> Depth
-    requires { ⌜ (classesLength ≤ length (now classes)) × (c .0 < classLimit) ⌝ }
-    ensures { λ r. ⌜ r ≡ depthOf (classTable (now (classes .entry))) (c .0) ⌝ }
+    requires { ⌜ (storeLength Classes ≤ length (now classes)) × (c .0 < classLimit) ⌝ }
+    ensures { λ r. ⌜ r ≡ depthOf (tableIn Classes (now (classes .entry))) (c .0) ⌝ }
 {
     let n = c.0;
     if n == 0 {

@@ -4,14 +4,16 @@ use schema::class::open_auxiliary;
 use schema::class::superclass;
 use schema::number::ClassNumber;
 use schema::number::ClassRead;
-use schema::store::class_count;
+use schema::number::TableId;
 use schema::store::class_row;
+use schema::store::row_count;
 use sets::visited::Visited;
 ghost use mathlib.Core.Path.{_≡_};
 ghost use Prim.Native.Nat.{_<_};
 ghost use Rattle.sets.specs.Sets.{member, setOf, from};
 ghost use Rattle.schema.specs.Layout.{classSet};
-ghost use Rattle.schema.specs.Store.{classTable};
+ghost use Rattle.schema.specs.Store.{tableIn};
+ghost use Rattle.schema.specs.declared.number.TableId.the-variants.{Classes};
 ghost use Rattle.graph.specs.Graph.{Readable, reaches};
 ghost use Rattle.graph.specs.Visit.{afterVisit, afterWalk, unvisitedIn, firstClass, nextUnvisited};
 
@@ -48,24 +50,24 @@ fn first_unvisited(fixed: &[u8], other: &[u8], seen: Visited, start: usize, n: u
     NextClass::Nothing
 }
 
-// The first auxiliary of c from number start on that has a row and is not visited.
+// The first lists Auxiliaries (of .row c) from number start on that has a row and is not visited.
 fn next_unvisited(classes: &[u8], c: ClassNumber, start: usize, seen: Visited) -> NextClass
     requires { ⌜ Readable (now classes) ⌝ }
-    requires { ⌜ c .0 < classTable (now classes) .count ⌝ }
-    ensures { λ r. ⌜ r ≡ nextUnvisited (classTable (now (classes .entry))) (member (seen .bits)) (c .0) start ⌝ }
+    requires { ⌜ c .0 < tableIn Classes (now classes) .count ⌝ }
+    ensures { λ r. ⌜ r ≡ nextUnvisited (tableIn Classes (now (classes .entry))) (member (seen .bits)) (c .0) start ⌝ }
 {
     let row = class_row(classes, c);
-    let n = class_count(classes);
+    let n = row_count(TableId::Classes, classes);
     first_unvisited(fixed_auxiliary(row), open_auxiliary(row), seen, start, n)
 }
 
 // Adds to seen what c reaches over classes that are not visited.
 fn visit(classes: &[u8], c: ClassNumber, seen: Visited) -> Visited
     requires { ⌜ Readable (now classes) ⌝ }
-    ensures { λ r. ⌜ r .bits ≡ setOf classSet (afterVisit (classTable (now (classes .entry))) (member (seen .bits)) (c .0)) ⌝ }
+    ensures { λ r. ⌜ r .bits ≡ setOf classSet (afterVisit (tableIn Classes (now (classes .entry))) (member (seen .bits)) (c .0)) ⌝ }
 {
     let n = c.0;
-    if class_count(classes) <= n {
+    if row_count(TableId::Classes, classes) <= n {
         return seen;
     }
     if seen.has(n) {
@@ -84,8 +86,8 @@ fn visit(classes: &[u8], c: ClassNumber, seen: Visited) -> Visited
 // classes.
 fn walk(classes: &[u8], c: ClassNumber, start: usize, seen: Visited) -> Visited
     requires { ⌜ Readable (now classes) ⌝ }
-    requires { ⌜ c .0 < classTable (now classes) .count ⌝ }
-    ensures { λ r. ⌜ r .bits ≡ setOf classSet (afterWalk (classTable (now (classes .entry))) (member (seen .bits)) (c .0) start) ⌝ }
+    requires { ⌜ c .0 < tableIn Classes (now classes) .count ⌝ }
+    ensures { λ r. ⌜ r .bits ≡ setOf classSet (afterWalk (tableIn Classes (now (classes .entry))) (member (seen .bits)) (c .0) start) ⌝ }
 {
     let next = next_unvisited(classes, c, start, seen);
     let NextClass::Class(d) = next else {
@@ -98,7 +100,7 @@ fn walk(classes: &[u8], c: ClassNumber, start: usize, seen: Visited) -> Visited
 // The classes that c reaches.
 pub fn reached(classes: &[u8], c: ClassNumber) -> Visited
     requires { ⌜ Readable (now classes) ⌝ }
-    ensures { λ r. ⌜ r .bits ≡ setOf classSet (reaches (classTable (now (classes .entry))) (c .0)) ⌝ }
+    ensures { λ r. ⌜ r .bits ≡ setOf classSet (reaches (tableIn Classes (now (classes .entry))) (c .0)) ⌝ }
 {
     visit(classes, c, Visited::none())
 }

@@ -1,4 +1,2 @@
 -- Laws that belong to no one function.
-pub mod Checked
-pub mod Ends
 pub mod Loading

@@ -1,19 +1,20 @@
 -- How a call finds its answer. Document 01: "The smallest number whose condition holds. Every answer has a number, a table .. and a place; what is not
 -- named below is 0." Each call has a list of answers in the order of their numbers, but that audit's 3 comes last; the first that
 -- refuses is given.
-use mathlib.Core.Path.{_≡_}
 use mathlib.Core.Bool.{Bool, true, cond, not}
 use mathlib.Core.List.{List, [], _∷_}
+use mathlib.Core.Path.{_≡_}
 use Prim.Native.Nat.{ℕ}
 use lib.Dec.{eqb}
 use Rattle.schema.specs.Store.{Stores, LongEnough, anyShort}
 use Rattle.schema.specs.declared.answer.Answer.{Answer}
-use Rattle.schema.specs.Answers.{done, refused}
-use Rattle.shape.specs.Shape.{formed}
+use Rattle.schema.specs.Answers.{passed, refused}
+use Rattle.tables_shape.specs.Shape.{storesFormed}
+use Rattle.schema.specs.Refusals as refusal
 
 -- an answer that is given where a condition holds, and passed over where it does not
 unfoldable pub answerIf : Bool → Answer → Answer
-answerIf b a = cond b a (done 0 0)
+answerIf b a = cond b a passed
 
 -- a number alone
 abbrev pub refusedIf : ℕ → Bool → Answer
@@ -22,18 +23,18 @@ refusedIf n b = answerIf b (refused n)
 -- the first answer that refuses, or the last one where none does
 unfoldable pub firstAnswer : List Answer → Answer → Answer
 firstAnswer [] last = last
-firstAnswer (a ∷ answers) last = cond (eqb (a .number) 0) (firstAnswer answers last) a
+firstAnswer (a ∷ answers) last = cond (eqb (a .number) refusal.done) (firstAnswer answers last) a
 
 -- none of them refuses
 abbrev pub NoneRefuses : List Answer → Type 0
 NoneRefuses [] = Unit {0}
-NoneRefuses (a ∷ answers) = (a .number ≡ 0) × NoneRefuses answers
+NoneRefuses (a ∷ answers) = (a .number ≡ refusal.done) × NoneRefuses answers
 
 -- what every call but load asks of its stores: "1 a lent store is shorter than its length", "2 shape broken (not at load)"
 abbrev pub shapeAnswers : Stores → List Answer
-shapeAnswers s = refusedIf 1 (anyShort s) ∷ refusedIf 2 (not (formed (s .attributes) (s .classes))) ∷ []
+shapeAnswers s = refusedIf refusal.shortStore (anyShort s) ∷ refusedIf refusal.brokenShape (not (storesFormed (s .attributes) (s .classes))) ∷ []
 
 -- every store has its length, and the shape is not broken
 pub record InShape (s : Stores) : Type 0 where
   pub long : LongEnough s
-  pub formed : formed (s .attributes) (s .classes) ≡ true
+  pub formed : storesFormed (s .attributes) (s .classes) ≡ true

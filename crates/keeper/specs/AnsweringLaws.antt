@@ -1,8 +1,8 @@
 -- Laws of the first answer that refuses, and what it means that the stores pass as in shape.
-use mathlib.Core.Path.{_≡_, refl, sym, ap, _∙_}
 use mathlib.Core.Bool.{Bool, true, false, not}
-use mathlib.Core.Logic.{_↔_, _⊎_, inl, inr, ⊎-elim}
 use mathlib.Core.List.{List, [], _∷_, _++_}
+use mathlib.Core.Logic.{_↔_, _⊎_, inl, inr, ⊎-elim}
+use mathlib.Core.Path.{_≡_, refl, sym, ap, _∙_}
 use Prim.Native.Nat.{_<_}
 use native.Mathlib.Omega.{arith}
 use borrow.Author.Tests.{not-false}
@@ -10,9 +10,10 @@ use Rattle.prelude.specs.SaysLaws.{says-eq, says-true, says-false, says-split}
 use Rattle.schema.specs.Store.{Stores, LongEnough, anyShort}
 use Rattle.schema.specs.StoreLaws.{says-short, long-enough}
 use Rattle.schema.specs.declared.answer.Answer.{Answer}
-use Rattle.schema.specs.Answers.{done, refused}
-use Rattle.shape.specs.Shape.{formed}
+use Rattle.schema.specs.Answers.{passed, refused}
+use Rattle.tables_shape.specs.Shape.{storesFormed}
 use Rattle.keeper.specs.Answering.{answerIf, firstAnswer, NoneRefuses, shapeAnswers, InShape}
+use Rattle.schema.specs.Refusals as refusal
 
 -- ---- one answer, for a function that tests one after the other
 
@@ -20,7 +21,7 @@ pub if-holds : (b : Bool) (a : Answer) → b ≡ true → answerIf b a ≡ a
 unfolding answerIf
 if-holds b a e = rw e
 
-pub if-fails : (b : Bool) (a : Answer) → b ≡ false → answerIf b a ≡ done 0 0
+pub if-fails : (b : Bool) (a : Answer) → b ≡ false → answerIf b a ≡ passed
 unfolding answerIf
 if-fails b a e = rw e
 
@@ -52,7 +53,7 @@ module _ {b : Bool} (a : Answer) (answers : List Answer) (last : Answer) where
   tested-holds d e = ap (λ (x : Answer). firstAnswer (x ∷ answers) last) (if-holds b a e) ∙ first-refused a answers last d
 
   pub tested-fails : b ≡ false → firstAnswer (answerIf b a ∷ answers) last ≡ firstAnswer answers last
-  tested-fails e = ap (λ (x : Answer). firstAnswer (x ∷ answers) last) (if-fails b a e) ∙ first-passed (done 0 0) answers last refl
+  tested-fails e = ap (λ (x : Answer). firstAnswer (x ∷ answers) last) (if-fails b a e) ∙ first-passed passed answers last refl
 
 -- ---- what the answer is
 
@@ -76,19 +77,22 @@ pub append-passed : (p q : List Answer) (last : Answer) → NoneRefuses p → fi
 append-passed [] q last h = refl
 append-passed (a ∷ p) q last h = first-passed a (p ++ q) last (h .0) ∙ append-passed p q last (h .1)
 
-pub append-refused : (p q : List Answer) (middle last : Answer) → middle .number ≡ 0 → ¬ (firstAnswer p middle .number ≡ 0) → firstAnswer (p ++ q) last ≡ firstAnswer p middle
+pub append-refused : (p q : List Answer) (middle last : Answer) → middle .number ≡ 0 → ¬ (firstAnswer p middle .number ≡ 0)
+    → firstAnswer (p ++ q) last ≡ firstAnswer p middle
 append-refused [] q middle last z d = absurd (d (ap (λ (x : Answer). x .number) (first-last middle) ∙ z))
 append-refused (a ∷ p) q middle last z d =
     ⊎-elim (λ r. first-refused a (p ++ q) last r ∙ sym (first-refused a p middle r))
-    (λ e. first-passed a (p ++ q) last e ∙ append-refused p q middle last z (λ f. d (ap (λ (x : Answer). x .number) (first-passed a p middle e) ∙ f)) ∙ sym (first-passed a p middle e)) (refuses-or-not a)
+    (λ e. first-passed a (p ++ q) last e ∙ append-refused p q middle last z (λ f. d (ap (λ (x : Answer). x .number) (first-passed a p middle e) ∙ f))
+    ∙ sym (first-passed a p middle e)) (refuses-or-not a)
 
 -- ---- stores in shape
 
 pub shape-passed : (s : Stores) → NoneRefuses (shapeAnswers s) → InShape s
 shape-passed s h =
     record {
-      long = long-enough s (if-passed (anyShort s) (refused 1) (omega arith) (h .0));
-      formed = not-false (formed (s .attributes) (s .classes)) (if-passed (not (formed (s .attributes) (s .classes))) (refused 2) (omega arith) (h .1 .0));
+      long = long-enough s (if-passed (anyShort s) (refused refusal.shortStore) (omega arith) (h .0));
+      formed = not-false (storesFormed (s .attributes) (s .classes))
+          (if-passed (not (storesFormed (s .attributes) (s .classes))) (refused refusal.brokenShape) (omega arith) (h .1 .0));
     }
 
 -- and the converse: stores in shape pass
@@ -98,16 +102,19 @@ not-short s h =
 
 pub passed-shape : (s : Stores) → InShape s → NoneRefuses (shapeAnswers s)
 passed-shape s h = (
-  ap (λ (x : Answer). x .number) (if-fails (anyShort s) (refused 1) (not-short s (h .long))),
-  (ap (λ (x : Answer). x .number) (if-fails (not (formed (s .attributes) (s .classes))) (refused 2) (ap not (h .formed))), tt),
+  ap (λ (x : Answer). x .number) (if-fails (anyShort s) (refused refusal.shortStore) (not-short s (h .long))),
+  (ap (λ (x : Answer). x .number) (if-fails (not (storesFormed (s .attributes) (s .classes))) (refused refusal.brokenShape) (ap not (h .formed))), tt),
 )
 
 module _ (s : Stores) where
-  pub short-stores : anyShort s ≡ true → refused 1 ≡ firstAnswer (shapeAnswers s) (done 0 0)
-  short-stores e = sym (tested-holds (refused 1) _ (done 0 0) (λ z. omega arith) e)
+  pub short-stores : anyShort s ≡ true → refused refusal.shortStore ≡ firstAnswer (shapeAnswers s) passed
+  short-stores e = sym (tested-holds (refused refusal.shortStore) _ passed (λ z. omega arith) e)
 
-  pub broken-stores : anyShort s ≡ false → formed (s .attributes) (s .classes) ≡ false → refused 2 ≡ firstAnswer (shapeAnswers s) (done 0 0)
-  broken-stores e f = sym (tested-fails (refused 1) _ (done 0 0) e ∙ tested-holds (refused 2) [] (done 0 0) (λ z. omega arith) (ap not f))
+  pub broken-stores : anyShort s ≡ false → storesFormed (s .attributes) (s .classes) ≡ false → refused refusal.brokenShape
+      ≡ firstAnswer (shapeAnswers s) passed
+  broken-stores e f = sym (tested-fails (refused refusal.shortStore) _ passed e
+      ∙ tested-holds (refused refusal.brokenShape) [] passed (λ z. omega arith) (ap not f))
 
-  pub formed-stores : anyShort s ≡ false → formed (s .attributes) (s .classes) ≡ true → done 0 0 ≡ firstAnswer (shapeAnswers s) (done 0 0)
-  formed-stores e f = sym (tested-fails (refused 1) _ (done 0 0) e ∙ tested-fails (refused 2) [] (done 0 0) (ap not f) ∙ first-last (done 0 0))
+  pub formed-stores : anyShort s ≡ false → storesFormed (s .attributes) (s .classes) ≡ true → passed ≡ firstAnswer (shapeAnswers s) passed
+  formed-stores e f = sym (tested-fails (refused refusal.shortStore) _ passed e ∙ tested-fails (refused refusal.brokenShape) [] passed (ap not f)
+      ∙ first-last passed)

@@ -2,16 +2,19 @@
 -- "*In order*: shape, rules 12 to 29, and kept sets equal to those worked out afresh, zero for unused rows."
 use mathlib.Core.Bool.{not}
 use mathlib.Core.List.{[], _∷_, _++_}
-use Rattle.schema.specs.Store.{Stores, attributeTable, classTable}
+use Rattle.schema.specs.Store.{Stores, schemaOf}
 use Rattle.schema.specs.declared.answer.Answer.{Answer}
-use Rattle.schema.specs.Answers.{done}
+use Rattle.schema.specs.Answers.{passed}
 use Rattle.graph.specs.Graph.{isFresh}
+use Rattle.rules.specs.declared.row.Added.the-variants.{Nothing}
 use Rattle.rules.specs.Judge.{judged}
 use Rattle.keeper.specs.Answering.{refusedIf, firstAnswer, shapeAnswers}
+use Rattle.schema.specs.Refusals as refusal
 
--- "3 .. Audit: only kept sets are wrong", so it stands behind rules 12 to 29, which come "by number" with "the table and lowest row that break the rule found"
+-- "3 .. Audit: only kept sets are wrong", so it stands behind rules 12 to 29, which come "by number" with "the table and lowest row that break the
+-- rule found"
 unfoldable pub audit : Stores → Answer
 audit s =
     firstAnswer
-    (shapeAnswers s ++ (judged (attributeTable (s .attributes)) (classTable (s .classes)) ∷ refusedIf 3 (not (isFresh (classTable (s .classes)) (s .closure))) ∷ []))
-    (done 0 0)
+    (shapeAnswers s ++ (judged Nothing (schemaOf s) ∷ refusedIf refusal.notInOrder (not (isFresh (schemaOf s .classes) (s .closure))) ∷ []))
+    passed

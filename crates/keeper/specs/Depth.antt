@@ -4,13 +4,14 @@ use mathlib.Core.Bool.{not}
 use mathlib.Core.List.{[], _∷_, _++_}
 use Prim.Native.Nat.{ℕ}
 use lib.Dec.{ltb}
-use Rattle.schema.specs.Store.{Stores, classTable}
+use Rattle.schema.specs.Store.{Stores, schemaOf}
 use Rattle.schema.specs.declared.answer.Answer.{Answer}
 use Rattle.graph.specs.Depth.{depthOf, depthAnswer}
 use Rattle.keeper.specs.Answering.{refusedIf, firstAnswer, shapeAnswers}
+use Rattle.schema.specs.Refusals as refusal
 
 unfoldable pub depth : Stores → ℕ → Answer
 depth s c =
     firstAnswer
-    (shapeAnswers s ++ (refusedIf 5 (not (ltb c (classTable (s .classes) .count))) ∷ []))
-    (depthAnswer (depthOf (classTable (s .classes)) c))
+    (shapeAnswers s ++ (refusedIf refusal.noSuchRow (not (ltb c (schemaOf s .classes .count))) ∷ []))
+    (depthAnswer (depthOf (schemaOf s .classes) c))

@@ -6,3 +6,5 @@ pub mod LoadLaws
 pub mod Write
 pub mod Audit
 pub mod Depth
+pub mod CheckedLaws
+pub mod EndLaws

@@ -1,118 +1,124 @@
--- What reading a sheet gives: stores in shape, as long as they were, and empty again once they are emptied.
-use mathlib.Core.Path.{_≡_, refl, sym, ap, ap₂, _∙_}
-use mathlib.Core.Bool.{Bool, true, false, _&&_}
-use mathlib.Core.List.{List, [], _∷_}
-use Prim.Native.Nat.{ℕ, zero, suc, _+_, _≤_, _<_}
+-- Stores that hold the rows of a sheet: they are in shape, as long as they were, and empty again once they are emptied; and a load by its cases.
+use mathlib.Core.Bool.{_&&_, Bool, false, true}
+use mathlib.Core.List.{[], List}
+use mathlib.Core.Path.{_≡_, ap₂, refl, sym, _∙_}
+use Prim.Native.Nat.{_≤_, ℕ}
 use native.Mathlib.Omega.{arith}
-use lib.ListN.{length, getD}
-use Rattle.prelude.specs.Part.{splice, zeros, Bytes}
+use lib.ListN.{length}
+use Rattle.prelude.specs.Part.{splice, zeros}
 use Rattle.prelude.specs.PartLaws.{zeros-length}
+use Rattle.prelude.specs.SaysLaws.{says-eq, says-false, says-true}
 use Rattle.prelude.specs.SpliceLaws.{splice-length, splice-over}
-use Rattle.prelude.specs.SaysLaws.{says-eq, says-true, says-false}
-use Rattle.schema.specs.Store.{Stores, result, anyShort, attributeTable, classTable}
 use Rattle.schema.specs.declared.answer.Answer.{Answer}
-use Rattle.schema.specs.Answers.{answer, refused, unreadable}
-use Rattle.schema.specs.Layout.{attributesLength, classesLength}
-use Rattle.stores.specs.Filled.{attributeStore, classStore}
-use Rattle.stores.specs.FilledLaws.{attributes-length, classes-length}
-use Rattle.sheet.specs.declared.read.SheetRead.the-variants.{Read, Bad, Full}
-use Rattle.sheet.specs.Reading.{SheetOut, sheetOut, sheetAnswer}
-use Rattle.sheet.specs.ReadingLaws.{AllPass, HeldBoth, sheet-held}
+use Rattle.schema.specs.declared.number.TableId.{TableId}
+use Rattle.schema.specs.declared.number.TableId.the-variants.{Attributes, Classes}
+use Rattle.schema.specs.Answers.{refused, unreadable, full}
+use Rattle.schema.specs.Layout.{storeLength, closureLength}
+use Rattle.schema.specs.Store.{LongEnough, Stores, anyShort, result, schemaIn, tableIn}
+use Rattle.tables.specs.Filled.{emptyStores, filledStore, tableFrom}
+use Rattle.tables.specs.FilledLaws.{store-length}
+use Rattle.tables.specs.Same.{Same, SameRows}
+use Rattle.tables.specs.SameLaws.{filled-same}
 use Rattle.tables.specs.Shaped.{Shaped}
 use Rattle.graph.specs.Graph.{Readable}
-use Rattle.shape.specs.Shape.{attributesFormed, classesFormed, formed}
-use Rattle.shape.specs.ShapeLaws.{formed-shaped, formed-readable}
-use Rattle.shape.specs.FilledShapeLaws.{filled-attributes, filled-classes}
+use Rattle.rows_read.specs.WellFormed.{wellFormed}
+use Rattle.sheet_read.specs.declared.read.SheetRead.the-variants.{Bad, Full, Read}
+use Rattle.sheet_read.specs.Held.{Lent}
+use Rattle.sheet_read.specs.Reading.{Rows, SheetOut, rowsIn, schemaFrom, sheetAnswer, sheetOut, readSheet}
+use Rattle.sheet_read.specs.ReadingLaws.{Sound, all-at}
+use Rattle.rules.specs.declared.row.Added.the-variants.{Nothing}
 use Rattle.rules.specs.Judge.{judged}
-use Rattle.keeper.specs.AnsweringLaws.{first-refused, first-passed, first-last}
-use Rattle.keeper.specs.Load.{readAnswer, loaded, load, filled, emptied, reading}
+use Rattle.rules.specs.Pieces.{classes}
+use Rattle.tables_shape.specs.FilledShapeLaws.{filled-formed}
+use Rattle.tables_shape.specs.Shape.{storesFormed, tableFormed}
+use Rattle.tables_shape.specs.ShapeLaws.{formed-readable, formed-shaped}
+use Rattle.keeper.specs.AnsweringLaws.{first-last, first-passed, first-refused}
+use Rattle.keeper.specs.Load.{emptied, filled, load, loaded, readAnswer}
+use Rattle.schema.specs.Refusals as refusal
 
--- every row passes: each by its number
-pass-each : (test : List ℕ → Bool) (rows : List (List ℕ)) → AllPass test rows → (k : ℕ) → k < length rows → test (getD rows k []) ≡ true
-pass-each test [] h k l = absurd (omega arith)
-pass-each test (r ∷ rows) h zero l = h .0
-pass-each test (r ∷ rows) h (suc k) l = pass-each test rows (h .1) k (omega arith)
+-- ---- a store that some rows were put into
 
--- ---- a store whose front was written
+module _ (t : TableId) (list : List (List ℕ)) (sound : Sound t list) (s₀ : List ℕ) (long : storeLength t ≤ length s₀) where
+  abbrev held : List ℕ
+  held = splice 0 (filledStore t list) s₀
 
-module _ (n : ℕ) (x s₀ s : List ℕ) (is : s ≡ splice 0 x s₀) (e : length x ≡ n) (long : n ≤ length s₀) where
-  fits : 0 + length x ≤ length s₀
-  fits = omega (arith, e, long)
+  filled-long : length (filledStore t list) ≡ storeLength t
+  filled-long = store-length t list s₀ (sound .fit .wide) (sound .fit .few)
 
-  front-length : length s ≡ length s₀
-  front-length = ap length is ∙ splice-length 0 x s₀ fits
+  pub held-length : length held ≡ length s₀
+  held-length = splice-length 0 (filledStore t list) s₀ (omega (arith, filled-long, long))
 
-  -- emptied again, it is the store emptied at first
-  front-emptied : splice 0 (zeros n) s ≡ splice 0 (zeros n) s₀
-  front-emptied = ap (splice 0 (zeros n)) is ∙ splice-over 0 (zeros n) x s₀ (zeros-length n ∙ sym e) fits
+  -- emptied, it is the store emptied at first
+  pub held-emptied : splice 0 (zeros (storeLength t)) held ≡ splice 0 (zeros (storeLength t)) s₀
+  held-emptied = splice-over 0 (zeros (storeLength t)) (filledStore t list) s₀ (zeros-length (storeLength t) ∙ sym filled-long)
+      (omega (arith, filled-long, long))
 
--- ---- what reading leaves
+  held-formed : tableFormed t held ≡ true
+  held-formed = filled-formed t list s₀ long (sound .fit .wide) (sound .fit .few) (all-at (λ r. wellFormed t r ≡ true) list (sound .formed))
 
-module _ (sheet a c : List ℕ) (bytes : Bytes sheet) (la : attributesLength ≤ length a) (lc : classesLength ≤ length c) where
-  held : HeldBoth a c (reading sheet a c .attributes) (reading sheet a c .classes)
-  unfolding reading
-  held = sheet-held sheet a c bytes
+  held-same : Same (tableIn t held) (tableFrom list)
+  held-same = filled-same t list s₀ (sound .fit .wide) (sound .fit .few)
 
-  attributes-held : length (attributeStore (held .attributes .held)) ≡ attributesLength
-  attributes-held = attributes-length (held .attributes .held) a (held .attributes .wide) (held .attributes .few)
+-- ---- both
 
-  classes-held : length (classStore (held .classes .held)) ≡ classesLength
-  classes-held = classes-length (held .classes .held) c (held .classes .wide) (held .classes .few)
+module _ (x : Rows) (sound : (t : TableId) → Sound t (rowsIn t x)) (a c : List ℕ) (lent : Lent a c) where
+  abbrev attributesHeld : List ℕ
+  attributesHeld = splice 0 (filledStore Attributes (x .attributes)) a
 
-  -- as long as they were
-  pub attributes-long : length (reading sheet a c .attributes) ≡ length a
-  attributes-long = front-length attributesLength _ a _ (held .attributes .is) attributes-held la
+  abbrev classesHeld : List ℕ
+  classesHeld = splice 0 (filledStore Classes (x .classes)) c
 
-  pub classes-long : length (reading sheet a c .classes) ≡ length c
-  classes-long = front-length classesLength _ c _ (held .classes .is) classes-held lc
+  pub both-formed : storesFormed attributesHeld classesHeld ≡ true
+  unfolding storesFormed
+  both-formed =
+      ap₂ (λ (p q : Bool). p && q) (held-formed Attributes (x .attributes) (sound Attributes) a (lent .attributes))
+      (held-formed Classes (x .classes) (sound Classes) c (lent .classes))
 
-  -- emptied again, nothing of the sheet is left
-  pub attributes-again : splice 0 (zeros attributesLength) (reading sheet a c .attributes) ≡ splice 0 (zeros attributesLength) a
-  attributes-again = front-emptied attributesLength _ a _ (held .attributes .is) attributes-held la
+  attributes-long : storeLength Attributes ≤ length attributesHeld
+  attributes-long = omega (arith, held-length Attributes (x .attributes) (sound Attributes) a (lent .attributes), lent .attributes)
 
-  pub classes-again : splice 0 (zeros classesLength) (reading sheet a c .classes) ≡ splice 0 (zeros classesLength) c
-  classes-again = front-emptied classesLength _ c _ (held .classes .is) classes-held lc
+  classes-long : storeLength Classes ≤ length classesHeld
+  classes-long = omega (arith, held-length Classes (x .classes) (sound Classes) c (lent .classes), lent .classes)
 
-  -- in shape, whether the sheet was accepted or not
-  pub reading-formed : formed (reading sheet a c .attributes) (reading sheet a c .classes) ≡ true
-  unfolding formed
-  reading-formed =
-      ap₂ (λ (x y : Bool). x && y)
-      (ap attributesFormed (held .attributes .is) ∙ filled-attributes (held .attributes .held) a la (held .attributes .wide) (held .attributes .few) (pass-each _ (held .attributes .held) (held .attributes .formed)))
-      (ap classesFormed (held .classes .is) ∙ filled-classes (held .classes .held) c lc (held .classes .wide) (held .classes .few) (pass-each _ (held .classes .held) (held .classes .formed)))
+  pub both-lent : Lent attributesHeld classesHeld
+  both-lent = record { attributes = attributes-long; classes = classes-long }
 
-  pub reading-shaped : Shaped (reading sheet a c .attributes) (reading sheet a c .classes)
-  reading-shaped = formed-shaped _ _ (omega (arith, attributes-long, la)) (omega (arith, classes-long, lc)) reading-formed
+  pub both-shaped : Shaped attributesHeld classesHeld
+  both-shaped = formed-shaped attributesHeld classesHeld attributes-long classes-long both-formed
 
-  pub reading-readable : Readable (reading sheet a c .classes)
-  reading-readable = formed-readable (reading sheet a c .attributes) _ (omega (arith, attributes-long, la)) (omega (arith, classes-long, lc)) reading-formed
+  pub both-readable : Readable classesHeld
+  both-readable = formed-readable attributesHeld classesHeld attributes-long classes-long both-formed
+
+  pub both-same : SameRows (schemaIn attributesHeld classesHeld) (schemaFrom x)
+  both-same Attributes = held-same Attributes (x .attributes) (sound Attributes) a (lent .attributes)
+  both-same Classes = held-same Classes (x .classes) (sound Classes) c (lent .classes)
 
 -- ---- the answer, by what reading came to
 
-module _ (a c : List ℕ) where
+module _ (x : Rows) where
   abbrev verdict : Answer
-  verdict = judged (attributeTable a) (classTable c)
+  verdict = judged Nothing (schemaFrom x)
 
-  pub read-judged : verdict ≡ readAnswer (sheetOut Read a c)
+  pub read-judged : verdict ≡ readAnswer (sheetOut Read x)
   unfolding readAnswer
   read-judged = sym (first-passed (sheetAnswer Read) [] verdict refl ∙ first-last verdict)
 
-  pub read-bad : (at : ℕ) → unreadable at ≡ readAnswer (sheetOut (Bad at) a c)
+  pub read-bad : (at : ℕ) → unreadable at ≡ readAnswer (sheetOut (Bad at) x)
   unfolding readAnswer
   read-bad at = sym (first-refused (sheetAnswer (Bad at)) [] verdict (λ z. omega arith))
 
-  pub read-full : (table limit : ℕ) → answer 6 table limit ≡ readAnswer (sheetOut (Full table limit) a c)
+  pub read-full : (t : TableId) → full t ≡ readAnswer (sheetOut (Full t) x)
   unfolding readAnswer
-  read-full table limit = sym (first-refused (sheetAnswer (Full table limit)) [] verdict (λ z. omega arith))
+  read-full t = sym (first-refused (sheetAnswer (Full t)) [] verdict (λ z. omega arith))
 
 -- ---- the whole load, by its three cases
 
 module _ (sheet : List ℕ) (s : Stores) where
   abbrev out : SheetOut
-  out = reading sheet (s .attributes) (s .classes)
+  out = readSheet sheet
 
   -- a store is too short: nothing is touched
-  pub load-short : anyShort s ≡ true → load sheet s ≡ result (refused 1) s
+  pub load-short : anyShort s ≡ true → load sheet s ≡ result (refused refusal.shortStore) s
   unfolding load
   load-short e = rw e
 
@@ -122,9 +128,19 @@ module _ (sheet : List ℕ) (s : Stores) where
     load-long = rw long
 
     -- accepted: the rows that were read, and their closure
-    pub load-accepted : readAnswer out .number ≡ 0 → load sheet s ≡ result (readAnswer out) (filled out s)
+    pub load-accepted : readAnswer out .number ≡ 0 → load sheet s ≡ result (readAnswer out) (filled (out .rows) s)
     load-accepted z = load-long ∙ (unfold loaded in (rw (says-true (says-eq (readAnswer out .number) 0) z)))
 
     -- refused: every store byte zero
     pub load-rejected : ¬ (readAnswer out .number ≡ 0) → load sheet s ≡ result (readAnswer out) (emptied s)
     load-rejected d = load-long ∙ (unfold loaded in (rw (says-false (says-eq (readAnswer out .number) 0) d)))
+
+-- ---- empty stores of exactly their lengths
+
+pub empty-long : LongEnough emptyStores
+empty-long =
+    record {
+      attributes = omega (arith, zeros-length (storeLength Attributes));
+      classes = omega (arith, zeros-length (storeLength Classes));
+      closure = omega (arith, zeros-length closureLength);
+    }

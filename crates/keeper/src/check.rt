@@ -1,22 +1,24 @@
 // What every call but load asks of its stores before it looks at anything else.
 use schema::answer::Answer;
+use schema::refusal::BROKEN_SHAPE;
+use schema::refusal::SHORT_STORE;
 use schema::store::any_short;
-use shape::stores_formed;
+use tables_shape::stores_formed;
 ghost use mathlib.Core.Path.{_≡_};
-ghost use Rattle.schema.specs.Answers.{done};
+ghost use Rattle.schema.specs.Answers.{passed};
 ghost use Rattle.schema.specs.Store.{stores};
 ghost use Rattle.keeper.specs.Answering.{firstAnswer, shapeAnswers};
 
 // 1 where a store is short, 2 where the shape is broken, else 0.
 pub fn check_shape(attributes: &[u8], classes: &[u8], closure: &[u8]) -> Answer
-    ensures { λ r. ⌜ r ≡ firstAnswer (shapeAnswers (stores (now (attributes .entry)) (now (classes .entry)) (now (closure .entry)))) (done 0 0) ⌝ }
+    ensures { λ r. ⌜ r ≡ firstAnswer (shapeAnswers (stores (now (attributes .entry)) (now (classes .entry)) (now (closure .entry)))) passed ⌝ }
 {
     if any_short(attributes, classes, closure) {
-        return Answer::refused(1);
+        return Answer::refused(SHORT_STORE);
     }
     if stores_formed(attributes, classes) {
-        Answer::done(Answer::NONE, 0)
+        Answer::passed()
     } else {
-        Answer::refused(2)
+        Answer::refused(BROKEN_SHAPE)
     }
 }

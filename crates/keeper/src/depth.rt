@@ -4,7 +4,11 @@ use graph::depth::Depth;
 use graph::depth::depth_of;
 use schema::answer::Answer;
 use schema::number::ClassNumber;
-use schema::store::class_count;
+use schema::number::TableId;
+use schema::refusal::CLASS_NOT_LIVE;
+use schema::refusal::DONE;
+use schema::refusal::NO_SUCH_ROW;
+use schema::store::row_count;
 ghost use mathlib.Core.Path.{_≡_};
 ghost use Rattle.schema.specs.Store.{stores};
 ghost use Rattle.keeper.specs.Depth.{depth};
@@ -14,15 +18,15 @@ pub fn depth(attributes: &[u8], classes: &[u8], closure: &[u8], class: u16) -> A
     ensures { λ r. ⌜ r ≡ depth (stores (now (attributes .entry)) (now (classes .entry)) (now (closure .entry))) class ⌝ }
 {
     let shape = check_shape(attributes, classes, closure);
-    if shape.number != 0 {
+    if shape.number != DONE {
         return shape;
     }
     let c = class as usize;
-    if c >= class_count(classes) {
-        return Answer::refused(5);
+    if c >= row_count(TableId::Classes, classes) {
+        return Answer::refused(NO_SUCH_ROW);
     }
     match depth_of(classes, ClassNumber(c)) {
-        Depth::Steps(steps) => Answer::done(Answer::NONE, steps),
-        Depth::NotEarlier => Answer::refused(18),
+        Depth::Steps(steps) => Answer::done(steps),
+        Depth::NotEarlier => Answer::refused(CLASS_NOT_LIVE),
     }
 }

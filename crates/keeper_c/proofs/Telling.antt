@@ -15,7 +15,8 @@ module _ (detail : List ℕ) {detail' : List ℕ} {n : ℕ} {a : Answer} (tells 
   load-told sheet s {s'} left =
       rw room (ap (λ (t : Told). loaded t s') tells ∙ ap (λ (r : Result). loadedBy r detail) left)
 
-  pub write-told : (s : Stores) (output : List ℕ) {output' : List ℕ} → written a output' ≡ write s output → wrote (told n detail') output' ≡ writeCall s output detail
+  pub write-told : (s : Stores) (output : List ℕ) {output' : List ℕ} → written a output' ≡ write s output → wrote (told n detail') output'
+      ≡ writeCall s output detail
   unfolding writeCall
   write-told s output {output'} left =
       rw room (ap (λ (t : Told). wrote t output') tells ∙ ap (λ (w : Written). wroteBy w detail) left)

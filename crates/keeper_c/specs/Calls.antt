@@ -1,4 +1,5 @@
--- The calls as C sees them: the number is returned, table and place stand in the first two numbers of `detail`. Each says what the keeper's own definition says; a
+-- The calls as C sees them: the number is returned, table and place stand in the first two numbers of `detail`. Each says what the keeper's own
+-- definition says; a
 -- `detail` too short for both counts as a short store: "1 a lent store is shorter than its length", and nothing is altered.
 use mathlib.Core.Bool.{Bool, cond}
 use mathlib.Core.List.{List}

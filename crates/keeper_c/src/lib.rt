@@ -1,4 +1,5 @@
-// The keeper's calls for C (include/keeper.h). Each returns the answer's number and writes its table and place into `detail`. A `detail` that is too short for
+// The keeper's calls for C (include/keeper.h). Each returns the answer's number and writes its table and place into `detail`. A `detail` that is too
+// short for
 // both counts as a store that is too short: number 1, and nothing is altered.
 use keeper::audit::audit;
 use keeper::depth::depth;
@@ -59,9 +60,9 @@ pub extern "C" fn keeper_write(
 }
 
 #[no_mangle]
-pub extern "C" fn keeper_audit(
-    attributes: &[u8],
-    classes: &[u8],
+pub extern "C" fn keeper_audit<'a>(
+    attributes: &'a [u8],
+    classes: &'a [u8],
     closure: &[u8],
     detail: &mut [u64],
 ) -> u64

@@ -1,8 +1,8 @@
 // Lists the samples of the repository, as `list` lists its standard input: a forest owners' schema, a sheet that is refused, and one that is too long.
 use libc::STDOUT_FILENO;
-use listing::list::SHEET_LIMIT;
-use listing::list::TEXT_LENGTH;
-use listing::list::list;
+use list_text::list::SHEET_LIMIT;
+use list_text::list::TEXT_LENGTH;
+use list_text::list::list;
 
 // Lists the sheet in a file.
 fn show(path: &[u8]) {

@@ -24,7 +24,13 @@ module _ (t d : List ℕ) where
       turn : set (take i t ++ drop i d) i v ≡ take (i + 1) t ++ drop (i + 1) d
       turn =
           let k : i < length t = omega arith in
-          rw (e, drop-cons d i 0 l, set-at (take i t) (getD d i 0) (drop (suc i) d) (getD t i 0) i (length-take-le i t (omega arith)), add-one, take-suc t i 0 k)
+          rw (
+            e,
+            drop-cons d i 0 l,
+            set-at (take i t) (getD d i 0) (drop (suc i) d) (getD t i 0) i (length-take-le i t (omega arith)),
+            add-one,
+            take-suc t i 0 k,
+          )
           (sym (append-assoc (take i t) (getD t i 0 ∷ []) (drop (suc i) d)))
 
   -- the loop's end

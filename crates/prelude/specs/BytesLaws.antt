@@ -37,7 +37,8 @@ drop-bytes n s b i = rw getD-drop (b (n + i))
 pub splice-bytes : (at : ℕ) (new s : List ℕ) → Bytes new → Bytes s → Bytes (splice at new s)
 unfolding splice
 splice-bytes at new s b c =
-    append-bytes (take at s) (new ++ drop (at + length new) s) (take-bytes at s c) (append-bytes new (drop (at + length new) s) b (drop-bytes (at + length new) s c))
+    append-bytes (take at s) (new ++ drop (at + length new) s) (take-bytes at s c)
+    (append-bytes new (drop (at + length new) s) b (drop-bytes (at + length new) s c))
 
 -- a number of any size, written: its digits are bytes
 pub digits-bytes : (n x : ℕ) → Bytes (bigEndianBytes n x)

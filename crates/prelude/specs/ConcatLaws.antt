@@ -48,13 +48,27 @@ module _ (f : ℕ → List ℕ) where
   pub concat-short : (w n : ℕ) → ((k : ℕ) → k < n → length (f k) ≤ w) → length (concatBelow n f) ≤ w * n
   concat-short w zero h = omega (arith, ap length concat-none)
   concat-short w (suc n) h =
-      omega (arith, concat-short w n (λ k l. h k (omega arith)), h n (omega arith), concat-more-length n, ap (λ (m : ℕ). length (concatBelow m f)) (add-one n))
+      omega (
+        arith,
+        concat-short w n (λ k l. h k (omega arith)),
+        h n (omega arith),
+        concat-more-length n,
+        ap (λ (m : ℕ). length (concatBelow m f))
+            (add-one n),
+      )
 
   -- each has w bytes
   pub concat-length : (w n : ℕ) → ((k : ℕ) → k < n → length (f k) ≡ w) → length (concatBelow n f) ≡ w * n
   concat-length w zero h = omega (arith, ap length concat-none)
   concat-length w (suc n) h =
-      omega (arith, concat-length w n (λ k l. h k (omega arith)), h n (omega arith), concat-more-length n, ap (λ (m : ℕ). length (concatBelow m f)) (add-one n))
+      omega (
+        arith,
+        concat-length w n (λ k l. h k (omega arith)),
+        h n (omega arith),
+        concat-more-length n,
+        ap (λ (m : ℕ). length (concatBelow m f))
+            (add-one n),
+      )
 
   -- ---- where each stands
 

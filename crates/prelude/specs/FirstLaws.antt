@@ -24,7 +24,8 @@ first-miss c cs e = rw e
 
 -- two lists that begin alike: the rest is compared only where the first condition does not hold
 pub first-rest : (c : Case) (cs ds : List Case) → (c .holds ≡ false → firstOf cs ≡ firstOf ds) → firstOf (c ∷ cs) ≡ firstOf (c ∷ ds)
-first-rest c cs ds h = ⊎-elim (λ e. first-hit c cs e ∙ sym (first-hit c ds e)) (λ e. first-miss c cs e ∙ h e ∙ sym (first-miss c ds e)) (true-or-false (c .holds))
+first-rest c cs ds h = ⊎-elim (λ e. first-hit c cs e ∙ sym (first-hit c ds e)) (λ e. first-miss c cs e ∙ h e ∙ sym (first-miss c ds e))
+    (true-or-false (c .holds))
 
 -- ---- what the answer is
 

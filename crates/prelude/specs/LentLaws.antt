@@ -1,11 +1,11 @@
 -- A part of a byte string that was lent as `&mut s[a..e]` and has come back. The borrow checker writes the whole as `putMid a (e - a) s back`,
 -- which is `take a s ++ (back ++ drop (e - a) (drop a s))`: each law turns that form into a splice.
-use mathlib.Core.Path.{_≡_, refl, sym, ap, _∙_}
 use mathlib.Core.List.{List, _++_, append-nil}
+use mathlib.Core.Path.{_≡_, refl, sym, ap, _∙_}
 use Prim.Native.Nat.{ℕ, _+_, _-_, _≤_}
 use native.Mathlib.Omega.{arith}
 use lib.ListN.{length, take, drop, length-drop, drop-of-length-le}
-use lib.Seq.{drop-drop, take-all}
+use lib.Seq.{drop-drop, take-all, take-length}
 use Rattle.prelude.specs.Part.{part, splice, zeros, padded}
 use Rattle.prelude.specs.PartLaws.{part-cut, part-length, padded-full, zeros-length}
 use Rattle.prelude.specs.SpliceLaws.{splice-length, splice-undo}
@@ -23,6 +23,11 @@ unfolding splice
 lent-front a s back new h q =
     let short : length (drop a s) ≤ length s - a = simp length-drop (omega arith) in
     rw (q, take-all (length s - a) (drop a s) short, drop-of-length-le (drop a s) short, append-nil, drop-drop (length new) a s)
+
+-- bytes copied to the front of such a part
+pub lent-copied : (a : ℕ) (v s back : List ℕ) → a ≤ length s → back ≡ take (length v) v ++ drop (length v) (take (length s - a) (drop a s))
+    → take a s ++ (back ++ drop (length s - a) (drop a s)) ≡ splice a v s
+lent-copied a v s back h e = lent-front a s back v h (rw (take-length v) at e)
 
 -- a part lent to be cleared
 pub lent-cleared : (a n : ℕ) (s back : List ℕ) → a + n ≤ length s → back ≡ zeros (length (take (a + n - a) (drop a s)))

@@ -5,8 +5,6 @@ pub mod Below
 pub mod BelowLaws
 pub mod First
 pub mod FirstLaws
-pub mod Tells
-pub mod TellsLaws
 pub mod Part
 pub mod PartLaws
 pub mod SpliceLaws
@@ -17,3 +15,5 @@ pub mod BigEndian
 pub mod BigEndianLaws
 pub mod FrontLaws
 pub mod BytesLaws
+pub mod Written
+pub mod WrittenLaws

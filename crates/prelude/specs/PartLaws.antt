@@ -159,8 +159,11 @@ says-same-bytes a b =
 pub says-zero : (s : List ℕ) → Says (isZero s) (s ≡ zeros (length s))
 unfolding isZero
 says-zero s =
-    says-iff (says-all (length s) (λ i l. says-eq (getD s i 0) 0))
-    (λ h. ext-getD 0 s (zeros (length s)) (sym (zeros-length (length s))) (λ i l. h i l ∙ sym (zeros-at (length s) i)), λ e i l. ap (λ (x : List ℕ). getD x i 0) e ∙ zeros-at (length s) i)
+    says-iff (says-all (length s) (λ i l. says-eq (getD s i 0) 0)) (
+      λ h. ext-getD 0 s (zeros (length s)) (sym (zeros-length (length s))) (λ i l. h i l ∙ sym (zeros-at (length s) i)),
+      λ e i l. ap
+          (λ (x : List ℕ). getD x i 0) e ∙ zeros-at (length s) i,
+    )
 
 pub zeros-zero : (n : ℕ) → isZero (zeros n) ≡ true
 zeros-zero n = says-zero (zeros n) .passes (ap zeros (sym (zeros-length n)))

@@ -7,7 +7,8 @@ use native.Mathlib.Nat.{add-assoc, add-zero, zero-add}
 use native.Mathlib.Numerals.{add-one}
 use native.Mathlib.Decide.{decLt}
 use lib.ListN.{length, take, drop, drop-of-length-le, getD, set, length-set, length-append, length-take, length-drop, take-append-drop}
-use lib.Seq.{take-append-le, drop-append-add, take-at, drop-at, drop-drop, take-take, take-add, take-append-seam, length-take-le, getD-take, getD-drop, set-split, ext-getD}
+use lib.Seq.{take-append-le, drop-append-add, take-at, drop-at, drop-drop, take-take, take-add, take-append-seam, length-take-le, getD-take}
+use lib.Seq.{getD-drop, set-split, ext-getD}
 use Rattle.prelude.specs.Part.{part, splice}
 use Rattle.prelude.specs.PartLaws.{part-length, part-at}
 
@@ -177,5 +178,6 @@ unfolding splice
 splice-none at s = rw (add-zero at) (take-append-drop at s)
 
 -- bytes written, and then what is left to write after them
-pub write-turn : (at next : ℕ) (u v out out′ : List ℕ) → at + length u ≤ length out → next ≡ at + length u → out′ ≡ splice at u out → splice next v out′ ≡ splice at (u ++ v) out
+pub write-turn : (at next : ℕ) (u v out out′ : List ℕ) → at + length u ≤ length out → next ≡ at + length u → out′ ≡ splice at u out
+    → splice next v out′ ≡ splice at (u ++ v) out
 write-turn at next u v out out′ h e q = rw (e, q) (splice-append at u out h v)

@@ -3,6 +3,7 @@ ghost use mathlib.Core.Path.{_≡_};
 ghost use Prim.Native.Nat.{_+_, _*_, _≤_};
 ghost use lib.ListN.{length};
 ghost use Rattle.prelude.specs.Part.{part, rowAt, zeros, padded, sameBytes, isZero};
+ghost use Rattle.prelude.specs.Written.{WrittenAt};
 
 // The n bytes of s from at: a part of it, no copy.
 pub fn part_of(s: &[u8], at: usize, n: usize) -> &[u8]
@@ -70,4 +71,13 @@ pub fn is_zero(s: &[u8]) -> bool
         i += 1;
     }
     true
+}
+
+// Copies bytes to a place, and gives the place after them.
+pub fn put_bytes(v: &[u8], out: &mut [u8], at: usize) -> usize
+    requires { ⌜ at + length (now v) ≤ length (now out) ⌝ }
+    ensures { λ r. ⌜ WrittenAt (now (v .entry)) at r (now (out .entry)) (now (out .exit)) ⌝ }
+{
+    let n = bytes::copy(v, &mut out[at..]);
+    at + n
 }

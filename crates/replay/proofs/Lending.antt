@@ -1,9 +1,9 @@
 -- Stores of which a front is lent and comes back, and bytes A5 written one after the other. Assumes nothing.
-use mathlib.Core.Path.{_≡_, refl, sym, ap, _∙_}
 use mathlib.Core.List.{List, [], _∷_, _++_}
+use mathlib.Core.Path.{_≡_, refl, sym, ap, _∙_}
 use Prim.Native.Nat.{ℕ, zero, suc, _+_, _-_, _≤_, _<_}
-use native.Mathlib.Omega.{arith}
 use native.Mathlib.Numerals.{add-one}
+use native.Mathlib.Omega.{arith}
 use lib.ListN.{length, take, drop, set, replicate, length-replicate, take-append-drop}
 use Rattle.prelude.specs.Part.{part, splice}
 use Rattle.prelude.specs.PartLaws.{part-cut, part-length}
@@ -66,9 +66,12 @@ back : (n : ℕ) (s new : List ℕ) → length new ≡ n → take 0 s ++ (new ++
 back n s new e = lent-back 0 n s new new (omega (arith, e)) refl
 
 pub load-back : (sheet : List ℕ) (l : Lengths) (s : Stores) (r : Answer) (a c k : List ℕ)
-    → result r (stores a c k) ≡ load sheet (stores (take (l .attributes - 0) (drop 0 (s .attributes))) (take (l .classes - 0) (drop 0 (s .classes))) (take (l .closure - 0) (drop 0 (s .closure))))
+    → result r (stores a c k) ≡ load sheet (stores (take (l .attributes - 0) (drop 0 (s .attributes))) (take (l .classes - 0) (drop 0 (s .classes)))
+    (take (l .closure - 0) (drop 0 (s .closure))))
     → length a ≡ l .attributes → length c ≡ l .classes → length k ≡ l .closure
-    → result r (stores (take 0 (s .attributes) ++ (a ++ drop (l .attributes - 0) (drop 0 (s .attributes)))) (take 0 (s .classes) ++ (c ++ drop (l .classes - 0) (drop 0 (s .classes)))) (take 0 (s .closure) ++ (k ++ drop (l .closure - 0) (drop 0 (s .closure)))))
+    → result r (stores (take 0 (s .attributes) ++ (a ++ drop (l .attributes - 0) (drop 0 (s .attributes))))
+    (take 0 (s .classes) ++ (c ++ drop (l .classes - 0) (drop 0 (s .classes))))
+    (take 0 (s .closure) ++ (k ++ drop (l .closure - 0) (drop 0 (s .closure)))))
     ≡ loadLent sheet l s
 unfolding loadLent
 load-back sheet l s r a c k e la lc lk =

@@ -1,8 +1,8 @@
 -- A product with the prime, 2^40 + 435, modulo 2^64, from three products that fit into 64 bits. Assumes nothing.
 use mathlib.Core.Path.{_≡_, sym, ap, _∙_}
 use Prim.Native.Nat.{ℕ, _+_, _*_, _/_, _%_, _^_}
-use native.Mathlib.Omega.{arith}
 use native.Mathlib.Nat.{mod-add-mod, add-mul-mod-self-left}
+use native.Mathlib.Omega.{arith}
 use Rattle.replay.specs.Hash.{prime}
 
 pub in-parts : (x : ℕ)

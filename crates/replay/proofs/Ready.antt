@@ -1,7 +1,7 @@
 -- What holds before each step: the stores and the output keep their lengths, which have room for the longest, and no more than that is lent. Assumes nothing.
-use mathlib.Core.Path.{_≡_}
 use mathlib.Core.Bool.{Bool, true, false, cond}
 use mathlib.Core.List.{List}
+use mathlib.Core.Path.{_≡_}
 use Prim.Native.Nat.{ℕ, _≤_}
 use native.Mathlib.Omega.{arith}
 use lib.Dec.{eqb}
@@ -34,7 +34,8 @@ unfolding resizedLengths
 resized-at-most store n l h m = go (eqb store 0) (eqb store 1)
   where
     go : (zeroth first : Bool)
-        → AtMost longest (cond zeroth (lengths n (l .classes) (l .closure)) (cond first (lengths (l .attributes) n (l .closure)) (lengths (l .attributes) (l .classes) n)))
+        → AtMost longest (cond zeroth (lengths n (l .classes) (l .closure))
+        (cond first (lengths (l .attributes) n (l .closure)) (lengths (l .attributes) (l .classes) n)))
     go true first = record { attributes = h; classes = m .classes; closure = m .closure }
     go false true = record { attributes = m .attributes; classes = h; closure = m .closure }
     go false false = record { attributes = m .attributes; classes = m .classes; closure = h }

@@ -6,10 +6,11 @@ use Prim.Native.Nat.{ℕ, _+_, _-_, _≤_}
 use lib.Dec.{eqb, ltb}
 use lib.ListN.{length, set, replicate}
 use Rattle.prelude.specs.Part.{part, splice}
-use Rattle.schema.specs.Layout.{attributesLength, classesLength, closureLength}
+use Rattle.schema.specs.Layout.{storeLength, closureLength}
 use Rattle.schema.specs.Store.{Stores, stores, Result, result}
 use Rattle.schema.specs.declared.answer.Answer.{Answer}
-use Rattle.schema.specs.Answers.{done}
+use Rattle.schema.specs.declared.number.TableId.the-variants.{Attributes, Classes}
+use Rattle.schema.specs.Answers.{passed}
 use Rattle.keeper.specs.Audit.{audit}
 use Rattle.keeper.specs.Depth.{depth}
 use Rattle.keeper.specs.Load.{load}
@@ -86,7 +87,8 @@ lengths a c k = record { attributes = a; classes = c; closure = k }
 
 unfoldable pub resizedLengths : ℕ → ℕ → Lengths → Lengths
 resizedLengths store n l =
-    cond (eqb store 0) (lengths n (l .classes) (l .closure)) (cond (eqb store 1) (lengths (l .attributes) n (l .closure)) (lengths (l .attributes) (l .classes) n))
+    cond (eqb store 0) (lengths n (l .classes) (l .closure))
+    (cond (eqb store 1) (lengths (l .attributes) n (l .closure)) (lengths (l .attributes) (l .classes) n))
 
 abbrev pub lengthsAfter : Step → Lengths → Lengths
 lengthsAfter (Load start stop) l = l
@@ -119,8 +121,8 @@ playStep (Load start stop) script l s out = playedLoad (loadLent (part start (st
 playStep Audit script l s out = played (audit (lent l s)) s out
 playStep (Write n) script l s out = playedWrite (writeLent l s n out) s
 playStep (Depth c) script l s out = played (depth (lent l s) c) s out
-playStep (Poke store at byte) script l s out = played (done 0 0) (pokeLent store at byte l s) out
-playStep (Resize store n) script l s out = played (done 0 0) (resizeLent store n l s) out
+playStep (Poke store at byte) script l s out = played passed (pokeLent store at byte l s) out
+playStep (Resize store n) script l s out = played passed (resizeLent store n l s) out
 
 -- ---- the start
 
@@ -129,9 +131,10 @@ abbrev pub spare : ℕ
 spare = 16
 
 abbrev pub firstLengths : Lengths
-firstLengths = lengths (attributesLength + spare) (classesLength + spare) (closureLength + spare)
+firstLengths = lengths (storeLength Attributes + spare) (storeLength Classes + spare) (closureLength + spare)
 
 unfoldable pub started : Stores → Stores
 started s =
-    stores (lengthened attributesLength (attributesLength + spare) (s .attributes)) (lengthened classesLength (classesLength + spare) (s .classes))
+    stores (lengthened (storeLength Attributes) (storeLength Attributes + spare) (s .attributes))
+    (lengthened (storeLength Classes) (storeLength Classes + spare) (s .classes))
     (lengthened closureLength (closureLength + spare) (s .closure))

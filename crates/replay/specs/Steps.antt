@@ -1,5 +1,7 @@
--- The steps of a script, read at a place. "Steps, numbers most significant byte first: 01 load (u32 length, sheet), .. 04 audit, 05 write (u32 length of the output
--- lent ..), 06 depth (u16), 07 poke (u8 store 0..2, u32 offset, u8 byte), 08 resize (u8 store, u32 length; ..)." A step that is cut, has an unknown code, names no
+-- The steps of a script, read at a place. "Steps, numbers most significant byte first: 01 load (u32 length, sheet), .. 04 audit, 05 write (u32 length
+-- of the output
+-- lent ..), 06 depth (u16), 07 poke (u8 store 0..2, u32 offset, u8 byte), 08 resize (u8 store, u32 length; ..)." A step that is cut, has an unknown
+-- code, names no
 -- store or asks for more than the longest stops the player.
 use mathlib.Core.Bool.{Bool, cond}
 use mathlib.Core.List.{List}
@@ -35,12 +37,14 @@ unfoldable pub depthAt : List ℕ → ℕ → Turn
 depthAt s at = cond (isCut s at 3) Stop (On (Depth (bigEndian 2 (at + 1) s)) (at + 3))
 
 unfoldable pub pokeAt : List ℕ → ℕ → Turn
-pokeAt s at = cond (isCut s at 7) Stop (cond (ltb 2 (getD s (at + 1) 0)) Stop (On (Poke (getD s (at + 1) 0) (bigEndian 4 (at + 2) s) (getD s (at + 6) 0)) (at + 7)))
+pokeAt s at = cond (isCut s at 7) Stop
+    (cond (ltb 2 (getD s (at + 1) 0)) Stop (On (Poke (getD s (at + 1) 0) (bigEndian 4 (at + 2) s) (getD s (at + 6) 0)) (at + 7)))
 
 unfoldable pub resizeAt : List ℕ → ℕ → Turn
 resizeAt s at =
     cond (isCut s at 6) Stop
-    (cond (ltb 2 (getD s (at + 1) 0)) Stop (cond (ltb longest (bigEndian 4 (at + 2) s)) Stop (On (Resize (getD s (at + 1) 0) (bigEndian 4 (at + 2) s)) (at + 6))))
+    (cond (ltb 2 (getD s (at + 1) 0)) Stop
+    (cond (ltb longest (bigEndian 4 (at + 2) s)) Stop (On (Resize (getD s (at + 1) 0) (bigEndian 4 (at + 2) s)) (at + 6))))
 
 -- the step that begins at a place, by its code
 unfoldable pub turnAt : List ℕ → ℕ → Turn

@@ -2,8 +2,7 @@
 use prelude::number::byte_at;
 ghost use mathlib.Core.Path.{_≡_};
 ghost use Prim.Native.Nat.{_*_, _%_, _^_};
-ghost use Rattle.replay.specs.Hash.{prime, mixed};
-ghost use Rattle.replay.specs.Hash.{fnv1a as hashed};
+ghost use Rattle.replay.specs.Hash.{prime, mixed, fnv1a as hashed};
 
 // The last 64 bits of x times the prime, 2^40 + 435. No product here is beyond 64 bits: the high and the low half of x are taken by themselves, and of what
 // is moved up only the bits that stay.

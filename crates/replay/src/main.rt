@@ -1,4 +1,5 @@
-// Plays a replay script from standard input: loads, audits, writes, depths, pokes and resizes. Each step prints a line. The script, every store and every output has
+// Plays a replay script from standard input: loads, audits, writes, depths, pokes and resizes. Each step prints a line. The script, every store and
+// every output has
 // at most 64 KiB, since there is no heap; a step that is cut, unknown or asks for more ends the play, with no line of its own.
 mod hash;
 mod play;
@@ -32,7 +33,8 @@ const SPARE: usize = 16;
 fn start(attributes: &mut [u8], classes: &mut [u8], closure: &mut [u8]) -> Lengths
     requires { ⌜ (longest ≤ length (now attributes)) × (longest ≤ length (now classes)) × (longest ≤ length (now closure)) ⌝ }
     ensures { λ r. ⌜ (r ≡ firstLengths)
-        × (stores (now (attributes .exit)) (now (classes .exit)) (now (closure .exit)) ≡ started (stores (now (attributes .entry)) (now (classes .entry)) (now (closure .entry)))) ⌝ }
+        × (stores (now (attributes .exit)) (now (classes .exit)) (now (closure .exit))
+        ≡ started (stores (now (attributes .entry)) (now (classes .entry)) (now (closure .entry)))) ⌝ }
 {
     lengthen(attributes, ATTRIBUTES_LENGTH, ATTRIBUTES_LENGTH + SPARE);
     lengthen(classes, CLASSES_LENGTH, CLASSES_LENGTH + SPARE);
@@ -44,7 +46,8 @@ fn start(attributes: &mut [u8], classes: &mut [u8], closure: &mut [u8]) -> Lengt
     }
 }
 
-// The line of a step: "name, number, table, place (poke, resize: 0 0 0), then an FNV-1a 64 hash of all bytes of each store in 16 hex digits; write adds the hash
+// The line of a step: "name, number, table, place (poke, resize: 0 0 0), then an FNV-1a 64 hash of all bytes of each store in 16 hex digits; write
+// adds the hash
 // of the whole output lent". No contract can say which bytes a call of C's writes, so the functions that print have none; the gate compares what is printed.
 
 fn say_name(step: Step) {
@@ -155,12 +158,14 @@ fn play_step(
     lengths: Lengths,
 ) -> Lengths
     requires { ⌜ AtMost longest lengths × StepWithin (now script) step ⌝ }
-    requires { ⌜ (longest ≤ length (now attributes)) × (longest ≤ length (now classes)) × (longest ≤ length (now closure)) × (longest ≤ length (now output)) ⌝ }
+    requires { ⌜ (longest ≤ length (now attributes)) × (longest ≤ length (now classes)) × (longest ≤ length (now closure))
+        × (longest ≤ length (now output)) ⌝ }
     ensures { λ r. ⌜ (r ≡ lengthsAfter step lengths)
         × (stores (now (attributes .exit)) (now (classes .exit)) (now (closure .exit))
         ≡ playStep step (now (script .entry)) lengths (stores (now (attributes .entry)) (now (classes .entry)) (now (closure .entry))) (now (output .entry)) .left)
         × (now (output .exit)
-        ≡ playStep step (now (script .entry)) lengths (stores (now (attributes .entry)) (now (classes .entry)) (now (closure .entry))) (now (output .entry)) .output) ⌝ }
+        ≡ playStep step (now (script .entry)) lengths (stores (now (attributes .entry)) (now (classes .entry)) (now (closure .entry)))
+        (now (output .entry)) .output) ⌝ }
 {
     let answer = take_step(step, script, attributes, classes, closure, output, lengths);
     let after = lengths_after(step, lengths);
@@ -185,7 +190,8 @@ fn play_all(
     closure: &mut [u8],
     output: &mut [u8],
 )
-    requires { ⌜ (longest ≤ length (now attributes)) × (longest ≤ length (now classes)) × (longest ≤ length (now closure)) × (longest ≤ length (now output)) ⌝ }
+    requires { ⌜ (longest ≤ length (now attributes)) × (longest ≤ length (now classes)) × (longest ≤ length (now closure))
+        × (longest ≤ length (now output)) ⌝ }
 {
     let mut lengths = start(attributes, classes, closure);
     let mut at = 0;

@@ -15,7 +15,8 @@ ghost use Rattle.keeper.specs.Audit.{audit as audited};
 ghost use Rattle.keeper.specs.Depth.{depth as depthFrom};
 ghost use Rattle.keeper.specs.Write.{written};
 ghost use Rattle.replay.specs.Steps.{longest, StepWithin};
-ghost use Rattle.replay.specs.Playing.{pastBytes, lent, Fits, loadLent, writeLent, poked, pokeLent, resizeLent, resizedLengths, lengthsAfter, played, playStep};
+ghost use Rattle.replay.specs.Playing.{pastBytes, lent, Fits, loadLent, writeLent, poked, pokeLent, resizeLent, resizedLengths, lengthsAfter};
+ghost use Rattle.replay.specs.Playing.{played, playStep};
 
 // How much of each store is lent.
 pub struct Lengths {
@@ -61,7 +62,12 @@ fn load_lent(
     )
 }
 
-fn audit_lent(attributes: &[u8], classes: &[u8], closure: &[u8], lengths: Lengths) -> Answer
+fn audit_lent<'a>(
+    attributes: &'a [u8],
+    classes: &'a [u8],
+    closure: &[u8],
+    lengths: Lengths,
+) -> Answer
     requires { ⌜ Fits lengths (stores (now attributes) (now classes) (now closure)) ⌝ }
     ensures { λ r. ⌜ r ≡ audited (lent lengths (stores (now (attributes .entry)) (now (classes .entry)) (now (closure .entry)))) ⌝ }
 {
@@ -222,9 +228,11 @@ pub fn take_step(
     lengths: Lengths,
 ) -> Answer
     requires { ⌜ Fits lengths (stores (now attributes) (now classes) (now closure)) × StepWithin (now script) step ⌝ }
-    requires { ⌜ (longest ≤ length (now attributes)) × (longest ≤ length (now classes)) × (longest ≤ length (now closure)) × (longest ≤ length (now output)) ⌝ }
+    requires { ⌜ (longest ≤ length (now attributes)) × (longest ≤ length (now classes)) × (longest ≤ length (now closure))
+        × (longest ≤ length (now output)) ⌝ }
     ensures { λ r. ⌜ played r (stores (now (attributes .exit)) (now (classes .exit)) (now (closure .exit))) (now (output .exit))
-        ≡ playStep step (now (script .entry)) lengths (stores (now (attributes .entry)) (now (classes .entry)) (now (closure .entry))) (now (output .entry)) ⌝ }
+        ≡ playStep step (now (script .entry)) lengths (stores (now (attributes .entry)) (now (classes .entry)) (now (closure .entry)))
+        (now (output .entry)) ⌝ }
 {
     match step {
         Step::Load { start, stop } => {
@@ -241,11 +249,11 @@ pub fn take_step(
             byte,
         } => {
             poke_lent(store, offset, byte, attributes, classes, closure, lengths);
-            Answer::done(Answer::NONE, 0)
+            Answer::passed()
         }
         Step::Resize { store, length } => {
             resize_lent(store, length, attributes, classes, closure, lengths);
-            Answer::done(Answer::NONE, 0)
+            Answer::passed()
         }
     }
 }

@@ -1,17 +1,17 @@
 -- The members of a set, written one by one.
-use mathlib.Core.Path.{_≡_, refl, sym, ap, ap₂, _∙_}
 use mathlib.Core.Bool.{Bool, true, false, cond}
 use mathlib.Core.List.{List, [], _∷_, _++_, append-assoc, append-nil}
+use mathlib.Core.Path.{_≡_, refl, sym, ap, ap₂, _∙_}
 use Prim.Native.Nat.{ℕ, zero, suc, _+_, _-_, _*_, _≤_}
-use native.Mathlib.Omega.{arith}
 use native.Mathlib.Numerals.{add-one}
+use native.Mathlib.Omega.{arith}
 use lib.ListN.{length}
 use Rattle.prelude.specs.BigEndian.{bigEndianBytes}
 use Rattle.sets.specs.Sets.{member, countBelow, listBelow, from, membersFrom}
 use Rattle.sets.specs.CountLaws.{count-add}
 use Rattle.sets.specs.ListLaws.{list-count, from-past}
-use Rattle.formats.specs.Entries.{entryBytes}
-use Rattle.formats.specs.EntriesLaws.{entry-length}
+use Rattle.rows_format.specs.Entries.{entryBytes}
+use Rattle.rows_format.specs.EntriesLaws.{entry-length}
 
 -- one entry, or none
 pub one-entry : (n : ℕ) {b c : Bool} → c ≡ b → c ≡ true → entryBytes (cond b (n ∷ []) []) ≡ bigEndianBytes 2 n
@@ -25,7 +25,8 @@ no-entry n e t = rw (← e, t)
 entry-append : (xs ys : List ℕ) → entryBytes (xs ++ ys) ≡ entryBytes xs ++ entryBytes ys
 unfolding entryBytes
 entry-append [] ys = refl
-entry-append (x ∷ xs) ys = ap (λ (t : List ℕ). bigEndianBytes 2 x ++ t) (entry-append xs ys) ∙ sym (append-assoc (bigEndianBytes 2 x) (entryBytes xs) (entryBytes ys))
+entry-append (x ∷ xs) ys = ap (λ (t : List ℕ). bigEndianBytes 2 x ++ t) (entry-append xs ys)
+    ∙ sym (append-assoc (bigEndianBytes 2 x) (entryBytes xs) (entryBytes ys))
 
 module _ (p : ℕ → Bool) where
   pub entries-none : entryBytes (listBelow 0 p) ≡ []

@@ -1,14 +1,14 @@
 // The members of a set written as entries of two bytes.
 use prelude::number::write_u16;
 use sets::has;
-ghost use mathlib.Core.Path.{_≡_};
 ghost use mathlib.Core.Bool.{cond};
 ghost use mathlib.Core.List.{[], _∷_};
-ghost use Prim.Native.Nat.{_+_, _*_, _≤_, _<_};
+ghost use mathlib.Core.Path.{_≡_};
+ghost use Prim.Native.Nat.{_+_, _≤_, _<_};
 ghost use lib.ListN.{length};
 ghost use Rattle.prelude.specs.Part.{splice};
 ghost use Rattle.sets.specs.Sets.{member, membersFrom};
-ghost use Rattle.formats.specs.Entries.{entryBytes};
+ghost use Rattle.rows_format.specs.Entries.{entryBytes};
 
 // Writes n at a place, if it is a member, and gives the place after it.
 fn write_entry(cell: &[u8], n: usize, out: &mut [u8], at: usize) -> usize

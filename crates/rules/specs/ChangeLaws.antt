@@ -1,289 +1,251 @@
--- Rules judged for the changed row alone, and for all rows: the two agree where no row broke a rule before. Each law is an equation of lists of
+-- Rules judged for the changed row alone, and for all rows: the two agree where no row broke a rule before. The law is an equation of lists of
 -- cases, so that the number found is the same.
-use mathlib.Core.Path.{_≡_, refl, sym, ap, ap₂, _∙_}
-use mathlib.Core.Bool.{Bool, true, false, _||_, true≢false}
-use mathlib.Core.List.{List, [], _∷_, _++_}
+use mathlib.Core.Bool.{Bool, true, false, _&&_, _||_, true≢false}
+use mathlib.Core.List.{List}
 use mathlib.Core.Logic.{_⊎_, inl, inr, ⊎-elim}
+use mathlib.Core.Path.{_≡_, refl, sym, ap, ap₂, _∙_}
 use Prim.Native.Nat.{ℕ, _<_}
 use native.Mathlib.Omega.{arith}
-use native.Mathlib.Decide.{decLt}
-use Rattle.prelude.specs.SaysLaws.{says-fails, true-or-false}
+use Rattle.prelude.specs.SaysLaws.{says-eq, says-false, true-or-false, neither}
 use Rattle.prelude.specs.Below.{anyBelow}
 use Rattle.prelude.specs.BelowLaws.{any-one, any-false}
-use Rattle.prelude.specs.First.{Case, _when_, firstOf}
-use Rattle.schema.specs.Numbers.{attributeLimit}
+use Rattle.prelude.specs.First.{firstOf}
+use Rattle.schema.specs.declared.number.TableId.{TableId}
+use Rattle.schema.specs.declared.number.TableId.the-variants.{Attributes, Classes}
+use Rattle.schema.specs.Numbers.{SameRow}
+use Rattle.schema.specs.NumbersLaws.{apart}
 use Rattle.schema.specs.Row.{isDefunct}
 use Rattle.schema.specs.ClassRow.{namingOf}
-use Rattle.schema.specs.Store.{Table}
-use Rattle.names.specs.Name.{nameInvalid, identifierInvalid}
-use Rattle.tables.specs.ChangedLaws.{any-changed}
-use Rattle.unique.specs.declared.Key.the-variants.{Name, Identifier, Guid, Mapi, Link}
-use Rattle.unique.specs.Unique.{everyRow}
-use Rattle.unique.specs.RivalLaws.{attribute-rival, class-rival, number-rival}
-use Rattle.attribute_rules.specs.Range.{rangeWrong}
-use Rattle.attribute_rules.specs.Syntax.{syntaxWrong, objectClassWrong}
-use Rattle.attribute_rules.specs.Links.{isBackLink, isForwardOf, forwardMissing}
-use Rattle.attribute_rules.specs.LinksLaws.{forward-stays, no-back-link}
-use Rattle.class_rules.specs.declared.named.ClassList.{ClassList}
-use Rattle.class_rules.specs.declared.named.ClassList.the-variants.{Auxiliaries, Superiors}
-use Rattle.class_rules.specs.Named.{namesAttribute, namesClass, attributeNotLive, classWrong, namingWrong, NamesAttribute}
-use Rattle.class_rules.specs.NamedLaws.{says-attribute-not-live, says-names-attribute, says-names-class}
-use Rattle.class_rules.specs.Category.{categoryWrong, inheritanceWrong}
-use Rattle.class_rules.specs.Chain.{chainWrong}
-use Rattle.class_rules.specs.StayLaws.{named-there, attribute-live-stays, naming-stays, class-stays, category-stays, inheritance-stays, chain-stays}
-use Rattle.rules.specs.Rules.{RowRule, never, firstRules, laterRules, schemaRules, ownListRule, additionRules, casesOf, attributeCases, classCases}
-use Rattle.rules.specs.RulesLaws.{own-row, own-all}
-use Rattle.rules.specs.Judge.{judgeRules, judged, brokenCases, AllKept}
+use Rattle.schema.specs.Store.{Table, Schema, table}
+use Rattle.tables.specs.ChangedLaws.{row-old, row-other, table-or-other}
+use Rattle.tables.specs.Named.{names}
+use Rattle.tables.specs.NamedLaws.{says-names}
+use Rattle.tables.specs.declared.named.ClassList.{ClassList}
+use Rattle.tables.specs.declared.named.ClassList.the-variants.{Auxiliaries, Superiors}
+use Rattle.rules_names.specs.Name.{nameInvalid, identifierInvalid}
+use Rattle.rules_unique.specs.declared.Key.the-variants.{Name, Identifier, Guid, Mapi, Link}
+use Rattle.rules_unique.specs.Unique.{everyRow}
+use Rattle.rules_unique.specs.RivalLaws.{taken-here}
+use Rattle.rules_attribute.specs.Range.{rangeWrong}
+use Rattle.rules_attribute.specs.Syntax.{syntaxWrong, objectClassWrong}
+use Rattle.rules_attribute.specs.Links.{isBackLink, isForwardOf, forwardMissing}
+use Rattle.rules_attribute.specs.LinksLaws.{forward-stays, no-back-link}
+use Rattle.rules_class.specs.Live.{notLive, classWrong, namingWrong, listsItself, superclassLate}
+use Rattle.rules_class.specs.Category.{categoryWrong, inheritanceWrong}
+use Rattle.rules_class.specs.Chain.{chainWrong}
+use Rattle.rules_class.specs.StayLaws.{named-there, not-live-stays, naming-stays, category-stays, inheritance-stays, chain-stays}
+use Rattle.rules.specs.declared.row.Added.{Added}
+use Rattle.rules.specs.declared.row.Added.the-variants.{Nothing, Class}
+use Rattle.rules.specs.Rules.{ofRows, ofAttributes, ofClasses, barred, schemaRules, numbered, breaks, rowCases, Each, _&_}
+use Rattle.rules.specs.RulesLaws.{each-numbered, cases-agree}
+use Rattle.rules.specs.Judge.{judged, broken, brokenCases, Kept, AllKept}
 use Rattle.rules.specs.JudgeLaws.{judge-number}
-use Rattle.rules.specs.Change.{AttributeChange, ClassChange}
-
--- ---- two tests of rules that agree on a list
-
-abbrev Agree : (RowRule → Bool) → (RowRule → Bool) → List RowRule → Type 0
-Agree p q [] = Unit {0}
-Agree p q (r ∷ rs) = (p r ≡ q r) × Agree p q rs
-
-agree-cases : (p q : RowRule → Bool) (rs : List RowRule) → Agree p q rs → casesOf p rs ≡ casesOf q rs
-agree-cases p q [] h = refl
-agree-cases p q (r ∷ rs) h = ap₂ (λ (b : Bool) (cs : List Case). (r .number when b) ∷ cs) (h .0) (agree-cases p q rs (h .1))
-
--- some row of either table breaks a rule
-abbrev broken : ℕ → ℕ → RowRule → Bool
-broken n m r = anyBelow n (r .attribute) || anyBelow m (r .class)
-
--- no row of the other table does, and of the changed table only row k can
-or-left : {x y z : Bool} → x ≡ z → y ≡ false → (x || y) ≡ z
-or-left {x = true} e f = e
-or-left {x = false} e f = f ∙ e
-
-or-right : {x y z : Bool} → x ≡ false → y ≡ z → (x || y) ≡ z
-or-right e f = ap₂ (λ (p q : Bool). p || q) e f
-
-none-never : (n : ℕ) → anyBelow n never ≡ false
-none-never n = any-false never n (λ k l. refl)
+use Rattle.rules.specs.Change.{Change}
+use Rattle.schema.specs.Refusals as refusal
 
 -- a row that is not active is defunct
 not-active : (b : Bool) → (b ≡ false → ⊥) → b ≡ true
 not-active true n = refl
 not-active false n = absurd (n refl)
 
-agree-append : (p q : RowRule → Bool) (rs ss : List RowRule) → Agree p q rs → Agree p q ss → Agree p q (rs ++ ss)
-agree-append p q [] ss h g = g
-agree-append p q (r ∷ rs) ss h g = (h .0, agree-append p q rs ss (h .1) g)
+-- the class that was added, if any, is the changed row
+abbrev pub Bars : Added → TableId → ℕ → Type 0
+Bars Nothing t k = Unit {0}
+Bars (Class a) t k = SameRow t k Classes (a .0)
 
--- ---- an attribute was changed or added
+module _ (k : ℕ) (m n : Schema) where
+  -- no row but the changed one breaks a rule
+  abbrev Stays : TableId → (Schema → TableId → ℕ → Bool) → Type 0
+  Stays t breaks = (u : TableId) (j : ℕ) → j < table u n .count → ¬ (SameRow t k u j) → breaks n u j ≡ false
 
-module _ {k : ℕ} {a u c : Table} (h : AttributeChange k a u c) (kept : AllKept (schemaRules a c) (a .count) (c .count)) where
-  -- an attribute that a class names was there, by rule 17
-  attribute-there : (j : ℕ) → j < c .count → (m : ℕ) → m < attributeLimit → NamesAttribute (c .row j) m → m < a .count
-  attribute-there j l m few names = go (decLt m (a .count))
+  -- then some row breaks it exactly if the changed one does
+  stays-alone : (t : TableId) → k < table t n .count → (breaks : Schema → TableId → ℕ → Bool) → Stays t breaks
+      → (anyBelow (n .attributes .count) (breaks n Attributes) || anyBelow (n .classes .count) (breaks n Classes)) ≡ breaks n t k
+  stays-alone Attributes here breaks h =
+      ap₂ (λ (p q : Bool). p || q) (any-one (n .attributes .count) k (breaks n Attributes) here (λ j l d. h Attributes j l (λ q. d (sym (q .1)))))
+      (any-false (breaks n Classes) (n .classes .count) (λ j l. h Classes j l (λ q. apart (q .0))))
+      ∙ or-none (breaks n Attributes k)
     where
-      go : Dec (m < a .count) → m < a .count
-      go (yes q) = q
-      go (no d) =
-          absurd (says-fails (says-attribute-not-live a (c .row j)) (kept .1 .1 .1 .1 .1 .0 .classes j l) (record { at = m; below = few; is = (names, λ live. d (live .0)) }))
+      or-none : (b : Bool) → (b || false) ≡ b
+      or-none true = refl
+      or-none false = refl
+  stays-alone Classes here breaks h =
+      ap₂ (λ (p q : Bool). p || q) (any-false (breaks n Attributes) (n .attributes .count) (λ j l. h Attributes j l (λ q. apart (sym (q .0)))))
+      (any-one (n .classes .count) k (breaks n Classes) here (λ j l d. h Classes j l (λ q. d (sym (q .1)))))
 
-  -- rule 17: a class that names the attribute, which has become defunct, is defunct
-  live-kept : (j : ℕ) → j < c .count → attributeNotLive u (c .row j) ≡ false
-  live-kept j l = attribute-live-stays (h .changed) (c .row j) state (kept .1 .1 .1 .1 .1 .0 .classes j l)
-    where
-      state : namesAttribute (c .row j) k ≡ true → isDefunct (u .row k) ≡ true → (isDefunct (a .row k) ≡ true) ⊎ (isDefunct (c .row j) ≡ true)
-      state names dead =
-          let there : k < a .count = attribute-there j l k (omega (arith, h .changed .here, h .few)) (says-names-attribute (c .row j) k .holds names) in
-          ⊎-elim inl (λ un. inr (not-active (isDefunct (c .row j)) (λ active. true≢false (sym names ∙ un .classes j l active)))) (h .state there dead)
+  module _ (kept : AllKept Nothing m) where
+    -- what no row broke before, by its number
+    was : (number : ℕ) → Kept m (numbered (schemaRules Nothing) number)
+    was number = each-numbered (Kept m) (schemaRules Nothing) kept number (λ t j l. refl)
 
-  -- rule 23
-  naming-kept : (j : ℕ) → j < c .count → namingWrong u (namingOf (c .row j)) ≡ false
-  naming-kept j l =
-      naming-stays (h .changed) (λ there. (h .syntax there, h .single there)) (namingOf (c .row j))
-      (λ m e q. attribute-there j l m (omega (arith, h .few)) (inr (inr (inr e)))) (kept .1 .1 .1 .1 .1 .1 .1 .1 .1 .1 .1 .0 .classes j l)
+    module _ (t : TableId) (h : Change t k m n) where
+      -- the other rows are as they were
+      old : (u : TableId) (j : ℕ) → j < table u n .count → ¬ (SameRow t k u j) → j < table u m .count
+      old u j l d = row-old (h .changed) u j d l
 
-  -- rule 29: a back link whose forward link has become defunct is defunct
-  forward-kept : (j : ℕ) → j < u .count → ¬ (j ≡ k) → forwardMissing u (u .row j) ≡ false
-  forward-kept j l d = rw (h .changed .other j d old) (go (true-or-false (isBackLink (a .row j))))
-    where
-      old : j < a .count
-      old = h .changed .old j l d
+      same : (u : TableId) (j : ℕ) → j < table u n .count → ¬ (SameRow t k u j) → table u n .row j ≡ table u m .row j
+      same u j l d = row-other (h .changed) u j d (old u j l d)
 
-      state : isBackLink (a .row j) ≡ true → k < a .count → isForwardOf (a .row j) (a .row k) ≡ true → isDefunct (u .row k) ≡ true → (isDefunct (a .row k) ≡ true) ⊎ (isDefunct (a .row j) ≡ true)
-      state back there forward dead =
-          ⊎-elim inl (λ un. inr (not-active (isDefunct (a .row j)) (λ active. true≢false (sym forward ∙ un .links j old active back)))) (h .state there dead)
+      rows-stay : (f : List ℕ → Bool) → Kept m (record { number = 0; breaks = ofRows f }) → Stays t (ofRows f)
+      rows-stay f e u j l d = ap f (same u j l d) ∙ e u j (old u j l d)
 
-      go : (isBackLink (a .row j) ≡ true) ⊎ (isBackLink (a .row j) ≡ false) → forwardMissing u (a .row j) ≡ false
-      go (inl q) = forward-stays (h .changed) (h .link) (a .row j) (state q) (kept .1 .1 .1 .1 .1 .1 .1 .1 .1 .1 .1 .1 .1 .1 .1 .1 .1 .0 .attributes j old)
-      go (inr q) = no-back-link u (a .row j) q
+      attribute-rows-stay : (f : List ℕ → Bool) → ((j : ℕ) → j < m .attributes .count → f (m .attributes .row j) ≡ false)
+          → Stays t (ofAttributes (λ a j. f (a .row j)))
+      attribute-rows-stay f e Attributes j l d = ap f (same Attributes j l d) ∙ e j (old Attributes j l d)
+      attribute-rows-stay f e Classes j l d = refl
 
-  first-attribute : Agree (broken (u .count) (c .count)) (λ r. r .attribute k) (firstRules u c)
-  first-attribute = (
-    or-left (any-changed (h .changed) nameInvalid (kept .0 .attributes)) (any-false _ (c .count) (kept .0 .classes)),
-    (
-      attribute-rival everyRow Name c (h .changed) (kept .1 .0 .attributes) (kept .1 .0 .classes),
-      (
-        or-left (any-changed (h .changed) identifierInvalid (kept .1 .1 .0 .attributes)) (any-false _ (c .count) (kept .1 .1 .0 .classes)),
-        (
-          attribute-rival everyRow Identifier c (h .changed) (kept .1 .1 .1 .0 .attributes) (kept .1 .1 .1 .0 .classes),
-          (
-            attribute-rival everyRow Guid c (h .changed) (kept .1 .1 .1 .1 .0 .attributes) (kept .1 .1 .1 .1 .0 .classes),
-            (or-left (none-never (u .count)) (any-false _ (c .count) live-kept), tt),
-          ),
-        ),
-      ),
-    ),
-  )
+      -- rules 17 and 18: a class that names the changed row, which has become defunct, is defunct
+      live-stays : (of : TableId) (j : ℕ) → j < n .classes .count → ¬ (SameRow t k Classes j) → notLive of (table of m) (m .classes .row j) ≡ false
+          → notLive of (table of n) (n .classes .row j) ≡ false
+      live-stays of j l d e = rw (same Classes j l d) (⊎-elim here (λ q. rw (h .changed .rest of q) e) (table-or-other t of))
+        where
+          state : (u : TableId) → t ≡ u → notLive u (table u m) (m .classes .row j) ≡ false → names u (m .classes .row j) k ≡ true
+              → isDefunct (table u n .row k) ≡ true
+              → (isDefunct (table u m .row k) ≡ true) ⊎ (isDefunct (m .classes .row j) ≡ true)
+          state u q e named dead =
+              let there : k < table u m .count =
+              named-there u (table u m) (m .classes .row j) e k (rw (← q) (omega (arith, h .changed .own .here, h .few)))
+              (says-names u (m .classes .row j) k .holds named) in
+              rw (← q) (⊎-elim inl (λ un. inr (not-active (isDefunct (m .classes .row j))
+              (λ active. true≢false (sym (rw (← q) at named) ∙ un .classes j (old Classes j l d) d active))))
+              (h .state (rw (← q) at there) (rw (← q) at dead)))
 
-  later-attribute : Agree (broken (u .count) (c .count)) (λ r. r .attribute k) (laterRules u c)
-  later-attribute = (
-    or-left (none-never (u .count)) (any-false _ (c .count) (kept .1 .1 .1 .1 .1 .1 .0 .classes)),
-    (
-      or-left (none-never (u .count)) (any-false _ (c .count) (kept .1 .1 .1 .1 .1 .1 .1 .0 .classes)),
-      (
-        or-left (none-never (u .count)) (any-false _ (c .count) (kept .1 .1 .1 .1 .1 .1 .1 .1 .0 .classes)),
-        (
-          or-left (none-never (u .count)) (any-false _ (c .count) (kept .1 .1 .1 .1 .1 .1 .1 .1 .1 .0 .classes)),
-          (
-            or-left (none-never (u .count)) (any-false _ (c .count) (kept .1 .1 .1 .1 .1 .1 .1 .1 .1 .1 .0 .classes)),
-            (
-              or-left (none-never (u .count)) (any-false _ (c .count) naming-kept),
-              (
-                or-left (number-rival everyRow Mapi (h .changed) (kept .1 .1 .1 .1 .1 .1 .1 .1 .1 .1 .1 .1 .0 .attributes)) (none-never (c .count)),
-                (
-                  or-left (any-changed (h .changed) rangeWrong (kept .1 .1 .1 .1 .1 .1 .1 .1 .1 .1 .1 .1 .1 .0 .attributes)) (none-never (c .count)),
-                  (
-                    or-left (any-changed (h .changed) syntaxWrong (kept .1 .1 .1 .1 .1 .1 .1 .1 .1 .1 .1 .1 .1 .1 .0 .attributes)) (none-never (c .count)),
-                    (
-                      or-left (any-changed (h .changed) objectClassWrong (kept .1 .1 .1 .1 .1 .1 .1 .1 .1 .1 .1 .1 .1 .1 .1 .0 .attributes)) (none-never (c .count)),
-                      (
-                        or-left (number-rival everyRow Link (h .changed) (kept .1 .1 .1 .1 .1 .1 .1 .1 .1 .1 .1 .1 .1 .1 .1 .1 .0 .attributes)) (none-never (c .count)),
-                        (or-left (any-one (u .count) k (λ j. forwardMissing u (u .row j)) (h .changed .here) forward-kept) (none-never (c .count)), tt),
-                      ),
-                    ),
-                  ),
-                ),
-              ),
-            ),
-          ),
-        ),
-      ),
-    ),
-  )
+          here : t ≡ of → notLive of (table of n) (m .classes .row j) ≡ false
+          here q = not-live-stays (rw (← q) (h .changed .own)) of (m .classes .row j) (state of q e) e
 
-  -- all rows and the changed attribute alone: the same cases
-  pub attribute-alone : brokenCases (schemaRules u c) (u .count) (c .count) ≡ attributeCases (schemaRules u c) k
-  attribute-alone =
-      agree-cases (broken (u .count) (c .count)) (λ r. r .attribute k) (schemaRules u c)
-      (agree-append (broken (u .count) (c .count)) (λ r. r .attribute k) (firstRules u c) (laterRules u c) first-attribute later-attribute)
+      attributes-live : Stays t (ofClasses (λ x j. notLive Attributes (x .attributes) (x .classes .row j)))
+      unfolding numbered
+      attributes-live Attributes j l d = refl
+      attributes-live Classes j l d = live-stays Attributes j l d (was refusal.attributeNotLive Classes j (old Classes j l d))
 
-  -- so the number that the judge of all rows finds is that of the first rule that the changed attribute breaks
-  pub attribute-number : judged u c .number ≡ firstOf (attributeCases (schemaRules u c) k)
-  unfolding judged
-  attribute-number = judge-number (schemaRules u c) (u .count) (c .count) ∙ ap firstOf attribute-alone
+      class-was : (j : ℕ) → j < m .classes .count → classWrong (m .classes) j ≡ false
+      unfolding numbered
+      class-was j l = neither (classWrong (m .classes) j) (barred Nothing (m .classes) j) (was refusal.classNotLive Classes j l) .0
 
--- ---- a class was changed or added
+      class-stays : (j : ℕ) → j < n .classes .count → ¬ (SameRow t k Classes j) → classWrong (n .classes) j ≡ false
+      unfolding classWrong
+      class-stays j l d =
+          let p = neither (notLive Classes (m .classes) (m .classes .row j)) (superclassLate j (m .classes .row j)) (class-was j (old Classes j l d)) in
+          ap₂ (λ (x y : Bool). x || y) (live-stays Classes j l d (p .0)) (ap (superclassLate j) (same Classes j l d) ∙ p .1)
 
-module _ (a : Table) {k : ℕ} {c u : Table} (h : ClassChange k c u) (kept : AllKept (schemaRules a c) (a .count) (c .count)) where
-  -- rule 18 of another class
-  class-kept : (j : ℕ) → j < u .count → ¬ (j ≡ k) → classWrong u j ≡ false
-  class-kept j l d = class-stays (h .changed) j old d sound state
-    where
-      old : j < c .count
-      old = h .changed .old j l d
+      classes-live : (added : Added) → Bars added t k → Stays t (ofClasses (λ x j. classWrong (x .classes) j || barred added (x .classes) j))
+      unfolding barred
+      classes-live added b Attributes j l d = refl
+      classes-live added b Classes j l d = ap₂ (λ (x y : Bool). x || y) (class-stays j l d) (unbarred added b)
+        where
+          unbarred : (x : Added) → Bars x t k → barred x (n .classes) j ≡ false
+          unbarred Nothing u = refl
+          unbarred (Class a) u = ap (λ (q : Bool). q && listsItself (n .classes) j) (says-false (says-eq (a .0) j) (λ q. d (u .0, u .1 ∙ q)))
 
-      sound : classWrong c j ≡ false
-      sound = kept .1 .1 .1 .1 .1 .1 .0 .classes j (h .changed .old j l d)
+    -- ---- rules that look at more than one row of a table: by the table that was changed
 
-      state : namesClass (c .row j) k ≡ true → isDefunct (u .row k) ≡ true → (isDefunct (c .row k) ≡ true) ⊎ (isDefunct (c .row j) ≡ true)
-      state names dead =
-          let there : k < c .count = named-there (h .changed) j old d sound k (omega (arith, h .changed .here, h .few)) (says-names-class (c .row j) k .holds names) in
-          ⊎-elim inl (λ un. inr (not-active (isDefunct (c .row j)) (λ active. true≢false (sym names ∙ un .classes j old d active)))) (h .state there dead)
+    -- of classes only, by the classes' table
+    classes-stay : (f : Table → ℕ → Bool) → ((j : ℕ) → j < m .classes .count → f (m .classes) j ≡ false) → (t : TableId) (h : Change t k m n)
+        → (t ≡ Classes → (j : ℕ) → j < n .classes .count → ¬ (j ≡ k) → f (n .classes) j ≡ false) → Stays t (ofClasses (λ x. f (x .classes)))
+    classes-stay f e t h g Attributes j l d = refl
+    classes-stay f e Attributes h g Classes j l d = let q = h .changed .rest Classes apart in rw q (e j (rw q at l))
+    classes-stay f e Classes h g Classes j l d = g refl j l (λ q. d (refl, sym q))
 
-  -- rules 19 to 22 of another class
-  category-kept : (kind : ClassList) → ((j : ℕ) → j < c .count → categoryWrong kind c (c .row j) ≡ false)
-      → (j : ℕ) → j < u .count → ¬ (j ≡ k) → categoryWrong kind u (u .row j) ≡ false
-  category-kept kind e j l d =
-      let old = h .changed .old j l d in
-      category-stays (h .changed) j old d (kept .1 .1 .1 .1 .1 .1 .0 .classes j old) (h .category) kind (e j old)
+    category-kept : (kind : ClassList) → ((j : ℕ) → j < m .classes .count → categoryWrong kind (m .classes) (m .classes .row j) ≡ false)
+        → (t : TableId) (h : Change t k m n)
+        → t ≡ Classes → (j : ℕ) → j < n .classes .count → ¬ (j ≡ k) → categoryWrong kind (n .classes) (n .classes .row j) ≡ false
+    category-kept kind e Attributes h q j l d = absurd (apart q)
+    category-kept kind e Classes h q j l d =
+        let was = h .changed .own .old j l d in
+        category-stays (h .changed .own) j was d (class-was Classes h j was) (λ there. h .fixed there .0) kind (e j was)
 
-  inheritance-kept : (j : ℕ) → j < u .count → ¬ (j ≡ k) → inheritanceWrong u j ≡ false
-  inheritance-kept j l d =
-      let old = h .changed .old j l d in
-      inheritance-stays (h .changed) j old d (kept .1 .1 .1 .1 .1 .1 .0 .classes j old) (h .category) (kept .1 .1 .1 .1 .1 .1 .1 .1 .1 .0 .classes j old)
+    inheritance-kept : (t : TableId) (h : Change t k m n) → t ≡ Classes → (j : ℕ) → j < n .classes .count → ¬ (j ≡ k)
+        → inheritanceWrong (n .classes) j ≡ false
+    unfolding numbered
+    inheritance-kept Attributes h q j l d = absurd (apart q)
+    inheritance-kept Classes h q j l d =
+        let before = h .changed .own .old j l d in
+        inheritance-stays (h .changed .own) j before d (class-was Classes h j before) (λ there. h .fixed there .0)
+        (was refusal.categoryMisfit Classes j before)
 
-  chain-kept : (j : ℕ) → j < u .count → ¬ (j ≡ k) → chainWrong u j ≡ false
-  chain-kept j l d = chain-stays (h .changed) (h .superclass) j (kept .1 .1 .1 .1 .1 .1 .1 .1 .1 .1 .0 .classes j (h .changed .old j l d))
+    chain-kept : (t : TableId) (h : Change t k m n) → t ≡ Classes → (j : ℕ) → j < n .classes .count → ¬ (j ≡ k) → chainWrong (n .classes) j ≡ false
+    unfolding numbered
+    chain-kept Attributes h q j l d = absurd (apart q)
+    chain-kept Classes h q j l d = chain-stays (h .changed .own) (λ there. h .fixed there .1) j
+        (was refusal.chainAstray Classes j (h .changed .own .old j l d))
 
-  first-class : Agree (broken (a .count) (u .count)) (λ r. r .class k) (firstRules a u)
-  first-class = (
-    or-right (any-false _ (a .count) (kept .0 .attributes)) (any-changed (h .changed) nameInvalid (kept .0 .classes)),
-    (
-      class-rival everyRow Name a (h .changed) (kept .1 .0 .attributes) (kept .1 .0 .classes),
-      (
-        or-right (any-false _ (a .count) (kept .1 .1 .0 .attributes)) (any-changed (h .changed) identifierInvalid (kept .1 .1 .0 .classes)),
-        (
-          class-rival everyRow Identifier a (h .changed) (kept .1 .1 .1 .0 .attributes) (kept .1 .1 .1 .0 .classes),
-          (
-            class-rival everyRow Guid a (h .changed) (kept .1 .1 .1 .1 .0 .attributes) (kept .1 .1 .1 .1 .0 .classes),
-            (or-right (none-never (a .count)) (any-changed (h .changed) (attributeNotLive a) (kept .1 .1 .1 .1 .1 .0 .classes)), tt),
-          ),
-        ),
-      ),
-    ),
-  )
+    -- rule 23
+    naming-kept : (t : TableId) (h : Change t k m n) → Stays t (ofClasses (λ x j. namingWrong (x .attributes) (namingOf (x .classes .row j))))
+    unfolding numbered
+    naming-kept t h Attributes j l d = refl
+    naming-kept Attributes h Classes j l d =
+        let before = old Attributes h Classes j l d in
+        let live = was refusal.attributeNotLive Classes j before in
+        rw (same Attributes h Classes j l d)
+        (naming-stays (h .changed .own) (λ there. (h .fixed there .0, h .fixed there .1)) (namingOf (m .classes .row j))
+        (λ i e q. named-there Attributes (m .attributes) (m .classes .row j) live i (omega (arith, h .few)) (inr (inr (inr e))))
+        (was refusal.namingUnfit Classes j before))
+    naming-kept Classes h Classes j l d =
+        rw (h .changed .rest Attributes (λ q. apart (sym q)), same Classes h Classes j l d) (was refusal.namingUnfit Classes j (old Classes h Classes j l d))
 
-  later-class : Agree (broken (a .count) (u .count)) (λ r. r .class k) (laterRules a u)
-  later-class = (
-    or-right (none-never (a .count)) (any-one (u .count) k (classWrong u) (h .changed .here) class-kept),
-    (
-      or-right (none-never (a .count)) (any-one (u .count) k (λ j. categoryWrong Auxiliaries u (u .row j)) (h .changed .here) (category-kept Auxiliaries (kept .1 .1 .1 .1 .1 .1 .1 .0 .classes))),
-      (
-        or-right (none-never (a .count)) (any-one (u .count) k (λ j. categoryWrong Superiors u (u .row j)) (h .changed .here) (category-kept Superiors (kept .1 .1 .1 .1 .1 .1 .1 .1 .0 .classes))),
-        (
-          or-right (none-never (a .count)) (any-one (u .count) k (inheritanceWrong u) (h .changed .here) inheritance-kept),
-          (
-            or-right (none-never (a .count)) (any-one (u .count) k (chainWrong u) (h .changed .here) chain-kept),
-            (
-              or-right (none-never (a .count)) (any-changed (h .changed) (λ row. namingWrong a (namingOf row)) (kept .1 .1 .1 .1 .1 .1 .1 .1 .1 .1 .1 .0 .classes)),
-              (
-                or-right (any-false _ (a .count) (kept .1 .1 .1 .1 .1 .1 .1 .1 .1 .1 .1 .1 .0 .attributes)) (none-never (u .count)),
-                (
-                  or-right (any-false _ (a .count) (kept .1 .1 .1 .1 .1 .1 .1 .1 .1 .1 .1 .1 .1 .0 .attributes)) (none-never (u .count)),
-                  (
-                    or-right (any-false _ (a .count) (kept .1 .1 .1 .1 .1 .1 .1 .1 .1 .1 .1 .1 .1 .1 .0 .attributes)) (none-never (u .count)),
-                    (
-                      or-right (any-false _ (a .count) (kept .1 .1 .1 .1 .1 .1 .1 .1 .1 .1 .1 .1 .1 .1 .1 .0 .attributes)) (none-never (u .count)),
-                      (
-                        or-right (any-false _ (a .count) (kept .1 .1 .1 .1 .1 .1 .1 .1 .1 .1 .1 .1 .1 .1 .1 .1 .0 .attributes)) (none-never (u .count)),
-                        (or-right (any-false _ (a .count) (kept .1 .1 .1 .1 .1 .1 .1 .1 .1 .1 .1 .1 .1 .1 .1 .1 .1 .0 .attributes)) (none-never (u .count)), tt),
-                      ),
-                    ),
-                  ),
-                ),
-              ),
-            ),
-          ),
-        ),
-      ),
-    ),
-  )
+    -- rule 29: a back link whose forward link has become defunct is defunct
+    forward-kept : (t : TableId) (h : Change t k m n) → Stays t (ofAttributes (λ a j. forwardMissing a (a .row j)))
+    unfolding numbered
+    forward-kept t h Classes j l d = refl
+    forward-kept Classes h Attributes j l d = let q = h .changed .rest Attributes (λ q. apart (sym q)) in rw q
+        (was refusal.linkAlone Attributes j (rw q at l))
+    forward-kept Attributes h Attributes j l d = rw (same Attributes h Attributes j l d) (go (true-or-false (isBackLink (m .attributes .row j))))
+      where
+        before : j < m .attributes .count
+        before = old Attributes h Attributes j l d
 
-  -- the bar on the added class's own number looks at that class alone
-  own-class : broken (a .count) (u .count) (ownListRule u k) ≡ ownListRule u k .class k
-  own-class = own-all u k (a .count) (h .changed .here) ∙ sym (own-row u k)
+        state : isBackLink (m .attributes .row j) ≡ true → k < m .attributes .count → isForwardOf (m .attributes .row j) (m .attributes .row k) ≡ true
+            → isDefunct (n .attributes .row k) ≡ true → (isDefunct (m .attributes .row k) ≡ true) ⊎ (isDefunct (m .attributes .row j) ≡ true)
+        state back there forward dead =
+            ⊎-elim inl (λ un. inr
+            (not-active (isDefunct (m .attributes .row j)) (λ active. true≢false (sym forward ∙ un .links refl j before active back))))
+            (h .state there dead)
 
-  -- all rows and the changed class alone: the same cases, also with the bar
-  pub class-alone : brokenCases (schemaRules a u) (a .count) (u .count) ≡ classCases (schemaRules a u) k
-  class-alone =
-      agree-cases (broken (a .count) (u .count)) (λ r. r .class k) (schemaRules a u)
-      (agree-append (broken (a .count) (u .count)) (λ r. r .class k) (firstRules a u) (laterRules a u) first-class later-class)
+        go : (isBackLink (m .attributes .row j) ≡ true) ⊎ (isBackLink (m .attributes .row j) ≡ false)
+            → forwardMissing (n .attributes) (m .attributes .row j) ≡ false
+        go (inl q) = forward-stays (h .changed .own) (λ there. h .fixed there .2) (m .attributes .row j) (state q) (was refusal.linkAlone Attributes j before)
+        go (inr q) = no-back-link (n .attributes) (m .attributes .row j) q
 
-  pub added-alone : brokenCases (additionRules a u k) (a .count) (u .count) ≡ classCases (additionRules a u k) k
-  added-alone =
-      agree-cases (broken (a .count) (u .count)) (λ r. r .class k) (additionRules a u k)
-      (agree-append (broken (a .count) (u .count)) (λ r. r .class k) (firstRules a u) (ownListRule u k ∷ laterRules a u) first-class (own-class, later-class))
+    -- ---- all rows and the changed row alone: the same rules are broken
 
-  -- so the number that the judge of all rows finds is that of the first rule that the changed class breaks
-  pub class-number : judged a u .number ≡ firstOf (classCases (schemaRules a u) k)
-  unfolding judged
-  class-number = judge-number (schemaRules a u) (a .count) (u .count) ∙ ap firstOf class-alone
+    module _ (t : TableId) (h : Change t k m n) (added : Added) (bars : Bars added t k) where
+      alone : (number : ℕ) → Stays t (numbered (schemaRules added) number .breaks)
+          → broken n (numbered (schemaRules added) number) ≡ numbered (schemaRules added) number .breaks n t k
+      alone number s = stays-alone t (h .changed .own .here) (numbered (schemaRules added) number .breaks) s
 
-  pub added-number : judgeRules (additionRules a u k) (a .count) (u .count) .number ≡ firstOf (classCases (additionRules a u k) k)
-  added-number = judge-number (additionRules a u k) (a .count) (u .count) ∙ ap firstOf added-alone
+      category-alone : (kind : ClassList) → ((j : ℕ) → j < m .classes .count → categoryWrong kind (m .classes) (m .classes .row j) ≡ false)
+          → Stays t (ofClasses (λ x j. categoryWrong kind (x .classes) (x .classes .row j)))
+      category-alone kind e = classes-stay (λ c j. categoryWrong kind c (c .row j)) e t h (category-kept kind e t h)
+
+      each-alone : Each (λ r. broken n r ≡ r .breaks n t k) (schemaRules added)
+      unfolding numbered
+      each-alone =
+          alone refusal.nameInvalid (rows-stay t h nameInvalid (was refusal.nameInvalid))
+          & taken-here everyRow Name (h .changed) (was refusal.nameTaken)
+          & alone refusal.identifierInvalid (rows-stay t h identifierInvalid (was refusal.identifierInvalid))
+          & taken-here everyRow Identifier (h .changed) (was refusal.identifierTaken)
+          & taken-here everyRow Guid (h .changed) (was refusal.guidTaken)
+          & alone refusal.attributeNotLive (attributes-live t h)
+          & alone refusal.classNotLive (classes-live t h added bars)
+          & alone refusal.notAnAuxiliary (category-alone Auxiliaries (was refusal.notAnAuxiliary Classes))
+          & alone refusal.notASuperior (category-alone Superiors (was refusal.notASuperior Classes))
+          & alone refusal.categoryMisfit (classes-stay inheritanceWrong (was refusal.categoryMisfit Classes) t h (inheritance-kept t h))
+          & alone refusal.chainAstray (classes-stay chainWrong (was refusal.chainAstray Classes) t h (chain-kept t h))
+          & alone refusal.namingUnfit (naming-kept t h)
+          & taken-here everyRow Mapi (h .changed) (was refusal.mapiTaken)
+          & alone refusal.rangeEmpty (attribute-rows-stay t h rangeWrong (was refusal.rangeEmpty Attributes))
+          & alone refusal.syntaxMisfit (attribute-rows-stay t h syntaxWrong (was refusal.syntaxMisfit Attributes))
+          & alone refusal.objectClassWrong (attribute-rows-stay t h objectClassWrong (was refusal.objectClassWrong Attributes))
+          & taken-here everyRow Link (h .changed) (was refusal.linkTaken)
+          & alone refusal.linkAlone (forward-kept t h)
+          & tt
+
+-- so the number that the judge of all rows finds is that of the first rule that the changed row breaks
+pub changed-alone : (added : Added) (t : TableId) (k : ℕ) (m n : Schema) → Change t k m n → Bars added t k → AllKept Nothing m
+    → brokenCases (schemaRules added) n ≡ rowCases (schemaRules added) n t k
+changed-alone added t k m n h bars kept = cases-agree (broken n) (λ r. r .breaks n t k) (schemaRules added) (each-alone k m n kept t h added bars)
+
+pub changed-number : (added : Added) (t : TableId) (k : ℕ) (m n : Schema) → Change t k m n → Bars added t k → AllKept Nothing m
+    → judged added n .number ≡ firstOf (rowCases (schemaRules added) n t k)
+unfolding judged
+changed-number added t k m n h bars kept = judge-number (schemaRules added) n ∙ ap firstOf (changed-alone added t k m n h bars kept)

@@ -1,52 +1,67 @@
 -- The judge of all rows. Document 01: "Load and audit name the table and lowest row that break the rule found, attributes first".
-use mathlib.Core.Path.{_≡_}
 use mathlib.Core.Bool.{Bool, true, false, cond, _||_}
 use mathlib.Core.List.{List, [], _∷_}
+use mathlib.Core.Path.{_≡_}
 use Prim.Native.Nat.{ℕ, _<_}
 use Rattle.prelude.specs.Below.{anyBelow, firstBelow}
 use Rattle.prelude.specs.First.{Case}
-use Rattle.schema.specs.Answers.{answer, done}
-use Rattle.schema.specs.Store.{Table}
 use Rattle.schema.specs.declared.answer.Answer.{Answer}
-use Rattle.rules.specs.Rules.{RowRule, schemaRules, casesOf}
+use Rattle.schema.specs.declared.number.TableId.{TableId}
+use Rattle.schema.specs.declared.number.TableId.the-variants.{Attributes, Classes}
+use Rattle.schema.specs.Answers.{brokenBy, passed, tableNumber}
+use Rattle.schema.specs.Store.{Schema, table}
+use Rattle.rules.specs.declared.row.Added.{Added}
+use Rattle.rules.specs.Rules.{Rule, schemaRules, casesOf, Each}
 
--- one rule over n attributes and m classes: the lowest attribute that breaks it, else the lowest class, else an answer
-unfoldable pub judgeRule : RowRule → ℕ → ℕ → Answer → Answer
-judgeRule r n m else =
-    cond (anyBelow n (r .attribute)) (answer (r .number) 1 (firstBelow n (r .attribute)))
-    (cond (anyBelow m (r .class)) (answer (r .number) 2 (firstBelow m (r .class))) else)
+-- some row of a table breaks a rule; the lowest that does
+abbrev pub breaksIn : Rule → Schema → TableId → Bool
+breaksIn r m t = anyBelow (table t m .count) (r .breaks m t)
+
+abbrev pub firstRow : Rule → Schema → TableId → ℕ
+firstRow r m t = firstBelow (table t m .count) (r .breaks m t)
+
+-- one rule over one table: the lowest row that breaks it, else an answer
+unfoldable pub judgeTable : Rule → Schema → TableId → Answer → Answer
+judgeTable r m t else = cond (breaksIn r m t) (brokenBy (r .number) t (firstRow r m t)) else
+
+-- over both, "attributes first"
+unfoldable pub judgeRule : Rule → Schema → Answer → Answer
+judgeRule r m else = judgeTable r m Attributes (judgeTable r m Classes else)
 
 -- rule by rule, in the order of the list
-unfoldable pub judgeRules : List RowRule → ℕ → ℕ → Answer
-judgeRules [] n m = done 0 0
-judgeRules (r ∷ rs) n m = judgeRule r n m (judgeRules rs n m)
+unfoldable pub judgeRules : List Rule → Schema → Answer
+judgeRules [] m = passed
+judgeRules (r ∷ rs) m = judgeRule r m (judgeRules rs m)
 
--- both tables by rules 12 to 29
-unfoldable pub judged : Table → Table → Answer
-judged a c = judgeRules (schemaRules a c) (a .count) (c .count)
+-- a schema by rules 12 to 29
+unfoldable pub judged : Added → Schema → Answer
+judged added m = judgeRules (schemaRules added) m
 
 -- the rules that some row breaks
-abbrev pub brokenCases : List RowRule → ℕ → ℕ → List Case
-brokenCases rs n m = casesOf (λ r. anyBelow n (r .attribute) || anyBelow m (r .class)) rs
+abbrev pub broken : Schema → Rule → Bool
+broken m r = breaksIn r m Attributes || breaksIn r m Classes
+
+abbrev pub brokenCases : List Rule → Schema → List Case
+brokenCases rs m = casesOf (broken m) rs
+
+-- ---- the same as statements
 
 -- no row breaks a rule
-pub record Kept (r : RowRule) (n m : ℕ) : Type 0 where
-  pub attributes : (k : ℕ) → k < n → r .attribute k ≡ false
-  pub classes : (k : ℕ) → k < m → r .class k ≡ false
+abbrev pub Kept : Schema → Rule → Type 0
+Kept m r = (t : TableId) (k : ℕ) → k < table t m .count → r .breaks m t k ≡ false
 
--- no row breaks any rule of the list
-abbrev pub AllKept : List RowRule → ℕ → ℕ → Type 0
-AllKept [] n m = Unit {0}
-AllKept (r ∷ rs) n m = Kept r n m × AllKept rs n m
+-- no row breaks any schema rule
+abbrev pub AllKept : Added → Schema → Type 0
+AllKept added m = Each (Kept m) (schemaRules added)
 
--- k is the lowest number below n that passes
-pub record Lowest (p : ℕ → Bool) (n k : ℕ) : Type 0 where
-  pub below : k < n
-  pub passes : p k ≡ true
-  pub none : (j : ℕ) → j < k → p j ≡ false
+-- row k of table t is the lowest that breaks a rule, "attributes first"
+pub record Lowest (m : Schema) (r : Rule) (t : TableId) (k : ℕ) : Type 0 where
+  pub below : k < table t m .count
+  pub breaks : r .breaks m t k ≡ true
+  pub none : (j : ℕ) → j < k → r .breaks m t j ≡ false
+  pub first : (u : TableId) → tableNumber u < tableNumber t → (j : ℕ) → j < table u m .count → r .breaks m u j ≡ false
 
--- the answer names the first rule of the list that some row breaks, "the table and lowest row that break the rule found, attributes first"
-pub data FirstBroken (n m : ℕ) : List RowRule → Answer → Type 0 where
-  attribute : {r : RowRule} {rs : List RowRule} (k : ℕ) → Lowest (r .attribute) n k → FirstBroken n m (r ∷ rs) (answer (r .number) 1 k)
-  class : {r : RowRule} {rs : List RowRule} (k : ℕ) → ((j : ℕ) → j < n → r .attribute j ≡ false) → Lowest (r .class) m k → FirstBroken n m (r ∷ rs) (answer (r .number) 2 k)
-  later : {r : RowRule} {rs : List RowRule} {x : Answer} → Kept r n m → FirstBroken n m rs x → FirstBroken n m (r ∷ rs) x
+-- the answer names the first rule of the list that some row breaks, "the table and lowest row that break the rule found"
+pub data FirstBroken (m : Schema) : List Rule → Answer → Type 0 where
+  here : {r : Rule} {rs : List Rule} (t : TableId) (k : ℕ) → Lowest m r t k → FirstBroken m (r ∷ rs) (brokenBy (r .number) t k)
+  later : {r : Rule} {rs : List Rule} {x : Answer} → Kept m r → FirstBroken m rs x → FirstBroken m (r ∷ rs) x

@@ -1,180 +1,238 @@
 -- What the judge's answer is: its number is the first rule that some row breaks; 0 exactly where no row breaks any; the place is the lowest row.
-use mathlib.Core.Path.{_≡_, refl, sym, ap, subst, _∙_}
-use mathlib.Core.Bool.{Bool, true, false, _||_}
+use mathlib.Core.Bool.{Bool, true, false, _||_, false≢true}
 use mathlib.Core.List.{List, [], _∷_}
 use mathlib.Core.Logic.{_↔_, _⊎_, inl, inr}
+use mathlib.Core.Path.{_≡_, refl, sym, ap, subst, _∙_}
 use Prim.Native.Nat.{ℕ, _+_, _≤_, _<_}
-use lib.ListN.{length, getD, drop}
 use native.Mathlib.Omega.{arith}
-use Rattle.prelude.specs.SaysLaws.{says-true, says-false, says-lt, neither}
-use Rattle.prelude.specs.Below.{anyBelow, firstBelow}
-use Rattle.prelude.specs.BelowLaws.{first-some, any-none, any-false, first-any}
-use Rattle.prelude.specs.First.{_when_, firstOf, NoneHolds, Rising}
-use Rattle.prelude.specs.FirstLaws.{first-hit, first-miss, first-none, zero-iff-none}
-use Rattle.schema.specs.Answers.{answer, done}
-use Rattle.schema.specs.Store.{Table}
+use lib.Dec.{eqb}
+use lib.ListN.{length, getD, drop}
+use Rattle.prelude.specs.SaysLaws.{says-true, says-false, says-lt, says-eq, says-or, says-test, says-split, neither}
+use Rattle.prelude.specs.BelowLaws.{first-some, any-none, any-false, any-here, first-any}
+use Rattle.prelude.specs.First.{_when_, firstOf, NoneHolds, Rising, Among}
+use Rattle.prelude.specs.FirstLaws.{first-hit, first-miss, first-none, first-least, rising-nonzero, zero-iff-none}
 use Rattle.schema.specs.declared.answer.Answer.{Answer}
-use Rattle.rules.specs.Rules.{RowRule, schemaRules, numbered, rulesOf}
+use Rattle.schema.specs.declared.number.TableId.{TableId}
+use Rattle.schema.specs.declared.number.TableId.the-variants.{Attributes, Classes}
+use Rattle.schema.specs.Answers.{brokenBy, passed, tableNumber}
+use Rattle.schema.specs.Store.{Schema, table}
+use Rattle.rules.specs.declared.row.Added.{Added}
+use Rattle.rules.specs.Rules.{Rule, schemaRules, numbered, rulesOf, breaks, Each}
 use Rattle.rules.specs.RulesLaws.{rules-next, rules-end, numbered-number}
-use Rattle.rules.specs.Judge.{judgeRule, judgeRules, judged, brokenCases, AllKept, Lowest, FirstBroken}
-
-lowest : (p : ℕ → Bool) (n : ℕ) → anyBelow n p ≡ true → Lowest p n (firstBelow n p)
-lowest p n e = let f = first-some p n e in record { below = f .0; passes = f .1; none = f .2 }
+use Rattle.rules.specs.Judge.{breaksIn, firstRow, judgeTable, judgeRule, judgeRules, judged, broken, brokenCases, Kept, AllKept, Lowest, FirstBroken}
 
 -- ---- one rule, by case
 
-module _ (r : RowRule) (n m : ℕ) (else : Answer) where
-  pub judge-attribute : anyBelow n (r .attribute) ≡ true → judgeRule r n m else ≡ answer (r .number) 1 (firstBelow n (r .attribute))
-  unfolding judgeRule
-  judge-attribute e = rw e
+module _ (r : Rule) (m : Schema) (else : Answer) where
+  table-hit : (t : TableId) → breaksIn r m t ≡ true → judgeTable r m t else ≡ brokenBy (r .number) t (firstRow r m t)
+  unfolding judgeTable
+  table-hit t e = rw e
 
-  pub judge-class : anyBelow n (r .attribute) ≡ false → anyBelow m (r .class) ≡ true → judgeRule r n m else ≡ answer (r .number) 2 (firstBelow m (r .class))
-  unfolding judgeRule
-  judge-class e f = rw (e, f)
+  table-miss : (t : TableId) → breaksIn r m t ≡ false → judgeTable r m t else ≡ else
+  unfolding judgeTable
+  table-miss t e = rw e
 
-  pub judge-neither : anyBelow n (r .attribute) ≡ false → anyBelow m (r .class) ≡ false → judgeRule r n m else ≡ else
+module _ (r : Rule) (m : Schema) (else : Answer) where
+  judge-attribute : breaksIn r m Attributes ≡ true → judgeRule r m else ≡ brokenBy (r .number) Attributes (firstRow r m Attributes)
   unfolding judgeRule
-  judge-neither e f = rw (e, f)
+  judge-attribute e = table-hit r m (judgeTable r m Classes else) Attributes e
 
-pub judge-none : (n m : ℕ) → judgeRules [] n m ≡ done 0 0
+  judge-class : breaksIn r m Attributes ≡ false → breaksIn r m Classes ≡ true → judgeRule r m else ≡ brokenBy (r .number) Classes (firstRow r m Classes)
+  unfolding judgeRule
+  judge-class e f = table-miss r m (judgeTable r m Classes else) Attributes e ∙ table-hit r m else Classes f
+
+  judge-neither : breaksIn r m Attributes ≡ false → breaksIn r m Classes ≡ false → judgeRule r m else ≡ else
+  unfolding judgeRule
+  judge-neither e f = table-miss r m (judgeTable r m Classes else) Attributes e ∙ table-miss r m else Classes f
+
+judge-none : (m : Schema) → judgeRules [] m ≡ passed
 unfolding judgeRules
-judge-none n m = refl
+judge-none m = refl
 
-pub judge-more : (r : RowRule) (rs : List RowRule) (n m : ℕ) → judgeRules (r ∷ rs) n m ≡ judgeRule r n m (judgeRules rs n m)
+judge-more : (r : Rule) (rs : List Rule) (m : Schema) → judgeRules (r ∷ rs) m ≡ judgeRule r m (judgeRules rs m)
 unfolding judgeRules
-judge-more r rs n m = refl
+judge-more r rs m = refl
+
+-- a rule is kept exactly where neither table has a row that breaks it
+kept-not : (m : Schema) (r : Rule) → Kept m r → (breaksIn r m Attributes ≡ false) × (breaksIn r m Classes ≡ false)
+kept-not m r h = (any-false (r .breaks m Attributes) (m .attributes .count) (h Attributes), any-false (r .breaks m Classes) (m .classes .count) (h Classes))
+
+not-kept : (m : Schema) (r : Rule) → breaksIn r m Attributes ≡ false → breaksIn r m Classes ≡ false → Kept m r
+not-kept m r e f Attributes = any-none (r .breaks m Attributes) (m .attributes .count) e
+not-kept m r e f Classes = any-none (r .breaks m Classes) (m .classes .count) f
 
 -- ---- the whole list
 
 -- the number is that of the first rule that some row breaks
-pub judge-number : (rs : List RowRule) (n m : ℕ) → judgeRules rs n m .number ≡ firstOf (brokenCases rs n m)
-judge-number [] n m = ap (λ (x : Answer). x .number) (judge-none n m) ∙ sym first-none
-judge-number (r ∷ rs) n m = ap (λ (x : Answer). x .number) (judge-more r rs n m) ∙ go (judge-number rs n m) (anyBelow n (r .attribute)) (anyBelow m (r .class)) refl refl
+pub judge-number : (rs : List Rule) (m : Schema) → judgeRules rs m .number ≡ firstOf (brokenCases rs m)
+judge-number [] m = ap (λ (x : Answer). x .number) (judge-none m) ∙ sym first-none
+judge-number (r ∷ rs) m = ap (λ (x : Answer). x .number) (judge-more r rs m)
+    ∙ go (judge-number rs m) (breaksIn r m Attributes) (breaksIn r m Classes) refl refl
   where
-    go : judgeRules rs n m .number ≡ firstOf (brokenCases rs n m) → (x y : Bool) → anyBelow n (r .attribute) ≡ x → anyBelow m (r .class) ≡ y
-        → judgeRule r n m (judgeRules rs n m) .number ≡ firstOf (brokenCases (r ∷ rs) n m)
+    go : judgeRules rs m .number ≡ firstOf (brokenCases rs m) → (x y : Bool) → breaksIn r m Attributes ≡ x → breaksIn r m Classes ≡ y
+        → judgeRule r m (judgeRules rs m) .number ≡ firstOf (brokenCases (r ∷ rs) m)
     go ih true y p q =
-        ap (λ (x : Answer). x .number) (judge-attribute r n m (judgeRules rs n m) p)
-        ∙ sym (first-hit (r .number when (anyBelow n (r .attribute) || anyBelow m (r .class))) (brokenCases rs n m) (ap (λ (b : Bool). b || anyBelow m (r .class)) p))
+        ap (λ (x : Answer). x .number) (judge-attribute r m (judgeRules rs m) p)
+        ∙ sym (first-hit (r .number when broken m r) (brokenCases rs m) (ap (λ (b : Bool). b || breaksIn r m Classes) p))
     go ih false true p q =
-        ap (λ (x : Answer). x .number) (judge-class r n m (judgeRules rs n m) p q)
-        ∙ sym (first-hit (r .number when (anyBelow n (r .attribute) || anyBelow m (r .class))) (brokenCases rs n m) (ap (λ (b : Bool). b || anyBelow m (r .class)) p ∙ q))
+        ap (λ (x : Answer). x .number) (judge-class r m (judgeRules rs m) p q)
+        ∙ sym (first-hit (r .number when broken m r) (brokenCases rs m) (ap (λ (b : Bool). b || breaksIn r m Classes) p ∙ q))
     go ih false false p q =
-        ap (λ (x : Answer). x .number) (judge-neither r n m (judgeRules rs n m) p q) ∙ ih
-        ∙ sym (first-miss (r .number when (anyBelow n (r .attribute) || anyBelow m (r .class))) (brokenCases rs n m) (ap (λ (b : Bool). b || anyBelow m (r .class)) p ∙ q))
+        ap (λ (x : Answer). x .number) (judge-neither r m (judgeRules rs m) p q) ∙ ih
+        ∙ sym (first-miss (r .number when broken m r) (brokenCases rs m) (ap (λ (b : Bool). b || breaksIn r m Classes) p ∙ q))
 
 -- no case holds exactly where every rule is kept
-pub kept-none : (rs : List RowRule) (n m : ℕ) → AllKept rs n m → NoneHolds (brokenCases rs n m)
-kept-none [] n m h = tt
-kept-none (r ∷ rs) n m h =
-    (ap (λ (b : Bool). b || anyBelow m (r .class)) (any-false (r .attribute) n (h .0 .attributes)) ∙ any-false (r .class) m (h .0 .classes), kept-none rs n m (h .1))
+pub kept-none : (m : Schema) (rs : List Rule) → Each (Kept m) rs → NoneHolds (brokenCases rs m)
+kept-none m [] h = tt
+kept-none m (r ∷ rs) h = let k = kept-not m r (h .0) in (ap (λ (b : Bool). b || breaksIn r m Classes) (k .0) ∙ k .1, kept-none m rs (h .1))
 
-pub none-kept : (rs : List RowRule) (n m : ℕ) → NoneHolds (brokenCases rs n m) → AllKept rs n m
-none-kept [] n m h = tt
-none-kept (r ∷ rs) n m h =
-    let s = neither (anyBelow n (r .attribute)) (anyBelow m (r .class)) (h .0) in
-    (record { attributes = any-none (r .attribute) n (s .0); classes = any-none (r .class) m (s .1) }, none-kept rs n m (h .1))
+pub none-kept : (m : Schema) (rs : List Rule) → NoneHolds (brokenCases rs m) → Each (Kept m) rs
+none-kept m [] h = tt
+none-kept m (r ∷ rs) h = let s = neither (breaksIn r m Attributes) (breaksIn r m Classes) (h .0) in (not-kept m r (s .0) (s .1), none-kept m rs (h .1))
 
--- ---- one number after the other
+-- every rule is kept: no table and no place is named
+pub kept-passed : (m : Schema) (rs : List Rule) → Each (Kept m) rs → judgeRules rs m ≡ passed
+kept-passed m [] h = judge-none m
+kept-passed m (r ∷ rs) h =
+    let k = kept-not m r (h .0) in
+    judge-more r rs m ∙ judge-neither r m (judgeRules rs m) (k .0) (k .1) ∙ kept-passed m rs (h .1)
+
+-- either no row breaks a rule, or the answer names the first rule that is broken and the lowest row that breaks it
+lowest-row : (m : Schema) (r : Rule) (t : TableId) → breaksIn r m t ≡ true
+    → ((u : TableId) → tableNumber u < tableNumber t → (j : ℕ) → j < table u m .count → r .breaks m u j ≡ false)
+    → Lowest m r t (firstRow r m t)
+lowest-row m r t e first = let f = first-some (r .breaks m t) (table t m .count) e in record { below = f .0; breaks = f .1; none = f .2; first = first }
+
+pub first-or-kept : (m : Schema) (rs : List Rule) → Each (Kept m) rs ⊎ FirstBroken m rs (judgeRules rs m)
+first-or-kept m [] = inl tt
+first-or-kept m (r ∷ rs) =
+    subst (λ (x : Answer). Each (Kept m) (r ∷ rs) ⊎ FirstBroken m (r ∷ rs) x) (sym (judge-more r rs m))
+    (go (first-or-kept m rs) (breaksIn r m Attributes) (breaksIn r m Classes) refl refl)
+  where
+    no-table : (u : TableId) → tableNumber u < 1 → (j : ℕ) → j < table u m .count → r .breaks m u j ≡ false
+    no-table Attributes l = absurd (omega arith)
+    no-table Classes l = absurd (omega arith)
+
+    attributes-first : breaksIn r m Attributes ≡ false → (u : TableId) → tableNumber u < 2 → (j : ℕ) → j < table u m .count → r .breaks m u j ≡ false
+    attributes-first p Attributes l = any-none (r .breaks m Attributes) (m .attributes .count) p
+    attributes-first p Classes l = absurd (omega arith)
+
+    go : Each (Kept m) rs ⊎ FirstBroken m rs (judgeRules rs m) → (x y : Bool) → breaksIn r m Attributes ≡ x → breaksIn r m Classes ≡ y
+        → Each (Kept m) (r ∷ rs) ⊎ FirstBroken m (r ∷ rs) (judgeRule r m (judgeRules rs m))
+    go ih true y p q =
+        inr (subst (FirstBroken m (r ∷ rs)) (sym (judge-attribute r m (judgeRules rs m) p))
+        (FirstBroken.here Attributes (firstRow r m Attributes) (lowest-row m r Attributes p no-table)))
+    go ih false true p q =
+        inr (subst (FirstBroken m (r ∷ rs)) (sym (judge-class r m (judgeRules rs m) p q))
+        (FirstBroken.here Classes (firstRow r m Classes) (lowest-row m r Classes q (attributes-first p))))
+    go (inl k) false false p q = inl (not-kept m r p q, k)
+    go (inr f) false false p q = inr (subst (FirstBroken m (r ∷ rs)) (sym (judge-neither r m (judgeRules rs m) p q)) (FirstBroken.later (not-kept m r p q) f))
+
+-- ---- one number after the other, as the code goes
 
 -- the answer of one rule names a table exactly where some row breaks it
-module _ (r : RowRule) (n m : ℕ) (x : Answer) where
-  pub judge-hit : ¬ (judgeRule r n m (done 0 0) .table ≡ 0) → judgeRule r n m x ≡ judgeRule r n m (done 0 0)
-  judge-hit d = go (anyBelow n (r .attribute)) (anyBelow m (r .class)) refl refl
+module _ (r : Rule) (m : Schema) (x : Answer) where
+  judge-hit : ¬ (judgeRule r m passed .table ≡ 0) → judgeRule r m x ≡ judgeRule r m passed
+  judge-hit d = go (breaksIn r m Attributes) (breaksIn r m Classes) refl refl
     where
-      go : (p q : Bool) → anyBelow n (r .attribute) ≡ p → anyBelow m (r .class) ≡ q → judgeRule r n m x ≡ judgeRule r n m (done 0 0)
-      go true q e f = judge-attribute r n m x e ∙ sym (judge-attribute r n m (done 0 0) e)
-      go false true e f = judge-class r n m x e f ∙ sym (judge-class r n m (done 0 0) e f)
-      go false false e f = absurd (d (ap (λ (y : Answer). y .table) (judge-neither r n m (done 0 0) e f)))
+      go : (p q : Bool) → breaksIn r m Attributes ≡ p → breaksIn r m Classes ≡ q → judgeRule r m x ≡ judgeRule r m passed
+      go true q e f = judge-attribute r m x e ∙ sym (judge-attribute r m passed e)
+      go false true e f = judge-class r m x e f ∙ sym (judge-class r m passed e f)
+      go false false e f = absurd (d (ap (λ (y : Answer). y .table) (judge-neither r m passed e f)))
 
-  pub judge-miss : judgeRule r n m (done 0 0) .table ≡ 0 → judgeRule r n m x ≡ x
-  judge-miss z = go (anyBelow n (r .attribute)) (anyBelow m (r .class)) refl refl
+  judge-miss : judgeRule r m passed .table ≡ 0 → judgeRule r m x ≡ x
+  judge-miss z = go (breaksIn r m Attributes) (breaksIn r m Classes) refl refl
     where
-      go : (p q : Bool) → anyBelow n (r .attribute) ≡ p → anyBelow m (r .class) ≡ q → judgeRule r n m x ≡ x
-      go true q e f = absurd (let h : 1 ≡ judgeRule r n m (done 0 0) .table = sym (ap (λ (y : Answer). y .table) (judge-attribute r n m (done 0 0) e)) in omega arith)
-      go false true e f = absurd (let h : 2 ≡ judgeRule r n m (done 0 0) .table = sym (ap (λ (y : Answer). y .table) (judge-class r n m (done 0 0) e f)) in omega arith)
-      go false false e f = judge-neither r n m x e f
+      go : (p q : Bool) → breaksIn r m Attributes ≡ p → breaksIn r m Classes ≡ q → judgeRule r m x ≡ x
+      go true q e f = absurd (let h : 1 ≡ judgeRule r m passed .table = sym (ap (λ (y : Answer). y .table) (judge-attribute r m passed e)) in omega arith)
+      go false true e f = absurd (let h : 2 ≡ judgeRule r m passed .table = sym (ap (λ (y : Answer). y .table) (judge-class r m passed e f)) in omega arith)
+      go false false e f = judge-neither r m x e f
 
--- the answer from the lowest rows
-module _ (rs : List RowRule) (number n m a : ℕ) (lowest : a ≡ firstBelow n (numbered rs number .attribute)) where
-  pub answer-attribute : a < n → answer number 1 a ≡ judgeRule (numbered rs number) n m (done 0 0)
-  answer-attribute l =
-      let r = numbered rs number in
-      let some : anyBelow n (r .attribute) ≡ true = sym (first-any (r .attribute) n) ∙ says-true (says-lt (firstBelow n (r .attribute)) n) (omega arith) in
-      sym (judge-attribute r n m (done 0 0) some ∙ rw (numbered-number rs number, lowest))
+-- the answer of the rule of a number, from the lowest rows
+module _ (rs : List Rule) (n : ℕ) (m : Schema) where
+  abbrev its : Rule
+  its = numbered rs n
 
-  no-attribute : n ≤ a → anyBelow n (numbered rs number .attribute) ≡ false
-  no-attribute l =
-      sym (first-any (numbered rs number .attribute) n) ∙ says-false (says-lt (firstBelow n (numbered rs number .attribute)) n) (λ h. omega arith)
+  some-row : (t : TableId) (k : ℕ) → k ≡ firstRow its m t → k < table t m .count → breaksIn its m t ≡ true
+  some-row t k e l = sym (first-any (its .breaks m t) (table t m .count)) ∙ says-true (says-lt (firstRow its m t) (table t m .count)) (omega arith)
 
-  module _ (c : ℕ) (lowestClass : c ≡ firstBelow m (numbered rs number .class)) where
-    pub answer-class : n ≤ a → c < m → answer number 2 c ≡ judgeRule (numbered rs number) n m (done 0 0)
-    answer-class h l =
-        let r = numbered rs number in
-        let some : anyBelow m (r .class) ≡ true = sym (first-any (r .class) m) ∙ says-true (says-lt (firstBelow m (r .class)) m) (omega arith) in
-        sym (judge-class r n m (done 0 0) (no-attribute h) some ∙ rw (numbered-number rs number, lowestClass))
+  no-row : (t : TableId) (k : ℕ) → k ≡ firstRow its m t → table t m .count ≤ k → breaksIn its m t ≡ false
+  no-row t k e l = sym (first-any (its .breaks m t) (table t m .count)) ∙ says-false (says-lt (firstRow its m t) (table t m .count)) (λ h. omega arith)
 
-    pub answer-none : n ≤ a → m ≤ c → done 0 0 ≡ judgeRule (numbered rs number) n m (done 0 0)
-    answer-none h l =
-        let r = numbered rs number in
-        let none : anyBelow m (r .class) ≡ false = sym (first-any (r .class) m) ∙ says-false (says-lt (firstBelow m (r .class)) m) (λ h. omega arith) in
-        sym (judge-neither r n m (done 0 0) (no-attribute h) none)
+  module _ (a : ℕ) (lowest : a ≡ firstRow its m Attributes) where
+    pub answer-attribute : a < m .attributes .count → brokenBy n Attributes a ≡ judgeRule its m passed
+    answer-attribute l = sym (judge-attribute its m passed (some-row Attributes a lowest l) ∙ rw (numbered-number rs n, lowest))
 
-module _ (rs : List RowRule) (ns : List ℕ) (n m i : ℕ) where
-  pub judge-found : i < length ns → ¬ (judgeRule (numbered rs (getD ns i 0)) n m (done 0 0) .table ≡ 0)
-      → judgeRules (rulesOf rs (drop i ns)) n m ≡ judgeRule (numbered rs (getD ns i 0)) n m (done 0 0)
+    module _ (none : m .attributes .count ≤ a) (c : ℕ) (lowestClass : c ≡ firstRow its m Classes) where
+      pub answer-class : c < m .classes .count → brokenBy n Classes c ≡ judgeRule its m passed
+      answer-class l = sym (judge-class its m passed (no-row Attributes a lowest none) (some-row Classes c lowestClass l)
+          ∙ rw (numbered-number rs n, lowestClass))
+
+      pub answer-none : m .classes .count ≤ c → passed ≡ judgeRule its m passed
+      answer-none l = sym (judge-neither its m passed (no-row Attributes a lowest none) (no-row Classes c lowestClass l))
+
+module _ (rs : List Rule) (ns : List ℕ) (m : Schema) (i : ℕ) where
+  pub judge-found : i < length ns → ¬ (judgeRule (numbered rs (getD ns i 0)) m passed .table ≡ 0)
+      → judgeRules (rulesOf rs (drop i ns)) m ≡ judgeRule (numbered rs (getD ns i 0)) m passed
   judge-found l d =
-      ap (λ (x : List RowRule). judgeRules x n m) (rules-next rs ns i l)
-      ∙ judge-more (numbered rs (getD ns i 0)) (rulesOf rs (drop (i + 1) ns)) n m
-      ∙ judge-hit (numbered rs (getD ns i 0)) n m (judgeRules (rulesOf rs (drop (i + 1) ns)) n m) d
+      ap (λ (x : List Rule). judgeRules x m) (rules-next rs ns i l)
+      ∙ judge-more (numbered rs (getD ns i 0)) (rulesOf rs (drop (i + 1) ns)) m
+      ∙ judge-hit (numbered rs (getD ns i 0)) m (judgeRules (rulesOf rs (drop (i + 1) ns)) m) d
 
-  pub judge-next : i < length ns → judgeRule (numbered rs (getD ns i 0)) n m (done 0 0) .table ≡ 0
-      → judgeRules (rulesOf rs (drop i ns)) n m ≡ judgeRules (rulesOf rs (drop (i + 1) ns)) n m
+  pub judge-next : i < length ns → judgeRule (numbered rs (getD ns i 0)) m passed .table ≡ 0
+      → judgeRules (rulesOf rs (drop i ns)) m ≡ judgeRules (rulesOf rs (drop (i + 1) ns)) m
   judge-next l z =
-      ap (λ (x : List RowRule). judgeRules x n m) (rules-next rs ns i l)
-      ∙ judge-more (numbered rs (getD ns i 0)) (rulesOf rs (drop (i + 1) ns)) n m
-      ∙ judge-miss (numbered rs (getD ns i 0)) n m (judgeRules (rulesOf rs (drop (i + 1) ns)) n m) z
+      ap (λ (x : List Rule). judgeRules x m) (rules-next rs ns i l)
+      ∙ judge-more (numbered rs (getD ns i 0)) (rulesOf rs (drop (i + 1) ns)) m
+      ∙ judge-miss (numbered rs (getD ns i 0)) m (judgeRules (rulesOf rs (drop (i + 1) ns)) m) z
 
-  pub judge-over : length ns ≤ i → judgeRules (rulesOf rs (drop i ns)) n m ≡ done 0 0
-  judge-over l = ap (λ (x : List RowRule). judgeRules x n m) (rules-end rs ns i l) ∙ judge-none n m
+  pub judge-over : length ns ≤ i → judgeRules (rulesOf rs (drop i ns)) m ≡ passed
+  judge-over l = ap (λ (x : List Rule). judgeRules x m) (rules-end rs ns i l) ∙ judge-none m
 
 -- ---- rules 12 to 29
 
 -- the numbers rise
-pub rising : (a c : Table) (n m : ℕ) → Rising 0 (brokenCases (schemaRules a c) n m)
-rising a c n m = omega arith
+pub rising : (added : Added) (m : Schema) → Rising 0 (brokenCases (schemaRules added) m)
+rising added m = omega arith
 
 -- 0 is the number exactly where no row breaks any of the rules
-pub judged-zero : (a c : Table) → (judged a c .number ≡ 0) ↔ AllKept (schemaRules a c) (a .count) (c .count)
+pub judged-zero : (added : Added) (m : Schema) → (judged added m .number ≡ 0) ↔ AllKept added m
 unfolding judged
-judged-zero a c =
-    let rs = schemaRules a c in (
-      λ e. none-kept rs (a .count) (c .count) (zero-iff-none (brokenCases rs (a .count) (c .count)) (omega arith) .0 (sym (judge-number rs (a .count) (c .count)) ∙ e)),
-      λ h. judge-number rs (a .count) (c .count) ∙ zero-iff-none (brokenCases rs (a .count) (c .count)) (omega arith) .1 (kept-none rs (a .count) (c .count) h),
-    )
+judged-zero added m =
+    let rs = schemaRules added in
+    let z = zero-iff-none (brokenCases rs m) (rising-nonzero 0 (brokenCases rs m) (rising added m)) in
+    (λ e. none-kept m rs (z .0 (sym (judge-number rs m) ∙ e)), λ h. judge-number rs m ∙ z .1 (kept-none m rs h))
 
--- and then no table and no place is named
-kept-done : (rs : List RowRule) (n m : ℕ) → AllKept rs n m → judgeRules rs n m ≡ done 0 0
-kept-done [] n m h = judge-none n m
-kept-done (r ∷ rs) n m h =
-    judge-more r rs n m ∙ judge-neither r n m (judgeRules rs n m) (any-false (r .attribute) n (h .0 .attributes)) (any-false (r .class) m (h .0 .classes)) ∙ kept-done rs n m (h .1)
-
-pub judged-done : (a c : Table) → AllKept (schemaRules a c) (a .count) (c .count) → judged a c ≡ done 0 0
+pub judged-passed : (added : Added) (m : Schema) → AllKept added m → judged added m ≡ passed
 unfolding judged
-judged-done a c = kept-done (schemaRules a c) (a .count) (c .count)
+judged-passed added m = kept-passed m (schemaRules added)
 
--- either no row breaks a rule, or the answer names the first rule that is broken and the lowest row that breaks it
-first-or-kept : (rs : List RowRule) (n m : ℕ) → AllKept rs n m ⊎ FirstBroken n m rs (judgeRules rs n m)
-first-or-kept [] n m = inl tt
-first-or-kept (r ∷ rs) n m = subst (λ (x : Answer). AllKept (r ∷ rs) n m ⊎ FirstBroken n m (r ∷ rs) x) (sym (judge-more r rs n m)) (go (first-or-kept rs n m) (anyBelow n (r .attribute)) (anyBelow m (r .class)) refl refl)
+pub judged-first : (added : Added) (m : Schema) → AllKept added m ⊎ FirstBroken m (schemaRules added) (judged added m)
+unfolding judged
+judged-first added m = first-or-kept m (schemaRules added)
+
+-- a broken rule is one of the cases that hold
+among-broken : (rs : List Rule) (m : Schema) (n : ℕ) (t : TableId) (k : ℕ) → k < table t m .count → numbered rs n .breaks m t k ≡ true
+    → Among n (brokenCases rs m)
+unfolding numbered
+among-broken [] m n t k l e = absurd (false≢true e)
+among-broken (r ∷ rs) m n t k l e = go (λ q. among-broken rs m n t k l q) (says-split (says-eq (r .number) n))
   where
-    go : AllKept rs n m ⊎ FirstBroken n m rs (judgeRules rs n m) → (x y : Bool) → anyBelow n (r .attribute) ≡ x → anyBelow m (r .class) ≡ y
-        → AllKept (r ∷ rs) n m ⊎ FirstBroken n m (r ∷ rs) (judgeRule r n m (judgeRules rs n m))
-    go ih true y p q = inr (subst (FirstBroken n m (r ∷ rs)) (sym (judge-attribute r n m (judgeRules rs n m) p)) (FirstBroken.attribute (firstBelow n (r .attribute)) (lowest (r .attribute) n p)))
-    go ih false true p q = inr (subst (FirstBroken n m (r ∷ rs)) (sym (judge-class r n m (judgeRules rs n m) p q)) (FirstBroken.class (firstBelow m (r .class)) (any-none (r .attribute) n p) (lowest (r .class) m q)))
-    go (inl k) false false p q = inl (record { attributes = any-none (r .attribute) n p; classes = any-none (r .class) m q }, k)
-    go (inr f) false false p q = inr (subst (FirstBroken n m (r ∷ rs)) (sym (judge-neither r n m (judgeRules rs n m) p q)) (FirstBroken.later (record { attributes = any-none (r .attribute) n p; classes = any-none (r .class) m q }) f))
+    some : (u : TableId) → k < table u m .count → r .breaks m u k ≡ true → broken m r ≡ true
+    some Attributes j q = ap (λ (b : Bool). b || breaksIn r m Classes) (any-here (r .breaks m Attributes) k (m .attributes .count) j q)
+    some Classes j q = says-or (says-test (breaksIn r m Attributes)) (says-test (breaksIn r m Classes)) .passes
+        (inr (any-here (r .breaks m Classes) k (m .classes .count) j q))
 
-pub judged-first : (a c : Table) → AllKept (schemaRules a c) (a .count) (c .count) ⊎ FirstBroken (a .count) (c .count) (schemaRules a c) (judged a c)
+    go : (numbered rs n .breaks m t k ≡ true → Among n (brokenCases rs m)) → ((eqb (r .number) n ≡ true) × (r .number ≡ n))
+        ⊎ ((eqb (r .number) n ≡ false) × ¬ (r .number ≡ n))
+        → Among n (brokenCases (r ∷ rs) m)
+    go ih (inl q) = Among.here (some t l (rw (q .0) at e)) (q .1)
+    go ih (inr q) = Among.there (ih (rw (q .0) at e))
+
+-- "The smallest number whose condition holds": no row breaks a rule of a smaller number
+pub judged-least : (added : Added) (m : Schema) (n : ℕ) (t : TableId) (k : ℕ) → k < table t m .count → breaks added m n t k ≡ true
+    → judged added m .number ≤ n
 unfolding judged
-judged-first a c = first-or-kept (schemaRules a c) (a .count) (c .count)
+judged-least added m n t k l e =
+    let rs = schemaRules added in
+    omega (arith, judge-number rs m, first-least 0 n (brokenCases rs m) (rising added m) (among-broken rs m n t k l e))

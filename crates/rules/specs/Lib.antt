@@ -1,10 +1,12 @@
--- The schema rules 12 to 29 in one list, the judge of all rows, and what a change of one row leaves to be judged.
+-- The schema rules 12 to 29, the judge of all rows, and what a change of one row can break.
 pub mod Rules
 pub mod RulesLaws
 pub mod Judge
 pub mod JudgeLaws
+pub mod Meets
+pub mod MeetsLaws
+pub mod SameLaws
 pub mod Change
 pub mod ChangeLaws
-pub mod SameLaws
 pub mod ReadLaws
 pub mod Pieces

@@ -1,8 +1,8 @@
 -- What reading stores by itself breaks no rule. Document 01, rule 27: "Absent, the first is stored."
-use mathlib.Core.Path.{_≡_, sym, _∙_}
 use mathlib.Core.Bool.{false}
-use mathlib.Core.Logic.{_⊎_}
 use mathlib.Core.List.{List}
+use mathlib.Core.Logic.{_⊎_}
+use mathlib.Core.Path.{_≡_, sym, _∙_}
 use Prim.Native.Nat.{ℕ, _≤_}
 use native.Mathlib.Decide.{ℕ-discrete}
 use lib.ListN.{length}
@@ -11,10 +11,10 @@ use Rattle.schema.specs.Layout.{attributeWidth}
 use Rattle.schema.specs.AttributeRow.{syntaxOf, omSyntaxOf, objectClassLength}
 use Rattle.schema.specs.ObjectClasses.{HasObjectClass}
 use Rattle.schema.specs.ObjectClassesLaws.{has-object-class}
-use Rattle.rows.specs.ObjectClass.{settled}
-use Rattle.rows.specs.WellFormedLaws.{settled-syntaxes, settled-value}
-use Rattle.attribute_rules.specs.Syntax.{syntaxWrong, objectClassWrong}
-use Rattle.attribute_rules.specs.SyntaxLaws.{says-object-class-wrong, kept-has, first-right}
+use Rattle.rows_read.specs.ObjectClass.{settled}
+use Rattle.rows_read.specs.WellFormedLaws.{settled-syntaxes, settled-value}
+use Rattle.rules_attribute.specs.Syntax.{syntaxWrong, objectClassWrong}
+use Rattle.rules_attribute.specs.SyntaxLaws.{says-object-class-wrong, kept-has, first-right}
 
 -- the fields of an attribute row without 08
 module _ (row : List ℕ) (long : attributeWidth ≤ length row) (absent : objectClassLength row ≡ 0) where

@@ -1,93 +1,125 @@
--- The schema rules 12 to 29, each once, as tests of one row against both tables. The order of the list is the order of judging.
-use mathlib.Core.Bool.{Bool, false, cond, _&&_}
-use mathlib.Core.List.{List, [], _∷_, _++_}
+-- The schema rules 12 to 29, each once: its number, and which rows break it. The order of the list is the order of judging.
+use mathlib.Core.Bool.{Bool, false, cond, _&&_, _||_}
+use mathlib.Core.List.{List, [], _∷_}
+use mathlib.Core.Path.{_≡_}
 use Prim.Native.Nat.{ℕ}
 use lib.Dec.{eqb}
 use Rattle.prelude.specs.First.{Case, _when_}
+use Rattle.schema.specs.declared.number.TableId.{TableId}
+use Rattle.schema.specs.declared.number.TableId.the-variants.{Attributes, Classes}
 use Rattle.schema.specs.ClassRow.{namingOf}
-use Rattle.schema.specs.Store.{Table}
-use Rattle.names.specs.Name.{nameInvalid, identifierInvalid}
-use Rattle.unique.specs.declared.Key.the-variants.{Name, Identifier, Guid, Mapi, Link}
-use Rattle.unique.specs.Unique.{everyRow, attributeTaken, classTaken, numberTaken}
-use Rattle.attribute_rules.specs.Range.{rangeWrong}
-use Rattle.attribute_rules.specs.Syntax.{syntaxWrong, objectClassWrong}
-use Rattle.attribute_rules.specs.Links.{forwardMissing}
-use Rattle.class_rules.specs.declared.named.ClassList.the-variants.{Auxiliaries, Superiors}
-use Rattle.class_rules.specs.Named.{attributeNotLive, classWrong, listsItself, namingWrong}
-use Rattle.class_rules.specs.Category.{categoryWrong, inheritanceWrong}
-use Rattle.class_rules.specs.Chain.{chainWrong}
+use Rattle.schema.specs.Store.{Table, Schema, table}
+use Rattle.tables.specs.declared.named.ClassList.the-variants.{Auxiliaries, Superiors}
+use Rattle.rules_names.specs.Name.{nameInvalid, identifierInvalid}
+use Rattle.rules_unique.specs.declared.Key.the-variants.{Name, Identifier, Guid, Mapi, Link}
+use Rattle.rules_unique.specs.Unique.{everyRow, taken}
+use Rattle.rules_attribute.specs.Range.{rangeWrong}
+use Rattle.rules_attribute.specs.Syntax.{syntaxWrong, objectClassWrong}
+use Rattle.rules_attribute.specs.Links.{forwardMissing}
+use Rattle.rules_class.specs.Live.{notLive, classWrong, listsItself, namingWrong}
+use Rattle.rules_class.specs.Category.{categoryWrong, inheritanceWrong}
+use Rattle.rules_class.specs.Chain.{chainWrong}
+use Rattle.rules.specs.declared.row.Added.{Added}
+use Rattle.rules.specs.declared.row.Added.the-variants.{Nothing, Class}
+use Rattle.schema.specs.Refusals as refusal
 
--- a rule: its number, whether attribute row k breaks it, whether class row k does
-pub record RowRule : Type 0 where
+-- a rule: its number, and whether row k of a table of a schema breaks it
+pub record Rule : Type 0 where
   pub number : ℕ
-  pub attribute : ℕ → Bool
-  pub class : ℕ → Bool
+  pub breaks : Schema → TableId → ℕ → Bool
 
--- no row of a table breaks it
-abbrev pub never : ℕ → Bool
-never k = false
+abbrev pub rule : ℕ → (Schema → TableId → ℕ → Bool) → Rule
+rule n breaks = record { number = n; breaks = breaks }
 
-abbrev pub rule : ℕ → (ℕ → Bool) → (ℕ → Bool) → RowRule
-rule n attribute class = record { number = n; attribute = attribute; class = class }
+-- a rule of any row by itself; of attributes only; of classes only
+abbrev pub ofRows : (List ℕ → Bool) → Schema → TableId → ℕ → Bool
+ofRows test m t k = test (table t m .row k)
 
--- the rules up to 17. "All rules bind defunct rows too."
-abbrev pub firstRules : Table → Table → List RowRule
-firstRules a c =
-    rule 12 (λ k. nameInvalid (a .row k)) (λ k. nameInvalid (c .row k))
-    ∷ rule 13 (attributeTaken everyRow Name a c) (classTaken everyRow Name a c)
-    ∷ rule 14 (λ k. identifierInvalid (a .row k)) (λ k. identifierInvalid (c .row k))
-    ∷ rule 15 (attributeTaken everyRow Identifier a c) (classTaken everyRow Identifier a c)
-    ∷ rule 16 (attributeTaken everyRow Guid a c) (classTaken everyRow Guid a c)
-    ∷ rule 17 never (λ k. attributeNotLive a (c .row k))
+abbrev pub ofAttributes : (Table → ℕ → Bool) → Schema → TableId → ℕ → Bool
+ofAttributes test m Attributes k = test (m .attributes) k
+ofAttributes test m Classes k = false
+
+abbrev pub ofClasses : (Schema → ℕ → Bool) → Schema → TableId → ℕ → Bool
+ofClasses test m Attributes k = false
+ofClasses test m Classes k = test m k
+
+-- "No list of an added class may hold its own number": it binds the class that was added alone
+unfoldable pub barred : Added → Table → ℕ → Bool
+barred Nothing c k = false
+barred (Class a) c k = eqb (a .0) k && listsItself c k
+
+-- "12 to 29 schema rules below". "All rules bind defunct rows too."
+abbrev pub schemaRules : Added → List Rule
+schemaRules added =
+    rule refusal.nameInvalid (ofRows nameInvalid)
+    ∷ rule refusal.nameTaken (taken everyRow Name)
+    ∷ rule refusal.identifierInvalid (ofRows identifierInvalid)
+    ∷ rule refusal.identifierTaken (taken everyRow Identifier)
+    ∷ rule refusal.guidTaken (taken everyRow Guid)
+    ∷ rule refusal.attributeNotLive (ofClasses (λ m k. notLive Attributes (m .attributes) (m .classes .row k)))
+    ∷ rule refusal.classNotLive (ofClasses (λ m k. classWrong (m .classes) k || barred added (m .classes) k))
+    ∷ rule refusal.notAnAuxiliary (ofClasses (λ m k. categoryWrong Auxiliaries (m .classes) (m .classes .row k)))
+    ∷ rule refusal.notASuperior (ofClasses (λ m k. categoryWrong Superiors (m .classes) (m .classes .row k)))
+    ∷ rule refusal.categoryMisfit (ofClasses (λ m k. inheritanceWrong (m .classes) k))
+    ∷ rule refusal.chainAstray (ofClasses (λ m k. chainWrong (m .classes) k))
+    ∷ rule refusal.namingUnfit (ofClasses (λ m k. namingWrong (m .attributes) (namingOf (m .classes .row k))))
+    ∷ rule refusal.mapiTaken (taken everyRow Mapi)
+    ∷ rule refusal.rangeEmpty (ofAttributes (λ a k. rangeWrong (a .row k)))
+    ∷ rule refusal.syntaxMisfit (ofAttributes (λ a k. syntaxWrong (a .row k)))
+    ∷ rule refusal.objectClassWrong (ofAttributes (λ a k. objectClassWrong (a .row k)))
+    ∷ rule refusal.linkTaken (taken everyRow Link)
+    ∷ rule refusal.linkAlone (ofAttributes (λ a k. forwardMissing a (a .row k)))
     ∷ []
 
--- the rules from 18 on
-abbrev pub laterRules : Table → Table → List RowRule
-laterRules a c =
-    rule 18 never (classWrong c)
-    ∷ rule 19 never (λ k. categoryWrong Auxiliaries c (c .row k))
-    ∷ rule 20 never (λ k. categoryWrong Superiors c (c .row k))
-    ∷ rule 21 never (inheritanceWrong c)
-    ∷ rule 22 never (chainWrong c)
-    ∷ rule 23 never (λ k. namingWrong a (namingOf (c .row k)))
-    ∷ rule 24 (numberTaken everyRow Mapi a) never
-    ∷ rule 25 (λ k. rangeWrong (a .row k)) never
-    ∷ rule 26 (λ k. syntaxWrong (a .row k)) never
-    ∷ rule 27 (λ k. objectClassWrong (a .row k)) never
-    ∷ rule 28 (numberTaken everyRow Link a) never
-    ∷ rule 29 (λ k. forwardMissing a (a .row k)) never
-    ∷ []
+-- ---- by number
 
--- "12 to 29 schema rules below"
-abbrev pub schemaRules : Table → Table → List RowRule
-schemaRules a c = firstRules a c ++ laterRules a c
-
--- "No list of an added class may hold its own number": it binds the added class alone
-abbrev pub ownListRule : Table → ℕ → RowRule
-ownListRule c added = rule 18 never (λ k. eqb k added && listsItself c k)
-
--- the rules after the addition of a class
-abbrev pub additionRules : Table → Table → ℕ → List RowRule
-additionRules a c added = firstRules a c ++ (ownListRule c added ∷ laterRules a c)
+-- a rule that no row breaks
+abbrev pub noRule : ℕ → Rule
+noRule n = rule n (λ m t k. false)
 
 -- the rule of a number, and one that no row breaks where the list has none
-unfoldable pub numbered : List RowRule → ℕ → RowRule
-numbered [] n = rule n never never
+unfoldable pub numbered : List Rule → ℕ → Rule
+numbered [] n = noRule n
 numbered (r ∷ rs) n = cond (eqb (r .number) n) r (numbered rs n)
 
+-- the rules of some numbers, in that order
+abbrev pub rulesOf : List Rule → List ℕ → List Rule
+rulesOf rs [] = []
+rulesOf rs (n ∷ ns) = numbered rs n ∷ rulesOf rs ns
+
+-- row k of table t breaks the schema rule of a number
+abbrev pub breaks : Added → Schema → ℕ → TableId → ℕ → Bool
+breaks added m n t k = numbered (schemaRules added) n .breaks m t k
+
+-- n is none of some keys, as the last arm of a match tells it: the keys from the last to the first
+abbrev pub Unlike : ℕ → List ℕ → Type 0
+Unlike n [] = Unit {0}
+Unlike n (x ∷ xs) = Unlike n xs × ¬ (n ≡ x)
+
+-- the rules that bind rows of both tables, or compare rows by a key: from the last to the first
+abbrev pub commonNumbers : List ℕ
+commonNumbers =
+    refusal.linkTaken ∷ refusal.mapiTaken ∷ refusal.guidTaken ∷ refusal.identifierTaken ∷ refusal.identifierInvalid ∷ refusal.nameTaken ∷
+    refusal.nameInvalid ∷ []
+
+-- ---- as cases
+
 -- rules as cases: the first that a test picks
-abbrev pub casesOf : (RowRule → Bool) → List RowRule → List Case
+abbrev pub casesOf : (Rule → Bool) → List Rule → List Case
 casesOf test [] = []
 casesOf test (r ∷ rs) = (r .number when test r) ∷ casesOf test rs
 
 -- the rules that one row breaks
-abbrev pub attributeCases : List RowRule → ℕ → List Case
-attributeCases rs k = casesOf (λ r. r .attribute k) rs
+abbrev pub rowCases : List Rule → Schema → TableId → ℕ → List Case
+rowCases rs m t k = casesOf (λ r. r .breaks m t k) rs
 
-abbrev pub classCases : List RowRule → ℕ → List Case
-classCases rs k = casesOf (λ r. r .class k) rs
+-- ---- what holds of each rule of a list
 
--- the rules of some numbers, in that order
-abbrev pub rulesOf : List RowRule → List ℕ → List RowRule
-rulesOf rs [] = []
-rulesOf rs (n ∷ ns) = numbered rs n ∷ rulesOf rs ns
+abbrev pub Each : (Rule → Type 0) → List Rule → Type 0
+Each P [] = Unit {0}
+Each P (r ∷ rs) = P r × Each P rs
+
+-- one after the other
+infixr 30 _&_
+abbrev pub _&_ : {A B : Type 0} → A → B → A × B
+a & b = (a, b)

@@ -1,89 +1,96 @@
--- Finding a rule by its number: what functions that go by a list of numbers cite.
-use mathlib.Core.Path.{_≡_, refl, sym, ap, _∙_}
-use mathlib.Core.Bool.{Bool, true, false, _&&_, _||_}
+-- Finding a rule by its number: what functions that go by a list of numbers cite, and a fact of each rule by number.
+use mathlib.Core.Bool.{Bool, true, false, cond, _||_}
 use mathlib.Core.List.{List, [], _∷_}
 use mathlib.Core.Logic.{⊎-elim}
+use mathlib.Core.Path.{_≡_, refl, sym, ap, ap₂, _∙_}
 use Prim.Native.Nat.{ℕ, _+_, _≤_, _<_}
-use native.Mathlib.Omega.{arith}
 use native.Mathlib.Numerals.{add-one}
+use lib.Dec.{eqb}
 use lib.ListN.{length, getD, drop, drop-of-length-le}
 use lib.Seq.{drop-cons}
-use Rattle.prelude.specs.SaysLaws.{says-false, says-eq, says-split, says-true}
-use Rattle.prelude.specs.First.{_when_, firstOf}
-use Rattle.prelude.specs.FirstLaws.{first-hit, first-miss, first-none, append-first, append-second}
-use Rattle.class_rules.specs.Named.{listsItself}
-use Rattle.prelude.specs.Below.{anyBelow}
-use Rattle.prelude.specs.BelowLaws.{any-false, any-one}
-use Rattle.schema.specs.Store.{Table}
-use Rattle.rules.specs.Rules.{RowRule, rule, never, firstRules, laterRules, numbered, rulesOf, casesOf, ownListRule, additionRules}
+use Rattle.prelude.specs.SaysLaws.{says-eq, says-split, says-false, neither}
+use Rattle.prelude.specs.First.{Case, _when_, firstOf}
+use Rattle.prelude.specs.FirstLaws.{first-hit, first-miss, first-none}
+use Rattle.rules.specs.Rules.{Unlike, Rule, noRule, numbered, rulesOf, casesOf, Each}
 
 -- ---- a rule by its number
 
 -- it has the number
-pub numbered-number : (rs : List RowRule) (n : ℕ) → numbered rs n .number ≡ n
+pub numbered-number : (rs : List Rule) (n : ℕ) → numbered rs n .number ≡ n
 unfolding numbered
 numbered-number [] n = refl
 numbered-number (r ∷ rs) n = ⊎-elim (λ q. rw (q .0) (q .1)) (λ q. rw (q .0) (numbered-number rs n)) (says-split (says-eq (r .number) n))
 
--- a test is false of every rule of the list that has the number n
-abbrev pub Passed : (RowRule → Bool) → ℕ → List RowRule → Type 0
-Passed test n [] = Unit {0}
-Passed test n (r ∷ rs) = (r .number ≡ n → test r ≡ false) × Passed test n rs
-
-pub numbered-passed : (test : RowRule → Bool) → ((n : ℕ) → test (rule n never never) ≡ false) → (rs : List RowRule) (n : ℕ) → Passed test n rs → test (numbered rs n) ≡ false
+-- what holds of each rule, and of one that no row breaks, holds of the rule of any number
+pub each-numbered : (P : Rule → Type 0) (rs : List Rule) → Each P rs → (n : ℕ) → P (noRule n) → P (numbered rs n)
 unfolding numbered
-numbered-passed test none [] n p = none n
-numbered-passed test none (r ∷ rs) n p =
-    ⊎-elim (λ q. rw (q .0) (p .0 (q .1))) (λ q. rw (q .0) (numbered-passed test none rs n (p .1))) (says-split (says-eq (r .number) n))
+each-numbered P [] h n none = none
+each-numbered P (r ∷ rs) h n none = ⊎-elim (λ q. rw (q .0) (h .0)) (λ q. rw (q .0) (each-numbered P rs (h .1) n none)) (says-split (says-eq (r .number) n))
+
+-- ---- rules that are told by their numbers' keys
+
+unfoldable pub among : List ℕ → ℕ → Bool
+among [] n = false
+among (x ∷ xs) n = eqb n x || among xs n
+
+unlike-among : (n : ℕ) (keys : List ℕ) → Unlike n keys → among keys n ≡ false
+unfolding among
+unlike-among n [] h = refl
+unlike-among n (x ∷ xs) h = ap₂ (λ (a b : Bool). a || b) (says-false (says-eq n x) (h .1)) (unlike-among n xs (h .0))
+
+-- a test picks a rule whose number is a key neither of a match nor of the match around it
+unfoldable pub strays : List ℕ → List ℕ → (Rule → Bool) → List Rule → Bool
+strays keys more test [] = false
+strays keys more test (r ∷ rs) = cond (among keys (r .number) || among more (r .number)) false (test r) || strays keys more test rs
+
+-- it picks none: then it does not pick the rule of a number that is no key
+pub numbered-unlike : (test : Rule → Bool) → ((n : ℕ) → test (noRule n) ≡ false) → (keys more : List ℕ) (rs : List Rule) (n : ℕ) → Unlike n keys
+    → Unlike n more
+    → strays keys more test rs ≡ false → test (numbered rs n) ≡ false
+unfolding numbered strays
+numbered-unlike test none keys more [] n u v e = none n
+numbered-unlike test none keys more (r ∷ rs) n u v e = ⊎-elim here (λ q. rw (q .0) (numbered-unlike test none keys more rs n u v (parts .1)))
+    (says-split (says-eq (r .number) n))
+  where
+    parts : (cond (among keys (r .number) || among more (r .number)) false (test r) ≡ false) × (strays keys more test rs ≡ false)
+    parts = neither (cond (among keys (r .number) || among more (r .number)) false (test r)) (strays keys more test rs) e
+
+    here : (eqb (r .number) n ≡ true) × (r .number ≡ n) → test (cond (eqb (r .number) n) r (numbered rs n)) ≡ false
+    here q =
+        let a : among keys (r .number) ≡ false = rw (q .1) (unlike-among n keys u) in
+        let b : among more (r .number) ≡ false = rw (q .1) (unlike-among n more v) in
+        let t : test r ≡ false = rw (a, b) at (parts .0) in
+        rw (q .0) t
 
 -- ---- rules by a list of numbers
 
 -- one number after the other
-pub rules-next : (rs : List RowRule) (ns : List ℕ) (i : ℕ) → i < length ns → rulesOf rs (drop i ns) ≡ numbered rs (getD ns i 0) ∷ rulesOf rs (drop (i + 1) ns)
+pub rules-next : (rs : List Rule) (ns : List ℕ) (i : ℕ) → i < length ns → rulesOf rs (drop i ns) ≡ numbered rs (getD ns i 0) ∷ rulesOf rs (drop (i + 1) ns)
 rules-next rs ns i l = ap (rulesOf rs) (drop-cons ns i 0 l) ∙ ap (λ (j : ℕ). numbered rs (getD ns i 0) ∷ rulesOf rs (drop j ns)) (sym (add-one i))
 
-pub rules-end : (rs : List RowRule) (ns : List ℕ) (i : ℕ) → length ns ≤ i → rulesOf rs (drop i ns) ≡ []
+pub rules-end : (rs : List Rule) (ns : List ℕ) (i : ℕ) → length ns ≤ i → rulesOf rs (drop i ns) ≡ []
 rules-end rs ns i l = ap (rulesOf rs) (drop-of-length-le ns l)
 
 -- ---- the first rule that a test picks, one number after the other
 
-module _ (test : RowRule → Bool) (rs : List RowRule) (ns : List ℕ) (i : ℕ) where
+module _ (test : Rule → Bool) (rs : List Rule) (ns : List ℕ) (i : ℕ) where
   pub pick-found : i < length ns → test (numbered rs (getD ns i 0)) ≡ true → firstOf (casesOf test (rulesOf rs (drop i ns))) ≡ getD ns i 0
   pick-found l e =
-      ap (λ (x : List RowRule). firstOf (casesOf test x)) (rules-next rs ns i l)
+      ap (λ (x : List Rule). firstOf (casesOf test x)) (rules-next rs ns i l)
       ∙ first-hit (numbered rs (getD ns i 0) .number when test (numbered rs (getD ns i 0))) (casesOf test (rulesOf rs (drop (i + 1) ns))) e
       ∙ numbered-number rs (getD ns i 0)
 
   pub pick-next : i < length ns → test (numbered rs (getD ns i 0)) ≡ false
       → firstOf (casesOf test (rulesOf rs (drop i ns))) ≡ firstOf (casesOf test (rulesOf rs (drop (i + 1) ns)))
   pick-next l e =
-      ap (λ (x : List RowRule). firstOf (casesOf test x)) (rules-next rs ns i l)
+      ap (λ (x : List Rule). firstOf (casesOf test x)) (rules-next rs ns i l)
       ∙ first-miss (numbered rs (getD ns i 0) .number when test (numbered rs (getD ns i 0))) (casesOf test (rulesOf rs (drop (i + 1) ns))) e
 
   pub pick-none : length ns ≤ i → firstOf (casesOf test (rulesOf rs (drop i ns))) ≡ 0
-  pick-none l = ap (λ (x : List RowRule). firstOf (casesOf test x)) (rules-end rs ns i l) ∙ first-none
+  pick-none l = ap (λ (x : List Rule). firstOf (casesOf test x)) (rules-end rs ns i l) ∙ first-none
 
--- ---- an added class: the rules up to 17, its own number, the rules from 18 on
+-- ---- two tests that agree on each rule pick the same
 
-module _ (test : RowRule → Bool) (a c : Table) (k : ℕ) (own : test (ownListRule c k) ≡ listsItself c k) where
-  pub added-first : ¬ (firstOf (casesOf test (firstRules a c)) ≡ 0) → firstOf (casesOf test (additionRules a c k)) ≡ firstOf (casesOf test (firstRules a c))
-  added-first d = append-first (casesOf test (firstRules a c)) (casesOf test (ownListRule c k ∷ laterRules a c)) d
-
-  after-first : firstOf (casesOf test (firstRules a c)) ≡ 0 → firstOf (casesOf test (additionRules a c k)) ≡ firstOf (casesOf test (ownListRule c k ∷ laterRules a c))
-  after-first e = append-second (casesOf test (firstRules a c)) (casesOf test (ownListRule c k ∷ laterRules a c)) (omega arith) e
-
-  pub added-own : firstOf (casesOf test (firstRules a c)) ≡ 0 → listsItself c k ≡ true → firstOf (casesOf test (additionRules a c k)) ≡ 18
-  added-own e h = after-first e ∙ first-hit (18 when test (ownListRule c k)) (casesOf test (laterRules a c)) (own ∙ h)
-
-  pub added-later : firstOf (casesOf test (firstRules a c)) ≡ 0 → listsItself c k ≡ false → firstOf (casesOf test (additionRules a c k)) ≡ firstOf (casesOf test (laterRules a c))
-  added-later e h = after-first e ∙ first-miss (18 when test (ownListRule c k)) (casesOf test (laterRules a c)) (own ∙ h)
-
--- the bar for the added class alone
-pub own-row : (c : Table) (k : ℕ) → ownListRule c k .class k ≡ listsItself c k
-own-row c k = ap (λ (x : Bool). x && listsItself c k) (says-true (says-eq k k) refl)
-
--- and for all rows, of which it binds no other
-pub own-all : (c : Table) (k n : ℕ) → k < c .count → (anyBelow n (ownListRule c k .attribute) || anyBelow (c .count) (ownListRule c k .class)) ≡ listsItself c k
-own-all c k n l =
-    ap (λ (x : Bool). x || anyBelow (c .count) (ownListRule c k .class)) (any-false never n (λ j m. refl))
-    ∙ any-one (c .count) k (ownListRule c k .class) l (λ j m d. ap (λ (x : Bool). x && listsItself c j) (says-false (says-eq j k) d)) ∙ own-row c k
+pub cases-agree : (p q : Rule → Bool) (rs : List Rule) → Each (λ r. p r ≡ q r) rs → casesOf p rs ≡ casesOf q rs
+cases-agree p q [] h = refl
+cases-agree p q (r ∷ rs) h = ap₂ (λ (b : Bool) (cs : List Case). (r .number when b) ∷ cs) (h .0) (cases-agree p q rs (h .1))

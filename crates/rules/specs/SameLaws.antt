@@ -1,141 +1,111 @@
--- Tables with the same rows are judged the same: every rule looks only at rows that are there.
+-- Schemas with the same rows are judged the same: every rule looks only at rows that are there.
+use mathlib.Core.Bool.{Bool, _&&_, _||_}
+use mathlib.Core.List.{List, [], _∷_}
 use mathlib.Core.Path.{_≡_, refl, sym, ap, ap₂, _∙_}
-use mathlib.Core.Bool.{Bool, _&&_}
-use mathlib.Core.List.{List, [], _∷_, _++_}
 use Prim.Native.Nat.{ℕ, _<_}
 use lib.Dec.{eqb}
 use Rattle.prelude.specs.BelowLaws.{first-cong, any-cong}
-use Rattle.prelude.specs.First.{_when_}
-use Rattle.schema.specs.ClassRow.{namingOf}
-use Rattle.schema.specs.Store.{Table}
+use Rattle.prelude.specs.First.{Case, _when_}
 use Rattle.schema.specs.declared.answer.Answer.{Answer}
-use Rattle.tables.specs.Same.{Same}
-use Rattle.names.specs.Name.{nameInvalid, identifierInvalid}
-use Rattle.unique.specs.declared.Key.the-variants.{Name, Identifier, Guid, Mapi, Link}
-use Rattle.unique.specs.Unique.{everyRow}
-use Rattle.unique.specs.SameLaws.{attribute-taken-same, class-taken-same, number-taken-same}
-use Rattle.attribute_rules.specs.Range.{rangeWrong}
-use Rattle.attribute_rules.specs.Syntax.{syntaxWrong, objectClassWrong}
-use Rattle.attribute_rules.specs.Links.{forwardMissing}
-use Rattle.attribute_rules.specs.SameLaws.{forward-missing-same}
-use Rattle.class_rules.specs.declared.named.ClassList.the-variants.{Auxiliaries, Superiors}
-use Rattle.class_rules.specs.Named.{attributeNotLive, namingWrong}
-use Rattle.class_rules.specs.Category.{categoryWrong}
-use Rattle.class_rules.specs.SameLaws.{attribute-not-live-same, class-wrong-same, lists-itself-same, category-wrong-same, inheritance-wrong-same, chain-wrong-same, naming-wrong-same}
-use Rattle.rules.specs.Rules.{RowRule, rule, never, firstRules, laterRules, schemaRules, ownListRule, additionRules, attributeCases, classCases}
-use Rattle.rules.specs.Judge.{judgeRule, judgeRules, judged, AllKept}
+use Rattle.schema.specs.declared.number.TableId.{TableId}
+use Rattle.schema.specs.declared.number.TableId.the-variants.{Attributes, Classes}
+use Rattle.schema.specs.ClassRow.{namingOf}
+use Rattle.schema.specs.Store.{Table, Schema, table}
+use Rattle.tables.specs.Same.{SameRows}
+use Rattle.tables.specs.declared.named.ClassList.the-variants.{Auxiliaries, Superiors}
+use Rattle.rules_names.specs.Name.{nameInvalid, identifierInvalid}
+use Rattle.rules_unique.specs.declared.Key.the-variants.{Name, Identifier, Guid, Mapi, Link}
+use Rattle.rules_unique.specs.Unique.{everyRow}
+use Rattle.rules_unique.specs.SameLaws.{taken-same}
+use Rattle.rules_attribute.specs.Range.{rangeWrong}
+use Rattle.rules_attribute.specs.Syntax.{syntaxWrong, objectClassWrong}
+use Rattle.rules_attribute.specs.Links.{forwardMissing}
+use Rattle.rules_attribute.specs.SameLaws.{forward-missing-same}
+use Rattle.rules_class.specs.Live.{notLive, namingWrong}
+use Rattle.rules_class.specs.Category.{categoryWrong}
+use Rattle.rules_class.specs.SameLaws.{not-live-same, class-wrong-same, lists-itself-same, category-wrong-same, inheritance-wrong-same}
+use Rattle.rules_class.specs.SameLaws.{chain-wrong-same, naming-wrong-same}
+use Rattle.rules.specs.declared.row.Added.{Added}
+use Rattle.rules.specs.declared.row.Added.the-variants.{Nothing, Class}
+use Rattle.rules.specs.Rules.{Rule, ofAttributes, ofClasses, barred, schemaRules, rowCases, Each, _&_}
+use Rattle.rules.specs.Judge.{judgeTable, judgeRule, judgeRules, judged, AllKept}
 use Rattle.rules.specs.JudgeLaws.{judged-zero}
 
--- ---- two rules, and two lists of rules, that agree on n attributes and m classes
+-- the rows that are there break the rule in one schema as they do in the other
+abbrev SameBreaks : Schema → Schema → (Schema → TableId → ℕ → Bool) → Type 0
+SameBreaks m n breaks = (t : TableId) (k : ℕ) → k < table t m .count → breaks m t k ≡ breaks n t k
 
-record SameRule (n m : ℕ) (r s : RowRule) : Type 0 where
-  pub number : r .number ≡ s .number
-  pub attribute : (k : ℕ) → k < n → r .attribute k ≡ s .attribute k
-  pub class : (k : ℕ) → k < m → r .class k ≡ s .class k
+-- ---- rules of which that holds are judged the same
 
-data SameRules (n m : ℕ) : List RowRule → List RowRule → Type 0 where
-  nil : SameRules n m [] []
-  cons : {r s : RowRule} {rs ss : List RowRule} → SameRule n m r s → SameRules n m rs ss → SameRules n m (r ∷ rs) (s ∷ ss)
+module _ {m n : Schema} (s : SameRows m n) where
+  judge-table-same : (r : Rule) → SameBreaks m n (r .breaks) → (t : TableId) (else : Answer) → judgeTable r m t else ≡ judgeTable r n t else
+  unfolding judgeTable
+  judge-table-same r h t else =
+      rw (any-cong (table t m .count) (r .breaks m t) (r .breaks n t) (h t), first-cong (table t m .count) (r .breaks m t) (r .breaks n t) (h t), s t .count)
 
-append-same : {n m : ℕ} {rs ss ts us : List RowRule} → SameRules n m rs ss → SameRules n m ts us → SameRules n m (rs ++ ts) (ss ++ us)
-append-same nil h = h
-append-same (cons e g) h = cons e (append-same g h)
+  judge-rules-same : (rs : List Rule) → Each (λ r. SameBreaks m n (r .breaks)) rs → judgeRules rs m ≡ judgeRules rs n
+  unfolding judgeRules judgeRule
+  judge-rules-same [] h = refl
+  judge-rules-same (r ∷ rs) h =
+      judge-table-same r (h .0) Attributes (judgeTable r m Classes (judgeRules rs m))
+      ∙ ap (judgeTable r n Attributes) (judge-table-same r (h .0) Classes (judgeRules rs m) ∙ ap (judgeTable r n Classes) (judge-rules-same rs (h .1)))
 
--- ---- they are judged the same
+  cases-same : (rs : List Rule) → Each (λ r. SameBreaks m n (r .breaks)) rs → (t : TableId) (k : ℕ) → k < table t m .count → rowCases rs m t k
+      ≡ rowCases rs n t k
+  cases-same [] h t k l = refl
+  cases-same (r ∷ rs) h t k l = ap₂ (λ (b : Bool) (cs : List Case). (r .number when b) ∷ cs) (h .0 t k l) (cases-same rs (h .1) t k l)
 
-judge-rule-same : {n m : ℕ} {r s : RowRule} → SameRule n m r s → (else : Answer) → judgeRule r n m else ≡ judgeRule s n m else
-unfolding judgeRule
-judge-rule-same {n} {m} {r} {s} h else =
-    rw (
-      h .number,
-      any-cong n (r .attribute) (s .attribute) (h .attribute),
-      first-cong n (r .attribute) (s .attribute) (h .attribute),
-      any-cong m (r .class) (s .class) (h .class),
-      first-cong m (r .class) (s .class) (h .class),
-    )
+  -- ---- it holds of every rule
 
-judge-rules-same : {n m : ℕ} {rs ss : List RowRule} → SameRules n m rs ss → judgeRules rs n m ≡ judgeRules ss n m
-unfolding judgeRules
-judge-rules-same nil = refl
-judge-rules-same {n} {m} (cons {r} {s} {rs} {ss} e h) = ap (judgeRule r n m) (judge-rules-same h) ∙ judge-rule-same e (judgeRules ss n m)
+  same-by : (f : List ℕ → Bool) (t : TableId) (k : ℕ) → k < table t m .count → f (table t m .row k) ≡ f (table t n .row k)
+  same-by f t k l = ap f (s t .rows k l)
 
--- ---- and a row breaks the same
+  of-classes : (p : Schema → ℕ → Bool) → ((k : ℕ) → k < m .classes .count → p m k ≡ p n k) → SameBreaks m n (ofClasses p)
+  of-classes p h Attributes k l = refl
+  of-classes p h Classes k l = h k l
 
-module _ {n m : ℕ} (k : ℕ) where
-  attribute-cases : {rs ss : List RowRule} → k < n → SameRules n m rs ss → attributeCases rs k ≡ attributeCases ss k
-  attribute-cases l nil = refl
-  attribute-cases l (cons e h) = ap₂ _∷_ (ap₂ _when_ (e .number) (e .attribute k l)) (attribute-cases l h)
+  of-attributes : (p : Table → ℕ → Bool) → ((k : ℕ) → k < m .attributes .count → p (m .attributes) k ≡ p (n .attributes) k) → SameBreaks m n (ofAttributes p)
+  of-attributes p h Attributes k l = h k l
+  of-attributes p h Classes k l = refl
 
-  class-cases : {rs ss : List RowRule} → k < m → SameRules n m rs ss → classCases rs k ≡ classCases ss k
-  class-cases l nil = refl
-  class-cases l (cons e h) = ap₂ _∷_ (ap₂ _when_ (e .number) (e .class k l)) (class-cases l h)
+  barred-same : (added : Added) (k : ℕ) → k < m .classes .count → barred added (m .classes) k ≡ barred added (n .classes) k
+  unfolding barred
+  barred-same Nothing k l = refl
+  barred-same (Class a) k l = ap (λ (q : Bool). eqb (a .0) k && q) (lists-itself-same (s Classes) k l)
 
--- ---- the rules of tables with the same rows
-
-module _ {a b c d : Table} (s : Same a b) (z : Same c d) where
-  -- a test of a row by itself
-  attribute-by : (f : List ℕ → Bool) (k : ℕ) → k < a .count → f (a .row k) ≡ f (b .row k)
-  attribute-by f k l = ap f (s .rows k l)
-
-  class-by : (f : List ℕ → Bool) (k : ℕ) → k < c .count → f (c .row k) ≡ f (d .row k)
-  class-by f k l = ap f (z .rows k l)
-
-  first-rules-same : SameRules (a .count) (c .count) (firstRules a c) (firstRules b d)
-  first-rules-same =
-      cons (record { number = refl; attribute = attribute-by nameInvalid; class = class-by nameInvalid })
-      (cons (record { number = refl; attribute = attribute-taken-same everyRow Name s z; class = class-taken-same everyRow Name s z })
-      (cons (record { number = refl; attribute = attribute-by identifierInvalid; class = class-by identifierInvalid })
-      (cons (record { number = refl; attribute = attribute-taken-same everyRow Identifier s z; class = class-taken-same everyRow Identifier s z })
-      (cons (record { number = refl; attribute = attribute-taken-same everyRow Guid s z; class = class-taken-same everyRow Guid s z })
-      (cons (record { number = refl; attribute = λ k l. refl; class = λ k l. attribute-not-live-same s (c .row k) ∙ class-by (attributeNotLive b) k l })
-      nil)))))
-
-  later-rules-same : SameRules (a .count) (c .count) (laterRules a c) (laterRules b d)
-  later-rules-same =
-      cons (of-classes (class-wrong-same z))
-      (cons (of-classes (λ k l. category-wrong-same z Auxiliaries (c .row k) ∙ class-by (categoryWrong Auxiliaries d) k l))
-      (cons (of-classes (λ k l. category-wrong-same z Superiors (c .row k) ∙ class-by (categoryWrong Superiors d) k l))
-      (cons (of-classes (inheritance-wrong-same z))
-      (cons (of-classes (λ k l. chain-wrong-same z k))
-      (cons (of-classes (λ k l. naming-wrong-same s (namingOf (c .row k)) ∙ class-by (λ r. namingWrong b (namingOf r)) k l))
-      (cons (of-attributes (number-taken-same everyRow Mapi s))
-      (cons (of-attributes (attribute-by rangeWrong))
-      (cons (of-attributes (attribute-by syntaxWrong))
-      (cons (of-attributes (attribute-by objectClassWrong))
-      (cons (of-attributes (number-taken-same everyRow Link s))
-      (cons (of-attributes (λ k l. forward-missing-same s (a .row k) ∙ attribute-by (forwardMissing b) k l)) nil)))))))))))
-    where
-      of-classes : {n : ℕ} {p q : ℕ → Bool} → ((k : ℕ) → k < c .count → p k ≡ q k) → SameRule (a .count) (c .count) (rule n never p) (rule n never q)
-      of-classes h = record { number = refl; attribute = λ k l. refl; class = h }
-
-      of-attributes : {n : ℕ} {p q : ℕ → Bool} → ((k : ℕ) → k < a .count → p k ≡ q k) → SameRule (a .count) (c .count) (rule n p never) (rule n q never)
-      of-attributes h = record { number = refl; attribute = h; class = λ k l. refl }
-
-  schema-rules-same : SameRules (a .count) (c .count) (schemaRules a c) (schemaRules b d)
-  schema-rules-same = append-same first-rules-same later-rules-same
-
-  addition-rules-same : (k : ℕ) → SameRules (a .count) (c .count) (additionRules a c k) (additionRules b d k)
-  addition-rules-same k = append-same first-rules-same (cons own later-rules-same)
-    where
-      own : SameRule (a .count) (c .count) (ownListRule c k) (ownListRule d k)
-      own = record { number = refl; attribute = λ j l. refl; class = λ j l. ap (λ (q : Bool). eqb j k && q) (lists-itself-same z j l) }
+  all-same : (added : Added) → Each (λ r. SameBreaks m n (r .breaks)) (schemaRules added)
+  all-same added =
+      let a = s Attributes in
+      let c = s Classes in
+      same-by nameInvalid
+      & taken-same everyRow Name s
+      & same-by identifierInvalid
+      & taken-same everyRow Identifier s
+      & taken-same everyRow Guid s
+      & of-classes _ (λ k l. not-live-same a Attributes (m .classes .row k) ∙ same-by (notLive Attributes (n .attributes)) Classes k l)
+      & of-classes _ (λ k l. ap₂ (λ (p q : Bool). p || q) (class-wrong-same c k l) (barred-same added k l))
+      & of-classes _ (λ k l. category-wrong-same c Auxiliaries (m .classes .row k) ∙ same-by (categoryWrong Auxiliaries (n .classes)) Classes k l)
+      & of-classes _ (λ k l. category-wrong-same c Superiors (m .classes .row k) ∙ same-by (categoryWrong Superiors (n .classes)) Classes k l)
+      & of-classes _ (inheritance-wrong-same c)
+      & of-classes _ (λ k l. chain-wrong-same c k)
+      & of-classes _ (λ k l. naming-wrong-same a (namingOf (m .classes .row k)) ∙ same-by (λ r. namingWrong (n .attributes) (namingOf r)) Classes k l)
+      & taken-same everyRow Mapi s
+      & of-attributes _ (λ k l. same-by rangeWrong Attributes k l)
+      & of-attributes _ (λ k l. same-by syntaxWrong Attributes k l)
+      & of-attributes _ (λ k l. same-by objectClassWrong Attributes k l)
+      & taken-same everyRow Link s
+      & of-attributes _ (λ k l. forward-missing-same a (m .attributes .row k) ∙ same-by (forwardMissing (n .attributes)) Attributes k l)
+      & tt
 
   -- the whole check
-  pub judged-same : judged a c ≡ judged b d
+  pub judged-same : (added : Added) → judged added m ≡ judged added n
   unfolding judged
-  judged-same = judge-rules-same schema-rules-same ∙ ap₂ (judgeRules (schemaRules b d)) (s .count) (z .count)
+  judged-same added = judge-rules-same (schemaRules added) (all-same added)
 
-  -- so no row of the ones breaks a rule where none of the others does
-  pub kept-same : AllKept (schemaRules a c) (a .count) (c .count) → AllKept (schemaRules b d) (b .count) (d .count)
-  kept-same h = judged-zero b d .0 (ap (λ (x : Answer). x .number) (sym judged-same) ∙ judged-zero a c .1 h)
+  -- so no row of the one breaks a rule where none of the other does
+  pub kept-same : (added : Added) → AllKept added m → AllKept added n
+  kept-same added h = judged-zero added n .0 (ap (λ (x : Answer). x .number) (sym (judged-same added)) ∙ judged-zero added m .1 h)
 
-  -- one changed attribute, one changed class, an added class
-  module _ (k : ℕ) where
-    pub attribute-cases-same : k < a .count → attributeCases (schemaRules a c) k ≡ attributeCases (schemaRules b d) k
-    attribute-cases-same l = attribute-cases k l schema-rules-same
-
-    pub class-cases-same : k < c .count → classCases (schemaRules a c) k ≡ classCases (schemaRules b d) k
-    class-cases-same l = class-cases k l schema-rules-same
-
-    pub added-cases-same : k < c .count → classCases (additionRules a c k) k ≡ classCases (additionRules b d k) k
-    added-cases-same l = class-cases k l (addition-rules-same k)
+  -- one row
+  pub row-cases-same : (added : Added) (t : TableId) (k : ℕ) → k < table t m .count → rowCases (schemaRules added) m t k ≡ rowCases (schemaRules added) n t k
+  row-cases-same added = cases-same (schemaRules added) (all-same added)

@@ -1,120 +1,79 @@
 // The judge of all rows: rule by rule in the order of judging, for each rule the attributes first, the lowest row first.
-use crate::row::FIRST_ORDER;
-use crate::row::LATER_ORDER;
+use crate::row::Added;
 use crate::row::ORDER;
-use crate::row::attribute_breaks;
-use crate::row::class_breaks;
-use class_rules::live::lists_itself;
+use crate::row::is_breaking;
 use prelude::number::byte_at;
 use schema::answer::Answer;
-use schema::number::AttributeNumber;
-use schema::number::ClassNumber;
-use schema::store::attribute_count;
-use schema::store::class_count;
+use schema::number::TableId;
+use schema::number::row_id;
+use schema::store::row_count;
+use schema::store::store_of;
 ghost use mathlib.Core.Path.{_≡_};
-ghost use Prim.Native.Nat.{_<_};
-ghost use Rattle.prelude.specs.Below.{firstBelow};
-ghost use Rattle.schema.specs.Answers.{done};
-ghost use Rattle.schema.specs.Store.{attributeTable, classTable};
+ghost use Rattle.schema.specs.Answers.{passed};
+ghost use Rattle.schema.specs.Store.{schemaIn};
 ghost use Rattle.tables.specs.Shaped.{Shaped};
-ghost use Rattle.rules.specs.Rules.{schemaRules, additionRules, numbered, rulesOf};
-ghost use Rattle.rules.specs.Judge.{judgeRule, judgeRules, judged};
+ghost use Rattle.rules.specs.Rules.{schemaRules, numbered, rulesOf};
+ghost use Rattle.rules.specs.Judge.{firstRow, judgeRule, judgeRules, judged};
 
-// The lowest attribute that breaks the rule of a number, or how many there are.
-fn first_attribute(attributes: &[u8], classes: &[u8], number: u8) -> usize
+// The lowest row of a table that breaks the rule of a number, or how many there are.
+fn first_row<'a>(
+    added: Added,
+    attributes: &'a [u8],
+    classes: &'a [u8],
+    number: u8,
+    table: TableId,
+) -> usize
     requires { ⌜ Shaped (now attributes) (now classes) ⌝ }
-    ensures { λ r. ⌜ r ≡ firstBelow (attributeTable (now (attributes .entry)) .count) (numbered (schemaRules (attributeTable (now (attributes .entry))) (classTable (now (classes .entry)))) number .attribute) ⌝ }
+    ensures { λ r. ⌜ r ≡ firstRow (numbered (schemaRules added) number) (schemaIn (now (attributes .entry)) (now (classes .entry))) table ⌝ }
 {
-    let n = attribute_count(attributes);
-    let mut a = 0;
-    while a < n {
-        if attribute_breaks(attributes, classes, number, AttributeNumber(a)) {
-            return a;
-        }
-        a += 1;
-    }
-    n
-}
-
-// The lowest class that breaks the rule of a number, or how many there are.
-fn first_class(attributes: &[u8], classes: &[u8], number: u8) -> usize
-    requires { ⌜ Shaped (now attributes) (now classes) ⌝ }
-    ensures { λ r. ⌜ r ≡ firstBelow (classTable (now (classes .entry)) .count) (numbered (schemaRules (attributeTable (now (attributes .entry))) (classTable (now (classes .entry)))) number .class) ⌝ }
-{
-    let n = class_count(classes);
+    let count = row_count(table, store_of(table, attributes, classes));
     let mut k = 0;
-    while k < n {
-        if class_breaks(attributes, classes, number, ClassNumber(k)) {
+    while k < count {
+        if is_breaking(added, attributes, classes, number, row_id(table, k)) {
             return k;
         }
         k += 1;
     }
-    n
+    count
 }
 
 // The lowest row that breaks the rule of a number, attributes first.
-fn judge_rule(attributes: &[u8], classes: &[u8], number: u8) -> Answer
+fn judge_rule<'a>(added: Added, attributes: &'a [u8], classes: &'a [u8], number: u8) -> Answer
     requires { ⌜ Shaped (now attributes) (now classes) ⌝ }
-    ensures { λ r. ⌜ r ≡ judgeRule (numbered (schemaRules (attributeTable (now (attributes .entry))) (classTable (now (classes .entry)))) number) (attributeTable (now (attributes .entry)) .count) (classTable (now (classes .entry)) .count) (done 0 0) ⌝ }
+    ensures { λ r. ⌜ r ≡ judgeRule (numbered (schemaRules added) number) (schemaIn (now (attributes .entry)) (now (classes .entry))) passed ⌝ }
 {
-    let a = first_attribute(attributes, classes, number);
-    if a < attribute_count(attributes) {
-        return Answer {
-            number,
-            table: Answer::ATTRIBUTES,
-            place: a,
-        };
+    let a = first_row(added, attributes, classes, number, TableId::Attributes);
+    if a < row_count(TableId::Attributes, attributes) {
+        return Answer::broken_by(number, row_id(TableId::Attributes, a));
     }
-    let c = first_class(attributes, classes, number);
-    if c < class_count(classes) {
-        return Answer {
-            number,
-            table: Answer::CLASSES,
-            place: c,
-        };
+    let c = first_row(added, attributes, classes, number, TableId::Classes);
+    if c < row_count(TableId::Classes, classes) {
+        return Answer::broken_by(number, row_id(TableId::Classes, c));
     }
-    Answer::done(Answer::NONE, 0)
+    Answer::passed()
 }
 
 // The rows by some rules, one after the other.
-fn judge_by(order: &[u8], attributes: &[u8], classes: &[u8]) -> Answer
+fn judge_by<'a>(order: &[u8], added: Added, attributes: &'a [u8], classes: &'a [u8]) -> Answer
     requires { ⌜ Shaped (now attributes) (now classes) ⌝ }
-    ensures { λ r. ⌜ r ≡ judgeRules (rulesOf (schemaRules (attributeTable (now (attributes .entry))) (classTable (now (classes .entry)))) (now (order .entry))) (attributeTable (now (attributes .entry)) .count) (classTable (now (classes .entry)) .count) ⌝ }
+    ensures { λ r. ⌜ r ≡ judgeRules (rulesOf (schemaRules added) (now (order .entry))) (schemaIn (now (attributes .entry)) (now (classes .entry))) ⌝ }
 {
     let mut i = 0;
     while i < order.len() {
-        let found = judge_rule(attributes, classes, byte_at(order, i));
-        if found.table != Answer::NONE {
+        let found = judge_rule(added, attributes, classes, byte_at(order, i));
+        if found.table != 0 {
             return found;
         }
         i += 1;
     }
-    Answer::done(Answer::NONE, 0)
+    Answer::passed()
 }
 
 // Both tables by rules 12 to 29: the first rule that some row breaks, with its table and its lowest row; 0, 0, 0 where there is none.
-pub fn judge(attributes: &[u8], classes: &[u8]) -> Answer
+pub fn judge<'a>(added: Added, attributes: &'a [u8], classes: &'a [u8]) -> Answer
     requires { ⌜ Shaped (now attributes) (now classes) ⌝ }
-    ensures { λ r. ⌜ r ≡ judged (attributeTable (now (attributes .entry))) (classTable (now (classes .entry))) ⌝ }
+    ensures { λ r. ⌜ r ≡ judged added (schemaIn (now (attributes .entry)) (now (classes .entry))) ⌝ }
 {
     let order = ORDER;
-    judge_by(&order, attributes, classes)
-}
-
-// The number of the first rule that some row breaks after the addition of class c, or 0.
-pub fn judge_addition(attributes: &[u8], classes: &[u8], c: ClassNumber) -> u8
-    requires { ⌜ Shaped (now attributes) (now classes) × (c .0 < classTable (now classes) .count) ⌝ }
-    ensures { λ r. ⌜ r ≡ judgeRules (additionRules (attributeTable (now (attributes .entry))) (classTable (now (classes .entry))) (c .0)) (attributeTable (now (attributes .entry)) .count) (classTable (now (classes .entry)) .count) .number ⌝ }
-{
-    let first = FIRST_ORDER;
-    let early = judge_by(&first, attributes, classes);
-    if early.number != 0 {
-        return early.number;
-    }
-    if lists_itself(classes, c) {
-        return 18;
-    }
-    let later = LATER_ORDER;
-    let late = judge_by(&later, attributes, classes);
-    late.number
+    judge_by(&order, added, attributes, classes)
 }

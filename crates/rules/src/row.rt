@@ -1,168 +1,217 @@
-// The rules that one row breaks. The paper's numbers pick the rules, in the order of judging.
-use attribute_rules::link::forward_missing;
-use attribute_rules::range::range_wrong;
-use attribute_rules::syntax::object_class_wrong;
-use attribute_rules::syntax::syntax_wrong;
-use class_rules::category::category_wrong;
-use class_rules::category::inheritance_wrong;
-use class_rules::chain::chain_wrong;
-use class_rules::live::attribute_not_live;
-use class_rules::live::class_wrong;
-use class_rules::live::lists_itself;
-use class_rules::live::naming_wrong;
-use class_rules::named::ClassList;
-use names::identifier_invalid;
-use names::name_invalid;
+// The rules that one row breaks. The numbers pick the rules.
 use prelude::number::byte_at;
+use rules_attribute::link::forward_missing;
+use rules_attribute::range::range_wrong;
+use rules_attribute::syntax::object_class_wrong;
+use rules_attribute::syntax::syntax_wrong;
+use rules_class::category::category_wrong;
+use rules_class::category::inheritance_wrong;
+use rules_class::chain::chain_wrong;
+use rules_class::live::class_wrong;
+use rules_class::live::lists_itself;
+use rules_class::live::naming_wrong;
+use rules_class::live::not_live;
+use rules_names::identifier_invalid;
+use rules_names::name_invalid;
+use rules_unique::Key;
+use rules_unique::is_taken;
 use schema::number::AttributeNumber;
 use schema::number::ClassNumber;
+use schema::number::RowId;
+use schema::number::TableId;
+use schema::refusal::ATTRIBUTE_NOT_LIVE;
+use schema::refusal::CATEGORY_MISFIT;
+use schema::refusal::CHAIN_ASTRAY;
+use schema::refusal::CLASS_NOT_LIVE;
+use schema::refusal::DONE;
+use schema::refusal::GUID_TAKEN;
+use schema::refusal::IDENTIFIER_INVALID;
+use schema::refusal::IDENTIFIER_TAKEN;
+use schema::refusal::LINK_ALONE;
+use schema::refusal::LINK_TAKEN;
+use schema::refusal::MAPI_TAKEN;
+use schema::refusal::NAME_INVALID;
+use schema::refusal::NAME_TAKEN;
+use schema::refusal::NAMING_UNFIT;
+use schema::refusal::NOT_A_SUPERIOR;
+use schema::refusal::NOT_AN_AUXILIARY;
+use schema::refusal::OBJECT_CLASS_WRONG;
+use schema::refusal::RANGE_EMPTY;
+use schema::refusal::SYNTAX_MISFIT;
 use schema::store::attribute_row;
 use schema::store::class_row;
-use unique::Key;
-use unique::attribute_taken;
-use unique::class_taken;
-use unique::number_taken;
+use schema::store::schema_row;
+use tables::named::ClassList;
+ghost use mathlib.Core.Bool.{_||_};
 ghost use mathlib.Core.Path.{_≡_};
 ghost use Prim.Native.Nat.{_<_};
 ghost use Rattle.prelude.specs.First.{firstOf};
-ghost use Rattle.schema.specs.Store.{attributeTable, classTable};
-ghost use Rattle.tables.specs.Shaped.{Shaped};
-ghost use Rattle.rules.specs.Rules.{schemaRules, additionRules, numbered, rulesOf, attributeCases, classCases};
+ghost use Rattle.schema.specs.Numbers.{tableOf, numberOf};
+ghost use Rattle.schema.specs.declared.number.TableId.the-variants.{Attributes, Classes};
+ghost use Rattle.schema.specs.Store.{table, tableIn, schemaIn};
+ghost use Rattle.tables.specs.Shaped.{TableShaped, Shaped};
+ghost use Rattle.rules_class.specs.Live.{classWrong};
+ghost use Rattle.rules.specs.Rules.{barred, commonNumbers, Unlike, schemaRules, rulesOf, breaks, rowCases};
 
-// The order of judging: the rules up to 17, and those from 18 on.
-pub const FIRST_ORDER: [u8; 6] = [12, 13, 14, 15, 16, 17];
+// The class that was added, if any: no list of it may hold its own number.
+pub enum Added {
+    Nothing,
+    Class(ClassNumber),
+}
 
-pub const LATER_ORDER: [u8; 12] = [18, 19, 20, 21, 22, 23, 24, 25, 26, 27, 28, 29];
-
+// The order of judging.
 pub const ORDER: [u8; 18] = [
-    12,
-    13,
-    14,
-    15,
-    16,
-    17,
-    18,
-    19,
-    20,
-    21,
-    22,
-    23,
-    24,
-    25,
-    26,
-    27,
-    28,
-    29,
+    NAME_INVALID,
+    NAME_TAKEN,
+    IDENTIFIER_INVALID,
+    IDENTIFIER_TAKEN,
+    GUID_TAKEN,
+    ATTRIBUTE_NOT_LIVE,
+    CLASS_NOT_LIVE,
+    NOT_AN_AUXILIARY,
+    NOT_A_SUPERIOR,
+    CATEGORY_MISFIT,
+    CHAIN_ASTRAY,
+    NAMING_UNFIT,
+    MAPI_TAKEN,
+    RANGE_EMPTY,
+    SYNTAX_MISFIT,
+    OBJECT_CLASS_WRONG,
+    LINK_TAKEN,
+    LINK_ALONE,
 ];
 
-// Whether an attribute breaks the rule of a number.
-pub fn attribute_breaks(attributes: &[u8], classes: &[u8], number: u8, a: AttributeNumber) -> bool
-    requires { ⌜ Shaped (now attributes) (now classes) × (a .0 < attributeTable (now attributes) .count) ⌝ }
-    ensures { λ r. ⌜ r ≡ numbered (schemaRules (attributeTable (now (attributes .entry))) (classTable (now (classes .entry)))) number .attribute (a .0) ⌝ }
+// Whether class c was added and a list of it holds its own number.
+fn is_barred(added: Added, classes: &[u8], c: ClassNumber) -> bool
+    requires { ⌜ TableShaped Classes (now classes) × (c .0 < tableIn Classes (now classes) .count) ⌝ }
+    ensures { λ r. ⌜ r ≡ barred added (tableIn Classes (now (classes .entry))) (c .0) ⌝ }
+{
+    match added {
+        Added::Nothing => false,
+        Added::Class(a) => {
+            if a.0 != c.0 {
+                return false;
+            }
+            lists_itself(classes, c)
+        }
+    }
+}
+
+// Whether class c breaks rule 18.
+fn class_not_live(added: Added, classes: &[u8], c: ClassNumber) -> bool
+    requires { ⌜ TableShaped Classes (now classes) × (c .0 < tableIn Classes (now classes) .count) ⌝ }
+    ensures { λ r. ⌜ r ≡ (classWrong (tableIn Classes (now (classes .entry))) (c .0) || barred added (tableIn Classes (now (classes .entry))) (c .0)) ⌝ }
+{
+    if class_wrong(classes, c) {
+        return true;
+    }
+    is_barred(added, classes, c)
+}
+
+// Whether an attribute breaks the rule of a number, one that does not bind rows of both tables.
+fn attribute_breaks(
+    added: Added,
+    attributes: &[u8],
+    classes: &[u8],
+    number: u8,
+    a: AttributeNumber,
+) -> bool
+    requires { ⌜ Shaped (now attributes) (now classes) × (a .0 < tableIn Attributes (now attributes) .count) × Unlike number commonNumbers ⌝ }
+    ensures { λ r. ⌜ r ≡ breaks added (schemaIn (now (attributes .entry)) (now (classes .entry))) number Attributes (a .0) ⌝ }
 {
     let row = attribute_row(attributes, a);
     match number {
-        12 => name_invalid(row),
-        13 => attribute_taken(attributes, classes, Key::Name, a),
-        14 => identifier_invalid(row),
-        15 => attribute_taken(attributes, classes, Key::Identifier, a),
-        16 => attribute_taken(attributes, classes, Key::Guid, a),
-        24 => number_taken(attributes, Key::Mapi, a),
-        25 => range_wrong(row),
-        26 => syntax_wrong(row),
-        27 => object_class_wrong(row),
-        28 => number_taken(attributes, Key::Link, a),
-        29 => forward_missing(attributes, row),
+        RANGE_EMPTY => range_wrong(row),
+        SYNTAX_MISFIT => syntax_wrong(row),
+        OBJECT_CLASS_WRONG => object_class_wrong(row),
+        LINK_ALONE => forward_missing(attributes, row),
         _ => false,
     }
 }
 
-// Whether a class breaks the rule of a number.
-pub fn class_breaks(attributes: &[u8], classes: &[u8], number: u8, c: ClassNumber) -> bool
-    requires { ⌜ Shaped (now attributes) (now classes) × (c .0 < classTable (now classes) .count) ⌝ }
-    ensures { λ r. ⌜ r ≡ numbered (schemaRules (attributeTable (now (attributes .entry))) (classTable (now (classes .entry)))) number .class (c .0) ⌝ }
+// Whether a class breaks such a rule.
+fn class_breaks(added: Added, attributes: &[u8], classes: &[u8], number: u8, c: ClassNumber) -> bool
+    requires { ⌜ Shaped (now attributes) (now classes) × (c .0 < tableIn Classes (now classes) .count) × Unlike number commonNumbers ⌝ }
+    ensures { λ r. ⌜ r ≡ breaks added (schemaIn (now (attributes .entry)) (now (classes .entry))) number Classes (c .0) ⌝ }
 {
     let row = class_row(classes, c);
     match number {
-        12 => name_invalid(row),
-        13 => class_taken(attributes, classes, Key::Name, c),
-        14 => identifier_invalid(row),
-        15 => class_taken(attributes, classes, Key::Identifier, c),
-        16 => class_taken(attributes, classes, Key::Guid, c),
-        17 => attribute_not_live(attributes, row),
-        18 => class_wrong(classes, c),
-        19 => category_wrong(ClassList::Auxiliaries, classes, row),
-        20 => category_wrong(ClassList::Superiors, classes, row),
-        21 => inheritance_wrong(classes, c),
-        22 => chain_wrong(classes, c),
-        23 => naming_wrong(attributes, row),
+        ATTRIBUTE_NOT_LIVE => not_live(TableId::Attributes, attributes, row),
+        CLASS_NOT_LIVE => class_not_live(added, classes, c),
+        NOT_AN_AUXILIARY => category_wrong(ClassList::Auxiliaries, classes, row),
+        NOT_A_SUPERIOR => category_wrong(ClassList::Superiors, classes, row),
+        CATEGORY_MISFIT => inheritance_wrong(classes, c),
+        CHAIN_ASTRAY => chain_wrong(classes, c),
+        NAMING_UNFIT => naming_wrong(attributes, row),
         _ => false,
     }
 }
 
-// The first of some rules that an attribute breaks, or 0.
-fn first_attribute_rule(order: &[u8], attributes: &[u8], classes: &[u8], a: AttributeNumber) -> u8
-    requires { ⌜ Shaped (now attributes) (now classes) × (a .0 < attributeTable (now attributes) .count) ⌝ }
-    ensures { λ r. ⌜ r ≡ firstOf (attributeCases (rulesOf (schemaRules (attributeTable (now (attributes .entry))) (classTable (now (classes .entry)))) (now (order .entry))) (a .0)) ⌝ }
+// Whether a row breaks such a rule, by the table that it is of.
+fn own_breaks(added: Added, attributes: &[u8], classes: &[u8], number: u8, id: RowId) -> bool
+    requires { ⌜ Shaped (now attributes) (now classes) × (numberOf id < table (tableOf id) (schemaIn (now attributes) (now classes)) .count)
+        × Unlike number commonNumbers ⌝ }
+    ensures { λ r. ⌜ r ≡ breaks added (schemaIn (now (attributes .entry)) (now (classes .entry))) number (tableOf id) (numberOf id) ⌝ }
+{
+    match id {
+        RowId::Attribute(a) => attribute_breaks(added, attributes, classes, number, a),
+        RowId::Class(c) => class_breaks(added, attributes, classes, number, c),
+    }
+}
+
+// Whether a row breaks the rule of a number.
+pub fn is_breaking<'a>(
+    added: Added,
+    attributes: &'a [u8],
+    classes: &'a [u8],
+    number: u8,
+    id: RowId,
+) -> bool
+    requires { ⌜ Shaped (now attributes) (now classes) × (numberOf id < table (tableOf id) (schemaIn (now attributes) (now classes)) .count) ⌝ }
+    ensures { λ r. ⌜ r ≡ breaks added (schemaIn (now (attributes .entry)) (now (classes .entry))) number (tableOf id) (numberOf id) ⌝ }
+{
+    let row = schema_row(attributes, classes, id);
+    match number {
+        NAME_INVALID => name_invalid(row),
+        NAME_TAKEN => is_taken(attributes, classes, Key::Name, id),
+        IDENTIFIER_INVALID => identifier_invalid(row),
+        IDENTIFIER_TAKEN => is_taken(attributes, classes, Key::Identifier, id),
+        GUID_TAKEN => is_taken(attributes, classes, Key::Guid, id),
+        MAPI_TAKEN => is_taken(attributes, classes, Key::Mapi, id),
+        LINK_TAKEN => is_taken(attributes, classes, Key::Link, id),
+        _ => own_breaks(added, attributes, classes, number, id),
+    }
+}
+
+// The first of some rules that a row breaks, or 0.
+fn first_by<'a>(
+    order: &[u8],
+    added: Added,
+    attributes: &'a [u8],
+    classes: &'a [u8],
+    id: RowId,
+) -> u8
+    requires { ⌜ Shaped (now attributes) (now classes) × (numberOf id < table (tableOf id) (schemaIn (now attributes) (now classes)) .count) ⌝ }
+    ensures { λ r. ⌜ r ≡ firstOf
+        (rowCases (rulesOf (schemaRules added) (now (order .entry))) (schemaIn (now (attributes .entry)) (now (classes .entry))) (tableOf id)
+        (numberOf id)) ⌝ }
 {
     let mut i = 0;
     while i < order.len() {
         let number = byte_at(order, i);
-        if attribute_breaks(attributes, classes, number, a) {
+        if is_breaking(added, attributes, classes, number, id) {
             return number;
         }
         i += 1;
     }
-    0
+    DONE
 }
 
-// The first of some rules that a class breaks, or 0.
-fn first_class_rule(order: &[u8], attributes: &[u8], classes: &[u8], c: ClassNumber) -> u8
-    requires { ⌜ Shaped (now attributes) (now classes) × (c .0 < classTable (now classes) .count) ⌝ }
-    ensures { λ r. ⌜ r ≡ firstOf (classCases (rulesOf (schemaRules (attributeTable (now (attributes .entry))) (classTable (now (classes .entry)))) (now (order .entry))) (c .0)) ⌝ }
-{
-    let mut i = 0;
-    while i < order.len() {
-        let number = byte_at(order, i);
-        if class_breaks(attributes, classes, number, c) {
-            return number;
-        }
-        i += 1;
-    }
-    0
-}
-
-// The first rule that an attribute breaks, or 0.
-pub fn first_broken_attribute(attributes: &[u8], classes: &[u8], a: AttributeNumber) -> u8
-    requires { ⌜ Shaped (now attributes) (now classes) × (a .0 < attributeTable (now attributes) .count) ⌝ }
-    ensures { λ r. ⌜ r ≡ firstOf (attributeCases (schemaRules (attributeTable (now (attributes .entry))) (classTable (now (classes .entry)))) (a .0)) ⌝ }
+// The first rule that a row breaks, or 0.
+pub fn first_broken<'a>(added: Added, attributes: &'a [u8], classes: &'a [u8], id: RowId) -> u8
+    requires { ⌜ Shaped (now attributes) (now classes) × (numberOf id < table (tableOf id) (schemaIn (now attributes) (now classes)) .count) ⌝ }
+    ensures { λ r. ⌜ r ≡ firstOf (rowCases (schemaRules added) (schemaIn (now (attributes .entry)) (now (classes .entry))) (tableOf id) (numberOf id)) ⌝ }
 {
     let order = ORDER;
-    first_attribute_rule(&order, attributes, classes, a)
-}
-
-// The first rule that a class breaks, or 0.
-pub fn first_broken_class(attributes: &[u8], classes: &[u8], c: ClassNumber) -> u8
-    requires { ⌜ Shaped (now attributes) (now classes) × (c .0 < classTable (now classes) .count) ⌝ }
-    ensures { λ r. ⌜ r ≡ firstOf (classCases (schemaRules (attributeTable (now (attributes .entry))) (classTable (now (classes .entry)))) (c .0)) ⌝ }
-{
-    let order = ORDER;
-    first_class_rule(&order, attributes, classes, c)
-}
-
-// The first rule that an added class breaks, or 0: no list of it may hold its own number.
-pub fn first_broken_added(attributes: &[u8], classes: &[u8], c: ClassNumber) -> u8
-    requires { ⌜ Shaped (now attributes) (now classes) × (c .0 < classTable (now classes) .count) ⌝ }
-    ensures { λ r. ⌜ r ≡ firstOf (classCases (additionRules (attributeTable (now (attributes .entry))) (classTable (now (classes .entry))) (c .0)) (c .0)) ⌝ }
-{
-    let first = FIRST_ORDER;
-    let number = first_class_rule(&first, attributes, classes, c);
-    if number != 0 {
-        return number;
-    }
-    if lists_itself(classes, c) {
-        return 18;
-    }
-    let later = LATER_ORDER;
-    first_class_rule(&later, attributes, classes, c)
+    first_by(&order, added, attributes, classes, id)
 }

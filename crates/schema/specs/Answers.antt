@@ -5,34 +5,66 @@ use Rattle.wire.specs.declared.FieldRead.{FieldRead}
 use Rattle.wire.specs.declared.FieldRead.the-variants.{Field, End, Bad}
 use Rattle.schema.specs.declared.answer.Answer.{Answer}
 use Rattle.schema.specs.declared.number.ClassRead.{ClassRead}
-use Rattle.schema.specs.declared.number.ClassRead.the-variants as class
 use Rattle.schema.specs.declared.number.AttributeRead.{AttributeRead}
+use Rattle.schema.specs.declared.number.TableId.{TableId}
+use Rattle.schema.specs.declared.number.TableId.the-variants.{Attributes, Classes}
+use Rattle.schema.specs.Numbers.{limit}
+use Rattle.schema.specs.Store.{table}
+use Rattle.schema.specs.declared.number.ClassRead.the-variants as class
 use Rattle.schema.specs.declared.number.AttributeRead.the-variants as attribute
+use Rattle.schema.specs.Refusals as refusal
 
 abbrev pub answer : ℕ → ℕ → ℕ → Answer
 answer n t p = record { number = n; table = t; place = p }
 
-abbrev pub done : ℕ → ℕ → Answer
-done t p = answer 0 t p
+-- "a table (0 none, 1 attribute, 2 class)"
+abbrev pub tableNumber : TableId → ℕ
+tableNumber Attributes = 1
+tableNumber Classes = 2
+
+-- "0 done": with a place, or without
+abbrev pub done : ℕ → Answer
+done p = answer refusal.done 0 p
+
+abbrev pub passed : Answer
+passed = done 0
+
+-- "0 done; table and row changed or added"
+abbrev pub changed : TableId → ℕ → Answer
+changed t k = answer refusal.done (tableNumber t) k
 
 abbrev pub refused : ℕ → Answer
 refused n = answer n 0 0
 
 -- "4 sheet or change unreadable; place is the byte offset"
 abbrev pub unreadable : ℕ → Answer
-unreadable at = answer 4 0 at
+unreadable at = answer refusal.unreadable 0 at
+
+-- "6 no free row; at load .. with table and limit"
+abbrev pub full : TableId → Answer
+full t = answer refusal.noFreeRow (tableNumber t) (limit t)
+
+-- "31 write: output too short; place is the length needed"
+abbrev pub shortOutput : ℕ → Answer
+shortOutput needed = answer refusal.shortOutput 0 needed
+
+-- "the table and lowest row that break the rule found"
+abbrev pub brokenBy : ℕ → TableId → ℕ → Answer
+brokenBy n t k = answer n (tableNumber t) k
+
+-- ---- enum answers
 
 -- a field that must stand there: "a missing field .. by the end of that value", one that cannot be accepted "by its tag's offset"
 abbrev pub fieldAnswer : ℕ → FieldRead → Answer
-fieldAnswer end (Field tag start stop) = done 0 0
+fieldAnswer end (Field tag start stop) = passed
 fieldAnswer end End = unreadable end
 fieldAnswer end (Bad at) = unreadable at
 
 -- a target beyond the limit: "5 target row not there"
 abbrev pub classAnswer : ClassRead → Answer
-classAnswer (class.Class c) = done 0 0
-classAnswer class.Beyond = refused 5
+classAnswer (class.Class c) = passed
+classAnswer class.Beyond = refused refusal.noSuchRow
 
 abbrev pub attributeAnswer : AttributeRead → Answer
-attributeAnswer (attribute.Attribute a) = done 0 0
-attributeAnswer attribute.Beyond = refused 5
+attributeAnswer (attribute.Attribute a) = passed
+attributeAnswer attribute.Beyond = refused refusal.noSuchRow

@@ -5,7 +5,8 @@ use mathlib.Core.List.{List}
 use Prim.Native.Nat.{ℕ, _+_}
 use lib.ListN.{getD}
 use Rattle.prelude.specs.Part.{part}
-use Rattle.schema.specs.Layout.{classSet, attributeSet, categoryAt, superclassAt, namingAt, mandatoryAt, fixedOptionalAt, openOptionalAt, fixedAuxiliaryAt, openAuxiliaryAt, fixedSuperiorAt, openSuperiorAt}
+use Rattle.schema.specs.Layout.{classSet, attributeSet, categoryAt, superclassAt, namingAt, mandatoryAt, fixedOptionalAt, openOptionalAt}
+use Rattle.schema.specs.Layout.{fixedAuxiliaryAt, openAuxiliaryAt, fixedSuperiorAt, openSuperiorAt}
 use Rattle.schema.specs.Row.{flagAt}
 use Rattle.schema.specs.declared.class.Naming.{Naming}
 use Rattle.schema.specs.declared.class.Naming.the-variants.{By, Absent}

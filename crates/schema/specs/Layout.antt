@@ -1,7 +1,9 @@
 -- The layout of the stores, byte by byte, as docs/LAYOUT.md shows it. Each field begins where the one before it ends; the cells of a row stand in
 -- the order of their tags. src/layout.rt has the same names.
 use Prim.Native.Nat.{ℕ, _+_, _*_, _/_}
-use Rattle.schema.specs.Numbers.{classLimit, attributeLimit}
+use Rattle.schema.specs.Numbers.{classLimit, attributeLimit, limit}
+use Rattle.schema.specs.declared.number.TableId.{TableId}
+use Rattle.schema.specs.declared.number.TableId.the-variants.{Attributes, Classes}
 
 -- ---- limits of fields
 
@@ -134,11 +136,13 @@ closureWidth = allowedAt + attributeSet
 abbrev pub rowsAt : ℕ
 rowsAt = 2
 
-abbrev pub attributesLength : ℕ
-attributesLength = rowsAt + attributeWidth * attributeLimit
+-- how wide a row of a table is, and how long its store
+abbrev pub rowWidth : TableId → ℕ
+rowWidth Attributes = attributeWidth
+rowWidth Classes = classWidth
 
-abbrev pub classesLength : ℕ
-classesLength = rowsAt + classWidth * classLimit
+abbrev pub storeLength : TableId → ℕ
+storeLength t = rowsAt + rowWidth t * limit t
 
 abbrev pub closureLength : ℕ
 closureLength = closureWidth * classLimit

@@ -1,5 +1,6 @@
 -- What the keeper holds: numbers, answers, the layout of the stores, rows and tables.
 pub mod Numbers
+pub mod Refusals
 pub mod Answers
 pub mod Layout
 pub mod Row
@@ -9,5 +10,5 @@ pub mod ClassRow
 pub mod ObjectClasses
 pub mod ObjectClassesLaws
 pub mod Store
-pub mod StoreLaws
 pub mod NumbersLaws
+pub mod StoreLaws

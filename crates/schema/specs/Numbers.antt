@@ -1,10 +1,15 @@
 -- Class numbers and attribute numbers with their limits. Document 01: "at most 128 classes and 256 attributes (house)".
-use mathlib.Core.Bool.{cond}
+use mathlib.Core.Bool.{Bool, cond, false}
+use mathlib.Core.Path.{_≡_}
 use Prim.Native.Nat.{ℕ}
-use lib.Dec.{ltb}
+use lib.Dec.{eqb, ltb}
 use Rattle.schema.specs.declared.number.ClassRead.{ClassRead}
-use Rattle.schema.specs.declared.number.ClassRead.the-variants as class
 use Rattle.schema.specs.declared.number.AttributeRead.{AttributeRead}
+use Rattle.schema.specs.declared.number.TableId.{TableId}
+use Rattle.schema.specs.declared.number.TableId.the-variants.{Attributes, Classes}
+use Rattle.schema.specs.declared.number.RowId.{RowId}
+use Rattle.schema.specs.declared.number.RowId.the-variants.{Attribute, Class}
+use Rattle.schema.specs.declared.number.ClassRead.the-variants as class
 use Rattle.schema.specs.declared.number.AttributeRead.the-variants as attribute
 
 abbrev pub classLimit : ℕ
@@ -20,3 +25,33 @@ classRead n = cond (ltb n classLimit) (class.Class (record { 0 = n })) class.Bey
 -- a number where an attribute is meant
 abbrev pub attributeRead : ℕ → AttributeRead
 attributeRead n = cond (ltb n attributeLimit) (attribute.Attribute (record { 0 = n })) attribute.Beyond
+
+-- ---- either table
+
+-- how many rows it can hold
+abbrev pub limit : TableId → ℕ
+limit Attributes = attributeLimit
+limit Classes = classLimit
+
+-- row k of a table; the table of a row, and its number there
+abbrev pub rowId : TableId → ℕ → RowId
+rowId Attributes k = Attribute (record { 0 = k })
+rowId Classes k = Class (record { 0 = k })
+
+abbrev pub tableOf : RowId → TableId
+tableOf (Attribute a) = Attributes
+tableOf (Class c) = Classes
+
+abbrev pub numberOf : RowId → ℕ
+numberOf (Attribute a) = a .0
+numberOf (Class c) = c .0
+
+-- row k of table t and row j of table u are one
+unfoldable pub sameRow : TableId → ℕ → TableId → ℕ → Bool
+sameRow Attributes k Attributes j = eqb k j
+sameRow Attributes k Classes j = false
+sameRow Classes k Attributes j = false
+sameRow Classes k Classes j = eqb k j
+
+abbrev pub SameRow : TableId → ℕ → TableId → ℕ → Type 0
+SameRow t k u j = (t ≡ u) × (k ≡ j)

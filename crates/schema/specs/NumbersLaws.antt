@@ -1,13 +1,17 @@
--- What reading a class number tells.
-use mathlib.Core.Path.{_≡_, refl, ap}
-use mathlib.Core.Bool.{Bool, true, false}
+-- What reading a class number tells, and the parts of a row's number.
+use mathlib.Core.Bool.{Bool, true, false, false≢true}
+use mathlib.Core.Path.{_≡_, refl, sym, ap}
 use Prim.Native.Nat.{ℕ, _≤_, _<_}
 use native.Mathlib.Omega.{arith}
 use lib.Dec.{ltb}
 use borrow.Author.Tests.{ltb-true, ltb-false}
+use Rattle.prelude.specs.Says.{Says}
+use Rattle.prelude.specs.SaysLaws.{says-eq, says-iff}
 use Rattle.schema.specs.declared.number.ClassNumber.{ClassNumber}
 use Rattle.schema.specs.declared.number.ClassRead.the-variants.{Class, Beyond}
-use Rattle.schema.specs.Numbers.{classLimit, classRead}
+use Rattle.schema.specs.declared.number.TableId.{TableId}
+use Rattle.schema.specs.declared.number.TableId.the-variants.{Attributes, Classes}
+use Rattle.schema.specs.Numbers.{classLimit, attributeLimit, limit, classRead, rowId, tableOf, numberOf, sameRow, SameRow}
 
 pub class-is : (n : ℕ) (c : ClassNumber) → classRead n ≡ Class c → (n ≡ c .0) × (n < classLimit)
 class-is n c e = go (ltb n classLimit) refl
@@ -22,3 +26,27 @@ class-beyond n e = go (ltb n classLimit) refl
     go : (b : Bool) → ltb n classLimit ≡ b → classLimit ≤ n
     go true q = let no : _≡_ {A = ℕ} 0 1 = cc in absurd (omega arith)
     go false q = ltb-false n classLimit q
+
+pub id-table : (t : TableId) (k : ℕ) → tableOf (rowId t k) ≡ t
+id-table Attributes k = refl
+id-table Classes k = refl
+
+pub id-number : (t : TableId) (k : ℕ) → numberOf (rowId t k) ≡ k
+id-number Attributes k = refl
+id-number Classes k = refl
+
+-- no table can hold more than the attributes'
+pub limit-most : (t : TableId) → limit t ≤ attributeLimit
+limit-most Attributes = omega arith
+limit-most Classes = omega arith
+
+-- no row of one table is a row of the other
+pub apart : Attributes ≡ Classes → ⊥
+apart e = let no : _≡_ {A = ℕ} 0 1 = cc in omega arith
+
+pub says-same-row : (t : TableId) (k : ℕ) (u : TableId) (j : ℕ) → Says (sameRow t k u j) (SameRow t k u j)
+unfolding sameRow
+says-same-row Attributes k Attributes j = says-iff (says-eq k j) (λ e. (refl, e), λ h. h .1)
+says-same-row Attributes k Classes j = record { holds = λ e. absurd (false≢true e); passes = λ h. absurd (apart (h .0)) }
+says-same-row Classes k Attributes j = record { holds = λ e. absurd (false≢true e); passes = λ h. absurd (apart (sym (h .0))) }
+says-same-row Classes k Classes j = says-iff (says-eq k j) (λ e. (refl, e), λ h. h .1)

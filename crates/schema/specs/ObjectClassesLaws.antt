@@ -1,13 +1,14 @@
 -- Laws of the table of oMObjectClass: it is whole, what its tests say, and that a first value is a right one.
-use mathlib.Core.Path.{_≡_, refl, ap, sym}
-use mathlib.Core.Logic.{_⊎_, inl, inr, ⊎-elim}
 use mathlib.Core.Bool.{Bool, true, false}
 use mathlib.Core.List.{List, [], _∷_}
+use mathlib.Core.Logic.{_⊎_, inl, inr, ⊎-elim}
+use mathlib.Core.Path.{_≡_, refl, ap, sym}
 use Prim.Native.Nat.{ℕ, _+_, _*_, _≤_, _<_}
 use native.Mathlib.Omega.{arith}
-use borrow.Author.Tests.{leb-true}
 use lib.Dec.{leb, eqb}
 use lib.ListN.{length, getD}
+use borrow.Author.Tests.{leb-true}
+use borrow.Fn.PlainCycle.{is}
 use Rattle.prelude.specs.Says.{Says}
 use Rattle.prelude.specs.SaysLaws.{says-and, says-eq, true-or-false}
 use Rattle.prelude.specs.Part.{rowAt, part, padded, zeros, sameBytes}
@@ -15,7 +16,8 @@ use Rattle.prelude.specs.PartLaws.{says-same-bytes, part-length, part-short}
 use Rattle.prelude.specs.Below.{anyBelow, allBelow}
 use Rattle.prelude.specs.BelowLaws.{says-any, all-each, any-here, first-some, first-absent}
 use Rattle.schema.specs.Layout.{objectClassLimit}
-use Rattle.schema.specs.ObjectClasses.{entryWidth, entryCount, objectClasses, entrySyntax, entryValue, firstEntry, firstObjectClass, objectClassFits, ObjectClassFits, Entries, HasObjectClass}
+use Rattle.schema.specs.ObjectClasses.{entryWidth, entryCount, objectClasses, entrySyntax, entryValue, firstEntry, firstObjectClass}
+use Rattle.schema.specs.ObjectClasses.{objectClassFits, ObjectClassFits, Entries, HasObjectClass}
 
 -- ---- the table is whole
 
@@ -30,7 +32,11 @@ long = refl
 
 pub entries-whole : Entries objectClasses
 entries-whole =
-    record { room = omega (arith, long); short = λ i l. leb-true (getD (rowAt 0 entryWidth objectClasses i) 1 0) objectClassLimit (all-each (λ k. leb (getD (rowAt 0 entryWidth objectClasses k) 1 0) objectClassLimit) entryCount all-short i l) }
+    record {
+      room = omega (arith, long);
+      short = λ i l. leb-true (getD (rowAt 0 entryWidth objectClasses i) 1 0) objectClassLimit
+          (all-each (λ k. leb (getD (rowAt 0 entryWidth objectClasses k) 1 0) objectClassLimit) entryCount all-short i l);
+    }
 
 pub entry-length : (table : List ℕ) (i : ℕ) → Entries table → i < entryCount → length (rowAt 0 entryWidth table i) ≡ entryWidth
 entry-length table i h l = part-length (0 + entryWidth * i) entryWidth table (omega (arith, h .room))
@@ -58,12 +64,16 @@ unfolding objectClasses part padded zeros
 no-value = refl
 
 -- the cell of each value, as it stands in the table
-all-cells : allBelow entryCount (λ i. sameBytes (part 1 (objectClassLimit + 1) (rowAt 0 entryWidth objectClasses i)) (length (entryValue objectClasses i) ∷ padded objectClassLimit (entryValue objectClasses i))) ≡ true
+all-cells : allBelow entryCount (λ i. sameBytes (part 1 (objectClassLimit + 1) (rowAt 0 entryWidth objectClasses i))
+    (length (entryValue objectClasses i) ∷ padded objectClassLimit (entryValue objectClasses i))) ≡ true
 unfolding allBelow objectClasses part padded zeros sameBytes
 all-cells = refl
 
-pub entry-cell : (i : ℕ) → i < entryCount → part 1 (objectClassLimit + 1) (rowAt 0 entryWidth objectClasses i) ≡ length (entryValue objectClasses i) ∷ padded objectClassLimit (entryValue objectClasses i)
-entry-cell i l = says-same-bytes _ _ .holds (all-each (λ k. sameBytes (part 1 (objectClassLimit + 1) (rowAt 0 entryWidth objectClasses k)) (length (entryValue objectClasses k) ∷ padded objectClassLimit (entryValue objectClasses k))) entryCount all-cells i l)
+pub entry-cell : (i : ℕ) → i < entryCount → part 1 (objectClassLimit + 1) (rowAt 0 entryWidth objectClasses i)
+    ≡ length (entryValue objectClasses i) ∷ padded objectClassLimit (entryValue objectClasses i)
+entry-cell i l = says-same-bytes _ _ .holds
+    (all-each (λ k. sameBytes (part 1 (objectClassLimit + 1) (rowAt 0 entryWidth objectClasses k))
+    (length (entryValue objectClasses k) ∷ padded objectClassLimit (entryValue objectClasses k))) entryCount all-cells i l)
 
 -- a syntax has a first entry, or the count is found
 pub first-entry-is : (table : List ℕ) (syntax : ℕ) → (firstEntry table syntax < entryCount) ⊎ (firstEntry table syntax ≡ entryCount)
@@ -94,6 +104,13 @@ first-short syntax = ⊎-elim some none (first-entry-is objectClasses syntax)
 pub first-fits : (syntax : ℕ) → HasObjectClass syntax → ObjectClassFits syntax (firstObjectClass syntax)
 unfolding firstObjectClass
 first-fits syntax s =
-    let has : anyBelow entryCount (λ i. eqb (entrySyntax objectClasses i) syntax) ≡ true = any-here (λ i. eqb (entrySyntax objectClasses i) syntax) (s .at) entryCount (s .below) (says-eq (entrySyntax objectClasses (s .at)) syntax .passes (s .is)) in
+    let has : anyBelow entryCount (λ i. eqb (entrySyntax objectClasses i) syntax)
+    ≡ true = any-here (λ i. eqb (entrySyntax objectClasses i) syntax) (s .at) entryCount (s .below)
+    (says-eq (entrySyntax objectClasses (s .at)) syntax .passes (s .is)) in
     let f = first-some (λ i. eqb (entrySyntax objectClasses i) syntax) entryCount has in
-    record { at = firstEntry objectClasses syntax; below = f .0; is = (says-eq (entrySyntax objectClasses (firstEntry objectClasses syntax)) syntax .holds (f .1), refl) }
+    record {
+      at = firstEntry objectClasses syntax;
+      below = f .0;
+      is =
+          (says-eq (entrySyntax objectClasses (firstEntry objectClasses syntax)) syntax .holds (f .1), refl);
+    }

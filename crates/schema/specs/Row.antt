@@ -1,8 +1,8 @@
 -- What every row has. Document 01: "Every row: display name (up to 64 bytes), object identifier (up to 16 arcs, each a u32), schemaIDGUID (16
 -- bytes), systemFlags (u32), active or defunct."
-use mathlib.Core.Path.{_≡_}
 use mathlib.Core.Bool.{Bool}
 use mathlib.Core.List.{List}
+use mathlib.Core.Path.{_≡_}
 use Prim.Native.Nat.{ℕ, _+_, _*_, _/_, _%_, _≤_, _<_}
 use lib.Dec.{eqb}
 use lib.ListN.{length, getD}

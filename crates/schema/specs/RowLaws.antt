@@ -1,7 +1,7 @@
 -- Laws of what every row has. (R50) "Identifiers are equal if all arcs are, and as many": so it is, though their bytes are compared.
-use mathlib.Core.Path.{_≡_, sym, ap, _∙_}
-use mathlib.Core.Logic.{_↔_}
 use mathlib.Core.List.{List}
+use mathlib.Core.Logic.{_↔_}
+use mathlib.Core.Path.{_≡_, sym, ap, _∙_}
 use Prim.Native.Nat.{ℕ, _+_, _*_, _<_}
 use native.Mathlib.Omega.{arith}
 use lib.ListN.{length}
@@ -21,7 +21,8 @@ module _ {row : List ℕ} (h : HasArcs row) where
   pub identifier-is : identifierOf row ≡ concatBelow (arcCount row) (λ k. bigEndianBytes arcWidth (arcOf row k))
   identifier-is =
       rows-concat (identifierAt + 1) arcWidth (arcCount row) row
-      ∙ concat-same (arcCount row) _ _ (λ k l. sym (bytes-of-number row (h .bytes) arcWidth (identifierAt + 1 + arcWidth * k) (omega (arith, h .long, h .few))))
+      ∙ concat-same (arcCount row) _ _
+      (λ k l. sym (bytes-of-number row (h .bytes) arcWidth (identifierAt + 1 + arcWidth * k) (omega (arith, h .long, h .few))))
 
   -- and each arc is read off them
   identifier-arc : (k : ℕ) → k < arcCount row → bigEndian arcWidth (arcWidth * k) (identifierOf row) ≡ arcOf row k

@@ -1,4 +1,4 @@
--- The stores, the tables that they hold, and what a call comes to.
+-- The stores, the tables that they hold, the schema that these are together, and what a call comes to.
 use mathlib.Core.Bool.{Bool, cond, _||_}
 use mathlib.Core.List.{List}
 use Prim.Native.Nat.{ℕ, suc, _≤_}
@@ -6,8 +6,12 @@ use lib.Dec.{eqb, ltb}
 use lib.ListN.{length, getD}
 use Rattle.prelude.specs.Part.{rowAt}
 use Rattle.prelude.specs.BigEndian.{bigEndian}
-use Rattle.schema.specs.Layout.{rowsAt, attributeWidth, classWidth, closureWidth, attributesLength, classesLength, closureLength}
+use Rattle.schema.specs.Layout.{rowsAt, rowWidth, closureWidth, storeLength, closureLength}
+use Rattle.schema.specs.declared.number.TableId.{TableId}
+use Rattle.schema.specs.declared.number.TableId.the-variants.{Attributes, Classes}
 use Rattle.schema.specs.declared.answer.Answer.{Answer}
+
+-- ---- tables
 
 -- a table: how many rows, and the row of each number
 pub record Table : Type 0 where
@@ -21,15 +25,42 @@ withRow t k new = record { count = t .count; row = λ j. cond (eqb j k) new (t .
 unfoldable pub plusRow : Table → List ℕ → Table
 plusRow t new = record { count = suc (t .count); row = λ j. cond (eqb j (t .count)) new (t .row j) }
 
--- the first n rows of a store whose rows are width bytes wide
-abbrev pub tableOf : ℕ → List ℕ → ℕ → Table
-tableOf width s n = record { count = n; row = rowAt rowsAt width s }
+-- both tables
+pub record Schema : Type 0 where
+  pub attributes : Table
+  pub classes : Table
 
-abbrev pub attributeTable : List ℕ → Table
-attributeTable s = tableOf attributeWidth s (bigEndian 2 0 s)
+abbrev pub schema : Table → Table → Schema
+schema a c = record { attributes = a; classes = c }
 
-abbrev pub classTable : List ℕ → Table
-classTable s = tableOf classWidth s (getD s 0 0)
+abbrev pub table : TableId → Schema → Table
+table Attributes m = m .attributes
+table Classes m = m .classes
+
+-- the schema with one table replaced
+abbrev pub withTable : TableId → Table → Schema → Schema
+withTable Attributes t m = schema t (m .classes)
+withTable Classes t m = schema (m .attributes) t
+
+-- ---- stores
+
+-- how many rows a store says that it holds
+abbrev pub countIn : TableId → List ℕ → ℕ
+countIn Attributes s = bigEndian 2 0 s
+countIn Classes s = getD s 0 0
+
+-- the table that a store holds
+abbrev pub tableIn : TableId → List ℕ → Table
+tableIn t s = record { count = countIn t s; row = rowAt rowsAt (rowWidth t) s }
+
+-- the store of a table, of the two that are lent
+abbrev pub storeOf : TableId → List ℕ → List ℕ → List ℕ
+storeOf Attributes a c = a
+storeOf Classes a c = c
+
+-- the schema that the two stores hold
+abbrev pub schemaIn : List ℕ → List ℕ → Schema
+schemaIn a c = schema (tableIn Attributes a) (tableIn Classes c)
 
 -- the three kept sets of class c as they stand in the closure store
 abbrev pub closureAt : List ℕ → ℕ → List ℕ
@@ -44,6 +75,9 @@ pub record Stores : Type 0 where
 abbrev pub stores : List ℕ → List ℕ → List ℕ → Stores
 stores a c k = record { attributes = a; classes = c; closure = k }
 
+abbrev pub schemaOf : Stores → Schema
+schemaOf s = schemaIn (s .attributes) (s .classes)
+
 -- what a call comes to: its answer, and the stores as it leaves them
 pub record Result : Type 0 where
   pub answer : Answer
@@ -54,10 +88,12 @@ result a s = record { answer = a; left = s }
 
 -- "1 a lent store is shorter than its length"
 unfoldable pub anyShort : Stores → Bool
-anyShort s = ltb (length (s .attributes)) attributesLength || (ltb (length (s .classes)) classesLength || ltb (length (s .closure)) closureLength)
+anyShort s =
+    ltb (length (s .attributes)) (storeLength Attributes)
+    || (ltb (length (s .classes)) (storeLength Classes) || ltb (length (s .closure)) closureLength)
 
 -- every store has its length
 pub record LongEnough (s : Stores) : Type 0 where
-  pub attributes : attributesLength ≤ length (s .attributes)
-  pub classes : classesLength ≤ length (s .classes)
+  pub attributes : storeLength Attributes ≤ length (s .attributes)
+  pub classes : storeLength Classes ≤ length (s .classes)
   pub closure : closureLength ≤ length (s .closure)

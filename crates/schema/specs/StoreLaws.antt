@@ -1,21 +1,26 @@
 -- What the test of short stores says, and the rows of a changed table.
-use mathlib.Core.Logic.{_⊎_, inl, inr}
-use mathlib.Core.Path.{_≡_, refl}
 use mathlib.Core.Bool.{false}
 use mathlib.Core.List.{List}
+use mathlib.Core.Logic.{_⊎_, inl, inr}
+use mathlib.Core.Path.{_≡_, refl, ap, sym, _∙_}
+use Prim.Native.Nat.{ℕ, suc, _≤_, _<_}
 use native.Mathlib.Omega.{arith}
 use lib.ListN.{length}
-use Prim.Native.Nat.{ℕ, suc, _≤_, _<_}
 use Rattle.prelude.specs.Says.{Says}
 use Rattle.prelude.specs.SaysLaws.{says, says-fails, says-true, says-false, says-eq}
 use Rattle.prelude.specs.PartLaws.{row-length, row-wide}
-use Rattle.schema.specs.Numbers.{attributeLimit, classLimit}
-use Rattle.schema.specs.Layout.{rowsAt, attributeWidth, classWidth, closureWidth, attributesLength, classesLength, closureLength}
-use Rattle.schema.specs.Store.{Table, attributeTable, classTable, closureAt, withRow, plusRow, Stores, anyShort, LongEnough}
+use Rattle.schema.specs.declared.number.TableId.{TableId}
+use Rattle.schema.specs.declared.number.TableId.the-variants.{Attributes, Classes}
+use Rattle.schema.specs.Numbers.{limit, classLimit, numberOf, rowId, tableOf}
+use Rattle.schema.specs.Layout.{rowsAt, rowWidth, storeLength, closureWidth, closureLength}
+use Rattle.schema.specs.Store.{Table, tableIn, closureAt, withRow, plusRow, Stores, anyShort, LongEnough, schemaIn, storeOf, table}
+use Rattle.schema.specs.declared.number.RowId.{RowId}
+use Rattle.schema.specs.NumbersLaws.{id-number, id-table}
 
 -- some store is shorter than its length
 pub says-short : (s : Stores)
-    → Says (anyShort s) ((length (s .attributes) < attributesLength) ⊎ ((length (s .classes) < classesLength) ⊎ (length (s .closure) < closureLength)))
+    → Says (anyShort s) ((length (s .attributes) < storeLength Attributes)
+    ⊎ ((length (s .classes) < storeLength Classes) ⊎ (length (s .closure) < closureLength)))
 unfolding anyShort
 says-short s = search says
 
@@ -23,8 +28,8 @@ says-short s = search says
 pub long-enough : (s : Stores) → anyShort s ≡ false → LongEnough s
 long-enough s e =
     let no = says-fails (says-short s) e in
-    let a : length (s .attributes) < attributesLength → ⊥ = λ l. no (inl l) in
-    let c : length (s .classes) < classesLength → ⊥ = λ l. no (inr (inl l)) in
+    let a : length (s .attributes) < storeLength Attributes → ⊥ = λ l. no (inl l) in
+    let c : length (s .classes) < storeLength Classes → ⊥ = λ l. no (inr (inl l)) in
     let k : length (s .closure) < closureLength → ⊥ = λ l. no (inr (inr l)) in
     record { attributes = omega arith; classes = omega arith; closure = omega arith }
 
@@ -58,17 +63,27 @@ module _ (t : Table) (new : List ℕ) where
 
 -- ---- a row that was looked up is a whole row
 
-pub attribute-row-length : (s : List ℕ) (k : ℕ) → attributesLength ≤ length s → k < attributeLimit → length (attributeTable s .row k) ≡ attributeWidth
-attribute-row-length s k = row-length rowsAt attributeWidth attributeLimit k s
+pub table-row-length : (t : TableId) (s : List ℕ) (k : ℕ) → storeLength t ≤ length s → k < limit t → length (tableIn t s .row k) ≡ rowWidth t
+table-row-length t s k = row-length rowsAt (rowWidth t) (limit t) k s
 
-pub class-row-length : (s : List ℕ) (k : ℕ) → classesLength ≤ length s → k < classLimit → length (classTable s .row k) ≡ classWidth
-class-row-length s k = row-length rowsAt classWidth classLimit k s
-
-pub attribute-wide : (s r : List ℕ) (k : ℕ) → attributesLength ≤ length s → k < attributeLimit → r ≡ attributeTable s .row k → attributeWidth ≤ length r
-attribute-wide s r k = row-wide rowsAt attributeWidth attributeLimit k s r
-
-pub class-wide : (s r : List ℕ) (k : ℕ) → classesLength ≤ length s → k < classLimit → r ≡ classTable s .row k → classWidth ≤ length r
-class-wide s r k = row-wide rowsAt classWidth classLimit k s r
+pub table-row-wide : (t : TableId) (s r : List ℕ) (k : ℕ) → storeLength t ≤ length s → k < limit t → r ≡ tableIn t s .row k → rowWidth t ≤ length r
+table-row-wide t s r k = row-wide rowsAt (rowWidth t) (limit t) k s r
 
 pub closure-wide : (s r : List ℕ) (k : ℕ) → closureLength ≤ length s → k < classLimit → r ≡ closureAt s k → closureWidth ≤ length r
 closure-wide s r k = row-wide 0 closureWidth classLimit k s r
+
+-- a row that was looked up by the number that a table and a place in it make
+pub id-row : (t : TableId) (k : ℕ) (s : List ℕ) {i : RowId} → i ≡ rowId t k → tableIn (tableOf i) s .row (numberOf i) ≡ tableIn t s .row k
+id-row t k s e = rw (e, id-table t k, id-number t k)
+
+pub id-within : (t : TableId) (k : ℕ) (s : List ℕ) {i : RowId} → i ≡ rowId t k → storeLength t ≤ length s → k < limit t
+    → (storeLength (tableOf i) ≤ length s) × (numberOf i < limit (tableOf i))
+id-within t k s e long few = rw (e, id-table t k, id-number t k) (long, few)
+
+-- the table of two stores that are lent
+pub schema-table : (t : TableId) (a c : List ℕ) → table t (schemaIn a c) ≡ tableIn t (storeOf t a c)
+schema-table Attributes a c = refl
+schema-table Classes a c = refl
+
+pub schema-count : (t : TableId) (a c : List ℕ) {s : List ℕ} {n : ℕ} → s ≡ storeOf t a c → n ≡ tableIn t s .count → n ≡ table t (schemaIn a c) .count
+schema-count t a c e q = q ∙ ap (λ (x : List ℕ). tableIn t x .count) e ∙ sym (ap (λ (x : Table). x .count) (schema-table t a c))

@@ -15,7 +15,8 @@ ghost use mathlib.Core.Path.{_≡_};
 ghost use Prim.Native.Nat.{_+_, _≤_};
 ghost use lib.ListN.{length};
 ghost use Rattle.schema.specs.Layout.{attributeWidth, objectClassLimit};
-ghost use Rattle.schema.specs.AttributeRow.{syntaxOf, omSyntaxOf, objectClassLength, objectClassOf, isSingleValued, boundAt, rangeLower, rangeUpper, linkOf, mapiOf};
+ghost use Rattle.schema.specs.AttributeRow.{syntaxOf, omSyntaxOf, objectClassLength, objectClassOf, isSingleValued, boundAt, rangeLower};
+ghost use Rattle.schema.specs.AttributeRow.{rangeUpper, linkOf, mapiOf};
 
 // An end of a range: the four bytes of a signed number, most significant first, or none.
 pub enum Bound {

@@ -22,7 +22,8 @@ ghost use Prim.Native.Nat.{_≤_};
 ghost use lib.ListN.{length};
 ghost use Rattle.schema.specs.Numbers.{classRead};
 ghost use Rattle.schema.specs.Layout.{classWidth};
-ghost use Rattle.schema.specs.ClassRow.{categoryOf, superclassOf, namingOf, mandatoryOf, fixedOptionalOf, openOptionalOf, fixedAuxiliaryOf, openAuxiliaryOf, fixedSuperiorOf, openSuperiorOf};
+ghost use Rattle.schema.specs.ClassRow.{categoryOf, superclassOf, namingOf, mandatoryOf, fixedOptionalOf, openOptionalOf, fixedAuxiliaryOf};
+ghost use Rattle.schema.specs.ClassRow.{openAuxiliaryOf, fixedSuperiorOf, openSuperiorOf};
 
 // What names a record of the class: an attribute (rDNAttID), or nothing.
 pub enum Naming {

@@ -1,6 +1,9 @@
 // The layout of the stores. Each field begins where the one before it ends; specs/Layout.antt has the same names.
 use crate::number::AttributeNumber;
 use crate::number::ClassNumber;
+use crate::number::TableId;
+ghost use mathlib.Core.Path.{_≡_};
+ghost use Rattle.schema.specs.Layout.{rowWidth, storeLength};
 
 // Limits of fields.
 pub const NAME_LIMIT: usize = 64;
@@ -85,8 +88,28 @@ pub const CLOSURE_WIDTH: usize = ALLOWED + ATTRIBUTE_SET;
 // The stores: the count stands before the rows.
 pub const ROWS: usize = 2;
 
+// How long each store is.
 pub const ATTRIBUTES_LENGTH: usize = ROWS + ATTRIBUTE_WIDTH * AttributeNumber::LIMIT;
 
 pub const CLASSES_LENGTH: usize = ROWS + CLASS_WIDTH * ClassNumber::LIMIT;
 
 pub const CLOSURE_LENGTH: usize = CLOSURE_WIDTH * ClassNumber::LIMIT;
+
+// How wide a row of a table is, and how long its store.
+pub fn row_width(table: TableId) -> usize
+    ensures { λ r. ⌜ r ≡ rowWidth table ⌝ }
+{
+    match table {
+        TableId::Attributes => ATTRIBUTE_WIDTH,
+        TableId::Classes => CLASS_WIDTH,
+    }
+}
+
+pub fn store_length(table: TableId) -> usize
+    ensures { λ r. ⌜ r ≡ storeLength table ⌝ }
+{
+    match table {
+        TableId::Attributes => ATTRIBUTES_LENGTH,
+        TableId::Classes => CLASSES_LENGTH,
+    }
+}

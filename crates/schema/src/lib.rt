@@ -6,5 +6,6 @@ pub mod class;
 pub mod layout;
 pub mod number;
 pub mod object_classes;
+pub mod refusal;
 pub mod row;
 pub mod store;

@@ -1,7 +1,8 @@
 // Class numbers and attribute numbers. Document 01: "Class numbers and attribute numbers both count from 0, and installers confuse them." Each has
-// a type of its own, so that a class row cannot be looked up by an attribute's number.
+// a type of its own, so that a class row cannot be looked up by an attribute's number. What serves both tables takes a number that says which table
+// it is of.
 ghost use mathlib.Core.Path.{_≡_};
-ghost use Rattle.schema.specs.Numbers.{classRead, attributeRead};
+ghost use Rattle.schema.specs.Numbers.{classRead, attributeRead, limit, rowId, tableOf, numberOf, sameRow};
 
 pub struct ClassNumber(pub usize);
 
@@ -17,6 +18,18 @@ pub enum ClassRead {
 pub enum AttributeRead {
     Attribute(AttributeNumber),
     Beyond,
+}
+
+// The two tables.
+pub enum TableId {
+    Attributes,
+    Classes,
+}
+
+// A row of either table.
+pub enum RowId {
+    Attribute(AttributeNumber),
+    Class(ClassNumber),
 }
 
 impl ClassNumber {
@@ -46,5 +59,60 @@ impl AttributeNumber {
         } else {
             AttributeRead::Beyond
         }
+    }
+}
+
+// How many rows a table can hold.
+pub fn row_limit(table: TableId) -> usize
+    ensures { λ r. ⌜ r ≡ limit table ⌝ }
+{
+    match table {
+        TableId::Attributes => AttributeNumber::LIMIT,
+        TableId::Classes => ClassNumber::LIMIT,
+    }
+}
+
+// Row k of a table.
+pub fn row_id(table: TableId, k: usize) -> RowId
+    ensures { λ r. ⌜ r ≡ rowId table k ⌝ }
+{
+    match table {
+        TableId::Attributes => RowId::Attribute(AttributeNumber(k)),
+        TableId::Classes => RowId::Class(ClassNumber(k)),
+    }
+}
+
+// The table of a row, and its number there.
+pub fn table_of(id: RowId) -> TableId
+    ensures { λ r. ⌜ r ≡ tableOf id ⌝ }
+{
+    match id {
+        RowId::Attribute(_) => TableId::Attributes,
+        RowId::Class(_) => TableId::Classes,
+    }
+}
+
+pub fn number_of(id: RowId) -> usize
+    ensures { λ r. ⌜ r ≡ numberOf id ⌝ }
+{
+    match id {
+        RowId::Attribute(a) => a.0,
+        RowId::Class(c) => c.0,
+    }
+}
+
+// Whether two rows are one.
+pub fn same_row(a: RowId, b: RowId) -> bool
+    ensures { λ r. ⌜ r ≡ sameRow (tableOf a) (numberOf a) (tableOf b) (numberOf b) ⌝ }
+{
+    match a {
+        RowId::Attribute(k) => match b {
+            RowId::Attribute(j) => k.0 == j.0,
+            RowId::Class(_) => false,
+        },
+        RowId::Class(k) => match b {
+            RowId::Attribute(_) => false,
+            RowId::Class(j) => k.0 == j.0,
+        },
     }
 }

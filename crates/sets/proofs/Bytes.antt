@@ -16,7 +16,8 @@ use Rattle.prelude.specs.BelowLaws.{says-all}
 use Rattle.prelude.specs.Part.{isZero}
 use Rattle.prelude.specs.SaysLaws.{says-iff, says-same, says-eq, says-true, says-false}
 use Rattle.sets.specs.Sets.{flag, digit, bit, member, setOf, withMember, withoutMember, union, isEmpty}
-use Rattle.sets.specs.SetsLaws.{digit-lt, digit-zero, digit-suc, no-digit, digit-ext, digit-bit, bit-past, bit-flag, is-set, set-bytes, bit-set, flag-or, flag-and, or-false, and-true, says-empty}
+use Rattle.sets.specs.SetsLaws.{digit-lt, digit-zero, digit-suc, no-digit, digit-ext, digit-bit, bit-past, bit-flag, is-set, set-bytes, bit-set}
+use Rattle.sets.specs.SetsLaws.{flag-or, flag-and, or-false, and-true, says-empty}
 
 -- ---- digits of the machine's operations
 
@@ -50,7 +51,8 @@ digit-pow m j = go (ℕ-discrete j m)
   where
     here : (m : ℕ) → digit (2 ^ m) m ≡ 1
     here zero = digit-zero 1
-    here (suc m) = digit-suc (2 ^ suc m) m ∙ ap (λ (y : ℕ). digit (y / 2) m) (pow-suc 2 m) ∙ ap (λ (y : ℕ). digit y m) (mul-div-cancel (2 ^ m) (zero-lt-suc 1)) ∙ here m
+    here (suc m) = digit-suc (2 ^ suc m) m ∙ ap (λ (y : ℕ). digit (y / 2) m) (pow-suc 2 m)
+        ∙ ap (λ (y : ℕ). digit y m) (mul-div-cancel (2 ^ m) (zero-lt-suc 1)) ∙ here m
 
     other : (m j : ℕ) → ¬ (j ≡ m) → digit (2 ^ m) j ≡ 0
     other zero zero h = absurd (h refl)
@@ -139,7 +141,8 @@ unfolding union
 union-byte a b i l ha hb =
     digit-ext 8 (bitOr (getD a i 0) (getD b i 0)) (getD (setOf (length a) f) i 0) (or-lt 8 (getD a i 0) (getD b i 0) ha hb) (set-bytes (length a) f i) (λ k m.
     digit-or (getD a i 0) (getD b i 0) k ∙ ap₂ max (digit-bit a i k m ∙ bit-flag a (i * 8 + k)) (digit-bit b i k m ∙ bit-flag b (i * 8 + k))
-    ∙ sym (flag-or (member a (i * 8 + k)) (member b (i * 8 + k))) ∙ sym (bit-set (length a) f (i * 8 + k) (omega arith)) ∙ sym (digit-bit (setOf (length a) f) i k m))
+    ∙ sym (flag-or (member a (i * 8 + k)) (member b (i * 8 + k))) ∙ sym (bit-set (length a) f (i * 8 + k) (omega arith))
+    ∙ sym (digit-bit (setOf (length a) f) i k m))
   where
     f : ℕ → Bool
     f k = member a k || member b k
@@ -150,7 +153,8 @@ union-byte a b i l ha hb =
 pub subset-byte : (a b : List ℕ) (i : ℕ) → getD a i 0 < 256 → getD b i 0 < 256 → ((k : ℕ) → bit a k ≤ bit b k) → bitOr (getD a i 0) (getD b i 0) ≡ getD b i 0
 subset-byte a b i ha hb h =
     digit-ext 8 (bitOr (getD a i 0) (getD b i 0)) (getD b i 0) (or-lt 8 (getD a i 0) (getD b i 0) ha hb) hb (λ k l.
-    digit-or (getD a i 0) (getD b i 0) k ∙ (let p : bit a (i * 8 + k) ≤ bit b (i * 8 + k) = h (i * 8 + k) in omega (arith, digit-bit a i k l, digit-bit b i k l)))
+    digit-or (getD a i 0) (getD b i 0) k
+    ∙ (let p : bit a (i * 8 + k) ≤ bit b (i * 8 + k) = h (i * 8 + k) in omega (arith, digit-bit a i k l, digit-bit b i k l)))
 
 pub subset-bytes : (a b : List ℕ) → ((i : ℕ) → i < length a → bitOr (getD a i 0) (getD b i 0) ≡ getD b i 0) → (k : ℕ) → bit a k ≤ bit b k
 unfolding bit
@@ -163,7 +167,8 @@ subset-bytes a b h k = go (decLt (k / 8) (length a))
     y = getD b (k / 8) 0
 
     go : Dec (k / 8 < length a) → digit x (k % 8) ≤ digit y (k % 8)
-    go (yes l) = let p : digit y (k % 8) ≡ max (digit x (k % 8)) (digit y (k % 8)) = sym (ap (λ (n : ℕ). digit n (k % 8)) (h (k / 8) l)) ∙ digit-or x y (k % 8) in omega arith
+    go (yes l) = let p : digit y (k % 8) ≡ max (digit x (k % 8)) (digit y (k % 8)) = sym (ap (λ (n : ℕ). digit n (k % 8)) (h (k / 8) l))
+        ∙ digit-or x y (k % 8) in omega arith
     go (no g) = omega (arith, bit-past a k (omega arith))
 
 no-members : (s : List ℕ) (i : ℕ) → getD s i 0 < 256 → ((k : ℕ) → bit s k ≡ 0) → getD s i 0 ≡ 0

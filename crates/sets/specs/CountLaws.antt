@@ -28,7 +28,8 @@ count-le (suc n) p = omega (arith, count-le n p, flag-lt (p n))
 pub count-add : (n m : ℕ) (p : ℕ → Bool) → countBelow (n + m) p ≡ countBelow n p + countBelow m (λ k. p (n + k))
 unfolding countBelow
 count-add n zero p = rw (add-zero n) (sym (add-zero (countBelow n p)))
-count-add n (suc m) p = rw (add-suc n m) (ap (λ (x : ℕ). x + flag (p (n + m))) (count-add n m p) ∙ add-assoc (countBelow n p) (countBelow m (λ k. p (n + k))) (flag (p (n + m))))
+count-add n (suc m) p = rw (add-suc n m) (ap (λ (x : ℕ). x + flag (p (n + m))) (count-add n m p)
+    ∙ add-assoc (countBelow n p) (countBelow m (λ k. p (n + k))) (flag (p (n + m))))
 
 -- the first number, and then the others
 count-front : (n : ℕ) (p : ℕ → Bool) → countBelow (suc n) p ≡ flag (p 0) + countBelow n (λ k. p (suc k))
@@ -41,7 +42,8 @@ one-digits : (d x : ℕ) → x < 2 ^ d → ones x ≡ countBelow d (λ k. eqb (d
 unfolding countBelow ones
 one-digits zero x h = ap ones (lt-one h)
 one-digits (suc d) x h =
-    ones-step x ∙ ap₂ (λ (m n : ℕ). m + n) (sym (digit-zero x) ∙ sym (flag-one (digit x 0) (digit-lt x 0))) (one-digits d (x / 2) (half-lt d x h) ∙ count-cong d _ _ (λ k l. ap (λ (y : ℕ). eqb y 1) (sym (digit-suc x k))))
+    ones-step x ∙ ap₂ (λ (m n : ℕ). m + n) (sym (digit-zero x) ∙ sym (flag-one (digit x 0) (digit-lt x 0)))
+    (one-digits d (x / 2) (half-lt d x h) ∙ count-cong d _ _ (λ k l. ap (λ (y : ℕ). eqb y 1) (sym (digit-suc x k))))
     ∙ sym (count-front d (λ k. eqb (digit x k) 1))
 
 -- one more byte is counted
@@ -51,7 +53,8 @@ count-byte s i h =
     let e : (i + 1) * 8 ≡ i * 8 + 8 = omega arith in
     ap (λ (n : ℕ). countBelow n (member s)) e ∙ count-add (i * 8) 8 (member s)
     ∙ ap (λ (n : ℕ). countBelow (i * 8) (member s) + n)
-    (count-cong 8 (λ k. member s (i * 8 + k)) (λ k. eqb (digit (getD s i 0) k) 1) (λ k l. ap (λ (y : ℕ). eqb y 1) (sym (digit-bit s i k l))) ∙ sym (one-digits 8 (getD s i 0) h))
+    (count-cong 8 (λ k. member s (i * 8 + k)) (λ k. eqb (digit (getD s i 0) k) 1) (λ k l. ap (λ (y : ℕ). eqb y 1) (sym (digit-bit s i k l)))
+    ∙ sym (one-digits 8 (getD s i 0) h))
 
 -- ---- fewer pass
 

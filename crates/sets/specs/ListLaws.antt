@@ -2,7 +2,8 @@
 use mathlib.Core.Path.{_≡_, refl, sym, ap, ap₂, _∙_}
 use mathlib.Core.Bool.{Bool, true, false, cond, false≢true}
 use mathlib.Core.Logic.{⊎-elim, _↔_}
-use mathlib.Core.List.{List, [], _∷_, _++_, List·Memᴰ, List·Memᴰ·head, List·Memᴰ·tail, List·Memᴰ·not-nil, List·Memᴰ·eq-of-singleton, List·Memᴰ·append-cases, Memᴰ·append-left, Memᴰ·append-right, append-nil}
+use mathlib.Core.List.{List, [], _∷_, _++_, List·Memᴰ, List·Memᴰ·head, List·Memᴰ·tail, List·Memᴰ·not-nil, List·Memᴰ·eq-of-singleton}
+use mathlib.Core.List.{List·Memᴰ·append-cases, Memᴰ·append-left, Memᴰ·append-right, append-nil}
 use Prim.Native.Nat.{ℕ, zero, suc, _+_, _≤_, _<_}
 use native.Mathlib.Omega.{arith}
 use lib.ListN.{length, length-append}
@@ -14,7 +15,12 @@ use Rattle.sets.specs.Sets.{flag, countBelow, listBelow, from, Rises, no
 pub list-has : (n : ℕ) (p : ℕ → Bool) (k : ℕ) → List·Memᴰ k (listBelow n p) ↔ ((k < n) × (p k ≡ true))
 unfolding listBelow
 list-has zero p k = (λ m. absurd (List·Memᴰ·not-nil m), λ h. absurd (omega (arith, h .0)))
-list-has (suc n) p k = (λ m. ⊎-elim (λ w. up (list-has n p k .0 w)) (λ w. at-last (p n) refl w) (List·Memᴰ·append-cases (listBelow n p) m), λ h. ⊎-elim (λ l. Memᴰ·append-left (last (p n)) (list-has n p k .1 (l, h .1))) (λ e. Memᴰ·append-right (listBelow n p) (added (p n) (sym (ap p e) ∙ h .1) e)) (last-or-less (h .0)))
+list-has (suc n) p k = (
+  λ m. ⊎-elim (λ w. up (list-has n p k .0 w)) (λ w. at-last (p n) refl w) (List·Memᴰ·append-cases (listBelow n p) m),
+  λ h.
+      ⊎-elim (λ l. Memᴰ·append-left (last (p n)) (list-has n p k .1 (l, h .1)))
+      (λ e. Memᴰ·append-right (listBelow n p) (added (p n) (sym (ap p e) ∙ h .1) e)) (last-or-less (h .0)),
+)
   where
     last : Bool → List ℕ
     last b = cond b (n ∷ []) []
@@ -60,7 +66,8 @@ list-none zero p h = refl
 list-none (suc n) p h = rw (list-none n p (λ k l. h k (omega arith)), h n (omega arith))
 
 -- the first that passes, and then those after it
-pub list-next : (n i m : ℕ) (p : ℕ → Bool) → m < n → i ≤ m → p m ≡ true → ((k : ℕ) → k < m → from i p k ≡ false) → listBelow n (from i p) ≡ m ∷ listBelow n (from (m + 1) p)
+pub list-next : (n i m : ℕ) (p : ℕ → Bool) → m < n → i ≤ m → p m ≡ true → ((k : ℕ) → k < m → from i p k ≡ false) → listBelow n (from i p)
+    ≡ m ∷ listBelow n (from (m + 1) p)
 unfolding listBelow
 list-next zero i m p l h e f = absurd (omega arith)
 list-next (suc n) i m p l h e f = ⊎-elim (λ b. before b (list-next n i m p b h e f)) here (last-or-less l)

@@ -46,7 +46,8 @@ pub digit-ext : (d x y : ℕ) → x < 2 ^ d → y < 2 ^ d → ((k : ℕ) → k <
 digit-ext zero x y hx hy h = lt-one hx ∙ sym (lt-one hy)
 digit-ext (suc d) x y hx hy h =
     let low : x % 2 ≡ y % 2 = sym (digit-zero x) ∙ h 0 (omega arith) ∙ digit-zero y in
-    let high : x / 2 ≡ y / 2 = digit-ext d (x / 2) (y / 2) (half-lt d x hx) (half-lt d y hy) (λ k l. sym (digit-suc x k) ∙ h (suc k) (omega arith) ∙ digit-suc y k) in
+    let high : x / 2 ≡ y / 2 = digit-ext d (x / 2) (y / 2) (half-lt d x hx) (half-lt d y hy)
+    (λ k l. sym (digit-suc x k) ∙ h (suc k) (omega arith) ∙ digit-suc y k) in
     omega arith
 
 pub flag-lt : (b : Bool) → flag b < 2
@@ -267,8 +268,11 @@ says-subset a b = says-iff (says-all (length a * 8) {P = λ k. bit a k ≤ bit b
   where
     each : (k : ℕ) → Says (not (member a k) || member b k) (bit a k ≤ bit b k)
     each k =
-        says-iff (says-or (says-not (says-member a k)) (says-member b k))
-        (⊎-elim (λ d. omega (arith, d, bit-lt a k)) (λ e. omega (arith, e, bit-lt a k)), λ h. ⊎-elim (λ z. inl (λ o. omega arith)) (λ o. inr (omega (arith, o, h, bit-lt b k))) (bit-cases a k))
+        says-iff (says-or (says-not (says-member a k)) (says-member b k)) (
+          ⊎-elim (λ d. omega (arith, d, bit-lt a k)) (λ e. omega (arith, e, bit-lt a k)),
+          λ h. ⊎-elim (λ z. inl (λ o. omega arith))
+              (λ o. inr (omega (arith, o, h, bit-lt b k))) (bit-cases a k),
+        )
 
     far : ((k : ℕ) → k < length a * 8 → bit a k ≤ bit b k) → (k : ℕ) → Dec (k < length a * 8) → bit a k ≤ bit b k
     far h k (yes l) = h k l
@@ -276,7 +280,8 @@ says-subset a b = says-iff (says-all (length a * 8) {P = λ k. bit a k ≤ bit b
 
 pub says-empty : (s : List ℕ) → Says (isEmpty s) ((k : ℕ) → bit s k ≡ 0)
 unfolding isEmpty
-says-empty s = says-iff (says-not (says-any (length s * 8) {P = λ k. bit s k ≡ 1} (λ k l. says-member s k))) (λ n k. none n k (decLt k (length s * 8)) (bit-cases s k), λ h q. omega (arith, h (q .at), q .is))
+says-empty s = says-iff (says-not (says-any (length s * 8) {P = λ k. bit s k ≡ 1} (λ k l. says-member s k)))
+    (λ n k. none n k (decLt k (length s * 8)) (bit-cases s k), λ h q. omega (arith, h (q .at), q .is))
   where
     none : ¬ (Some (length s * 8) (λ k. bit s k ≡ 1)) → (k : ℕ) → Dec (k < length s * 8) → (bit s k ≡ 0) ⊎ (bit s k ≡ 1) → bit s k ≡ 0
     none n k d (inl z) = z
@@ -291,7 +296,8 @@ flag-true false e = absurd (omega arith)
 
 -- within the bytes the test's own value is the member
 pub member-within : (n : ℕ) (f : ℕ → Bool) (k : ℕ) → k < n * 8 → member (setOf n f) k ≡ f k
-member-within n f k l = says-same (says-member (setOf n f) k) (says-iff (says-test (f k)) (λ e. bit-set n f k l ∙ ap flag e, λ e. flag-true (f k) (sym (bit-set n f k l) ∙ e)))
+member-within n f k l = says-same (says-member (setOf n f) k)
+    (says-iff (says-test (f k)) (λ e. bit-set n f k l ∙ ap flag e, λ e. flag-true (f k) (sym (bit-set n f k l) ∙ e)))
 
 -- the test's own value at a member; past the bytes there is none
 pub member-set : (n : ℕ) (f : ℕ → Bool) (k : ℕ) → (n * 8 ≤ k → f k ≡ false) → member (setOf n f) k ≡ f k
@@ -309,7 +315,8 @@ says-same-sets n f g =
 
 -- inclusion: one test implies the other
 pub says-subset-sets : (n : ℕ) (f g : ℕ → Bool) → Says (subset (setOf n f) (setOf n g)) ((k : ℕ) → k < n * 8 → f k ≡ true → g k ≡ true)
-says-subset-sets n f g = says-iff (says-subset (setOf n f) (setOf n g)) (λ h k l e. to k l e (h k), λ h k. from k (h k) (decLt k (n * 8)) (true-or-false (f k)))
+says-subset-sets n f g = says-iff (says-subset (setOf n f) (setOf n g))
+    (λ h k l e. to k l e (h k), λ h k. from k (h k) (decLt k (n * 8)) (true-or-false (f k)))
   where
     to : (k : ℕ) → k < n * 8 → f k ≡ true → bit (setOf n f) k ≤ bit (setOf n g) k → g k ≡ true
     to k l e b = flag-true (g k) (omega (arith, b, bit-set n f k l ∙ ap flag e, bit-set n g k l, flag-lt (g k)))
@@ -355,7 +362,8 @@ union-append a b c d p q =
     (append-bytes (union a c) (union b d) (union-bytes a c) (union-bytes b d)) (λ k. each k (decLt k (length a * 8)))
   where
     long : length (union (a ++ b) (c ++ d)) ≡ length (union a c ++ union b d)
-    long = union-length (a ++ b) (c ++ d) ∙ length-append a b ∙ sym (length-append (union a c) (union b d) ∙ ap₂ (λ (x y : ℕ). x + y) (union-length a c) (union-length b d))
+    long = union-length (a ++ b) (c ++ d) ∙ length-append a b
+        ∙ sym (length-append (union a c) (union b d) ∙ ap₂ (λ (x y : ℕ). x + y) (union-length a c) (union-length b d))
 
     whole : (k : ℕ) → bit (union (a ++ b) (c ++ d)) k ≡ max (bit (a ++ b) k) (bit (c ++ d) k)
     whole k = bit-union (a ++ b) (c ++ d) k (simp length-append (omega arith))

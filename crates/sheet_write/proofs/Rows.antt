@@ -1,136 +1,81 @@
 -- The rows of a table, field by field, and the sheet as its parts.
-use mathlib.Core.Path.{_≡_, sym, ap, ap₂, _∙_}
 use mathlib.Core.Bool.{true}
 use mathlib.Core.List.{List, [], _∷_, _++_}
+use mathlib.Core.Path.{_≡_, refl, ap, _∙_}
 use Prim.Native.Nat.{ℕ, _+_, _*_, _≤_, _<_}
 use native.Mathlib.Omega.{arith}
-use native.Mathlib.Nat.{zero-add}
 use lib.ListN.{length, length-append}
-use Rattle.prelude.specs.Part.{rowAt, splice}
-use Rattle.prelude.specs.PartLaws.{part-length, row-fits}
-use Rattle.prelude.specs.SpliceLaws.{splice-length, splice-none, write-turn}
+use Rattle.prelude.specs.Part.{splice}
+use Rattle.prelude.specs.Concat.{concatBelow}
+use Rattle.prelude.specs.ConcatLaws.{concat-short}
+use Rattle.prelude.specs.Written.{WrittenAt}
+use Rattle.prelude.specs.WrittenLaws.{written-length, written-then}
 use Rattle.wire.specs.Wire.{headerBytes}
 use Rattle.wire.specs.WireLaws.{field-length}
-use Rattle.schema.specs.Numbers.{attributeLimit, classLimit}
-use Rattle.schema.specs.Layout.{rowsAt, attributeWidth, classWidth}
-use Rattle.schema.specs.Store.{Table, tableOf, attributeTable, classTable}
-use Rattle.prelude.specs.ConcatLaws.{concat-none, concat-more, concat-more-length, concat-within, concat-next-within, concat-short}
-use Rattle.formats.specs.declared.table.Kind.{Kind}
-use Rattle.formats.specs.declared.table.Kind.the-variants.{Attribute, Class}
-use Rattle.formats.specs.Rules.{wellFormedBy, writeBy}
-use Rattle.formats.specs.Formats.{formatOf, widthOf}
-use Rattle.rows.specs.WellFormedLaws.{attribute-parts, class-parts}
+use Rattle.schema.specs.declared.number.TableId.{TableId}
+use Rattle.schema.specs.declared.number.TableId.the-variants.{Attributes, Classes}
+use Rattle.schema.specs.Numbers.{limit, attributeLimit}
+use Rattle.schema.specs.NumbersLaws.{limit-most}
+use Rattle.schema.specs.Store.{Table, Schema, tableIn}
+use Rattle.schema.specs.StoreLaws.{table-row-length}
+use Rattle.rows_format.specs.declared.format.Format.the-variants.{Row}
+use Rattle.rows_format.specs.Columns.{wellFormedBy, writeBy}
+use Rattle.rows_format.specs.Formats.{columnsOf, formatWidth, bytes}
+use Rattle.rows_format.specs.ShortLaws.{written-short}
+use Rattle.rows_read.specs.WellFormedLaws.{formed-parts}
 use Rattle.rows_write.proofs.Writing.{field-put}
-use Rattle.sheet_write.specs.Writing.{heading, rowField, rowFields, sheetBytes, WritableRow, WritableRows, Writable}
-use Rattle.formats.specs.ShortLaws.{written-short}
+use Rattle.sheet_write.specs.Writing.{heading, rowTag, rowField, rowFields, sheetBytes, WritableRow, Writable}
 
 -- ---- one row
 
-pub row-field-length : (kind : Kind) (tag : ℕ) (row : List ℕ) → length (rowField kind tag row) ≡ 3 + length (writeBy (formatOf kind) row)
+pub row-field-length : (t : TableId) (row : List ℕ) → length (rowField t row) ≡ 3 + length (writeBy (columnsOf (Row t)) row)
 unfolding rowField
-row-field-length kind tag row = field-length tag (writeBy (formatOf kind) row)
+row-field-length t row = field-length (rowTag t) (writeBy (columnsOf (Row t)) row)
 
--- a row that was cut out of a store, by a width that was computed
-pub record Cut (kind : Kind) (s : List ℕ) (k : ℕ) (row : List ℕ) : Type 0 where
-  pub same : row ≡ rowAt rowsAt (widthOf kind) s k
-  pub wide : widthOf kind ≤ length row
-  pub formed : wellFormedBy (formatOf kind) row ≡ true
-
-module _ (kind : Kind) (s : List ℕ) (k : ℕ) where
-  pub row-within : {w : ℕ} → w ≡ widthOf kind → WritableRow kind s k → rowsAt + w * k + w ≤ length s
-  row-within e h = rw e (h .within)
-
-  pub row-cut : (row : List ℕ) {w : ℕ} → w ≡ widthOf kind → row ≡ rowAt rowsAt w s k → WritableRow kind s k → Cut kind s k row
-  row-cut row e q h =
-      let same : row ≡ rowAt rowsAt (widthOf kind) s k = q ∙ ap (λ (n : ℕ). rowAt rowsAt n s k) e in
-      let long : length row ≡ widthOf kind = ap length same ∙ part-length (rowsAt + widthOf kind * k) (widthOf kind) s (h .within) in
-      record { same = same; wide = omega arith; formed = rw same (h .formed) }
-
-  pub cut-length : (tag : ℕ) {row : List ℕ} → Cut kind s k row → 3 + length (writeBy (formatOf kind) row) ≡ length (rowField kind tag (rowAt rowsAt (widthOf kind) s k))
-  cut-length tag {row} t = sym (row-field-length kind tag row) ∙ ap (λ (r : List ℕ). length (rowField kind tag r)) (t .same)
+-- what writing its columns asks
+pub row-columns : (t : TableId) (row : List ℕ) → WritableRow t row → (formatWidth (Row t) ≤ length row) × (wellFormedBy (columnsOf (Row t)) row ≡ true)
+unfolding formatWidth
+row-columns t row w = (omega (arith, w .wide), formed-parts t row (w .formed) .0)
 
 -- the header written, and then the value
-pub row-put : (kind : Kind) (tag at n next : ℕ) (row out head whole : List ℕ) → n ≡ length (writeBy (formatOf kind) row) → next ≡ at + 3 → at + 3 ≤ length out
-    → head ≡ splice at (headerBytes tag n) out → whole ≡ splice next (writeBy (formatOf kind) row) head → whole ≡ splice at (rowField kind tag row) out
-unfolding rowField
-row-put kind tag at n next row out head whole e m h p q =
-    let v : List ℕ = writeBy (formatOf kind) row in
-    field-put at tag v out head whole h (p ∙ ap (λ (k : ℕ). splice at (headerBytes tag k) out) e) (q ∙ ap (λ (k : ℕ). splice k v head) m)
+pub row-put : (t : TableId) (at n tag next : ℕ) (row out head whole : List ℕ) → n ≡ length (writeBy (columnsOf (Row t)) row) → tag ≡ rowTag t
+    → at + 3 ≤ length out
+    → head ≡ splice at (headerBytes tag n) out → WrittenAt (writeBy (columnsOf (Row t)) row) (at + 3) next head whole
+    → WrittenAt (rowField t row) at next out whole
+row-put t at n tag next row out head whole e q h p w = record {
+  place = omega (arith, row-field-length t row, w .place);
+  bytes = unfold rowField in
+      (field-put at (rowTag t) v out head whole h
+      (p ∙ ap (λ (k : ℕ). splice at (headerBytes k n) out) q ∙ ap (λ (k : ℕ). splice at (headerBytes (rowTag t) k) out) e) (w .bytes));
+}
+  where
+    v : List ℕ
+    v = writeBy (columnsOf (Row t)) row
 
--- ---- the first rows of a store
+-- ---- the rows of a table
 
-module _ (kind : Kind) (tag : ℕ) (s : List ℕ) where
-  abbrev pub fields : ℕ → List ℕ
-  fields n = rowFields kind tag (tableOf (widthOf kind) s n)
-
+module _ (t : TableId) (rows : Table) where
   abbrev pub fieldOfRow : ℕ → List ℕ
-  fieldOfRow k = rowField kind tag (rowAt rowsAt (widthOf kind) s k)
+  fieldOfRow k = rowField t (rows .row k)
 
-  pub rows-none : fields 0 ≡ []
+  pub fields-all : {n : ℕ} → n ≡ rows .count → rowFields t rows ≡ concatBelow n fieldOfRow
   unfolding rowFields
-  rows-none = concat-none fieldOfRow
+  fields-all e = rw e
 
-  pub rows-more : (k : ℕ) → fields (k + 1) ≡ fields k ++ fieldOfRow k
-  unfolding rowFields
-  rows-more = concat-more fieldOfRow
+  fields-short : (n : ℕ) → length (concatBelow n fieldOfRow) ≤ 65539 * n
+  fields-short n = concat-short fieldOfRow 65539 n (λ k l. omega (arith, row-field-length t (rows .row k), written-short (Row t) (rows .row k)))
 
-  pub more-length : (k : ℕ) → length (fields (k + 1)) ≡ length (fields k) + length (fieldOfRow k)
-  unfolding rowFields
-  more-length = concat-more-length fieldOfRow
+  -- the length so far, with the next row's, is no number that wraps
+  pub next-short : (k : ℕ) → k < attributeLimit → length (concatBelow (k + 1) fieldOfRow) ≤ 65539 * attributeLimit
+  next-short k l = omega (arith, fields-short (k + 1))
 
-  pub rows-within : (k n : ℕ) → k ≤ n → length (fields k) ≤ length (fields n)
-  unfolding rowFields
-  rows-within = concat-within fieldOfRow
+  pub all-short : rows .count ≤ limit t → length (rowFields t rows) ≤ 65539 * attributeLimit
+  all-short few = omega (arith, fields-short (rows .count), ap length (fields-all refl), limit-most t)
 
-  pub next-fits : (k n : ℕ) → k < n → length (fields k) + length (fieldOfRow k) ≤ length (fields n)
-  unfolding rowFields
-  next-fits = concat-next-within fieldOfRow
+-- ---- the rows of a store
 
-  pub rows-short : (n : ℕ) → length (fields n) ≤ 65539 * n
-  unfolding rowFields
-  rows-short n = concat-short fieldOfRow 65539 n (λ k l. omega (arith, row-field-length kind tag (rowAt rowsAt (widthOf kind) s k), written-short kind (rowAt rowsAt (widthOf kind) s k)))
-
-  -- one row more is written behind the others
-  pub put-more : (k at next : ℕ) (o out r : List ℕ) → at + length (fields k) ≤ length o → next ≡ at + length (fields k) → out ≡ splice at (fields k) o
-      → r ≡ splice next (fieldOfRow k) out → r ≡ splice at (fields (k + 1)) o
-  put-more k at next o out r h e p q = q ∙ write-turn at next (fields k) (fieldOfRow k) o out h e p ∙ ap (λ (v : List ℕ). splice at v o) (sym (rows-more k))
-
-  pub put-length : (k n at : ℕ) (o out : List ℕ) → k ≤ n → at + length (fields n) ≤ length o → out ≡ splice at (fields k) o → length out ≡ length o
-  put-length k n at o out l h p = ap length p ∙ splice-length at (fields k) o (omega (arith, rows-within k n l))
-
-  pub put-none : (at : ℕ) (o : List ℕ) → o ≡ splice at (fields 0) o
-  put-none at o = sym (ap (λ (v : List ℕ). splice at v o) rows-none ∙ splice-none at o)
-
--- ---- the two tables
-
-attribute-rows : (a : List ℕ) (tag : ℕ) {n : ℕ} → n ≡ attributeTable a .count → rowFields Attribute tag (tableOf (widthOf Attribute) a n) ≡ rowFields Attribute tag (attributeTable a)
-unfolding widthOf
-attribute-rows a tag e = rw e
-
-class-rows : (c : List ℕ) (tag : ℕ) {n : ℕ} → n ≡ classTable c .count → rowFields Class tag (tableOf (widthOf Class) c n) ≡ rowFields Class tag (classTable c)
-unfolding widthOf
-class-rows c tag e = rw e
-
-module _ (a c : List ℕ) where
-  pub writable-attributes : {n : ℕ} → Writable a c → n ≡ attributeTable a .count → WritableRows Attribute a n
-  unfolding widthOf
-  writable-attributes {n} w e = record {
-    few = omega (arith, w .ready .attributesFew);
-    each = λ k l. record {
-      within = row-fits rowsAt attributeWidth attributeLimit k (length a) (w .ready .attributesLong) (omega (arith, w .ready .attributesFew));
-      formed = attribute-parts (attributeTable a .row k) (w .attributes k (omega arith)) .0;
-    };
-  }
-
-  pub writable-classes : {n : ℕ} → Writable a c → n ≡ classTable c .count → WritableRows Class c n
-  unfolding widthOf
-  writable-classes {n} w e = record {
-    few = omega (arith, w .ready .classesFew);
-    each = λ k l. record {
-      within = row-fits rowsAt classWidth classLimit k (length c) (w .ready .classesLong) (omega (arith, w .ready .classesFew));
-      formed = class-parts (classTable c .row k) (w .classes k (omega arith));
-    };
-  }
+pub row-writable : (t : TableId) (s : List ℕ) (k : ℕ) → Writable t s → k < tableIn t s .count → WritableRow t (tableIn t s .row k)
+row-writable t s k w l = record { wide = table-row-length t s k (w .long) (omega (arith, w .few)); formed = w .rows k l }
 
 -- ---- the sheet
 
@@ -138,23 +83,19 @@ pub heading-length : length heading ≡ 4
 unfolding heading
 heading-length = field-length 1 (1 ∷ [])
 
-module _ (ta tc : Table) where
-  pub sheet-size : length (sheetBytes ta tc) ≡ 4 + length (rowFields Attribute 32 ta) + length (rowFields Class 48 tc)
+module _ (m : Schema) where
+  pub sheet-size : length (sheetBytes m) ≡ 4 + length (rowFields Attributes (m .attributes)) + length (rowFields Classes (m .classes))
   unfolding sheetBytes
-  sheet-size = omega (arith, length-append heading (rowFields Attribute 32 ta ++ rowFields Class 48 tc), length-append (rowFields Attribute 32 ta) (rowFields Class 48 tc), heading-length)
+  sheet-size =
+      let u : List ℕ = rowFields Attributes (m .attributes) in
+      let v : List ℕ = rowFields Classes (m .classes) in
+      omega (arith, length-append heading (u ++ v), length-append u v, heading-length)
 
   -- the heading, then the attribute rows, then the class rows
-  pub sheet-put : (first next : ℕ) (o p q r : List ℕ) → length (sheetBytes ta tc) ≤ length o → first ≡ length heading → next ≡ first + length (rowFields Attribute 32 ta)
-      → p ≡ splice 0 heading o → q ≡ splice first (rowFields Attribute 32 ta) p → r ≡ splice next (rowFields Class 48 tc) q → r ≡ splice 0 (sheetBytes ta tc) o
+  pub sheet-put : (first next last : ℕ) (o p q r : List ℕ) → length (sheetBytes m) ≤ length o → WrittenAt heading 0 first o p
+      → WrittenAt (rowFields Attributes (m .attributes)) first next p q → WrittenAt (rowFields Classes (m .classes)) next last q r → r
+      ≡ splice 0 (sheetBytes m) o
   unfolding sheetBytes
-  sheet-put first next o p q r h e f x y z =
-      let u : List ℕ = rowFields Attribute 32 ta in
-      let v : List ℕ = rowFields Class 48 tc in
-      let long : length p ≡ length o = ap length x ∙ splice-length 0 heading o (omega (arith, sheet-size, heading-length)) in
-      z ∙ write-turn first next u v p q (omega (arith, sheet-size, heading-length, long)) f y
-      ∙ write-turn 0 first heading (u ++ v) o p (omega (arith, sheet-size, heading-length)) (e ∙ sym (zero-add (length heading))) x
-
--- by the counts that were read
-pub sheet-is : (a c : List ℕ) {n m : ℕ} → n ≡ attributeTable a .count → m ≡ classTable c .count → sheetBytes (tableOf (widthOf Attribute) a n) (tableOf (widthOf Class) c m) ≡ sheetBytes (attributeTable a) (classTable c)
-unfolding sheetBytes
-sheet-is a c e f = ap₂ (λ (u v : List ℕ). heading ++ (u ++ v)) (attribute-rows a 32 e) (class-rows c 48 f)
+  sheet-put first next last o p q r h x y z =
+      let long : length p ≡ length o = written-length (omega (arith, sheet-size, heading-length)) x in
+      written-then (omega (arith, sheet-size, heading-length)) x (written-then (omega (arith, sheet-size, heading-length, long, x .place)) y z) .bytes

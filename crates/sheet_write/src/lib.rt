@@ -1,81 +1,89 @@
-// The sheet of two tables: how long it is, and its bytes written into a lent output.
-use formats::table::Kind;
-use formats::table::row_width;
-use prelude::part::row_of;
+// The sheet of a schema: how long it is, and its bytes written into a lent output.
+use rows_format::format::Format;
 use rows_write::write::row_length;
 use rows_write::write::write_row;
-use schema::layout::ROWS;
-use schema::store::attribute_count;
-use schema::store::class_count;
-use sheet::read::ATTRIBUTE;
-use sheet::read::CLASS;
-use sheet::read::HEADING;
+use schema::number::TableId;
+use schema::number::row_id;
+use schema::store::row;
+use schema::store::row_count;
+use sheet_read::read::ATTRIBUTE;
+use sheet_read::read::CLASS;
+use sheet_read::read::HEADING;
 use wire::HEADER;
 use wire::write_field;
 use wire::write_header;
 ghost use mathlib.Core.Path.{_≡_};
-ghost use Prim.Native.Nat.{ℕ, _+_, _≤_};
+ghost use Prim.Native.Nat.{_+_, _≤_};
 ghost use lib.ListN.{length};
-ghost use Rattle.prelude.specs.Part.{rowAt, splice};
-ghost use Rattle.schema.specs.Layout.{rowsAt};
-ghost use Rattle.schema.specs.Store.{tableOf, attributeTable, classTable};
-ghost use Rattle.formats.specs.Formats.{widthOf};
-ghost use Rattle.sheet_write.specs.Writing.{heading, rowField, rowFields, sheetBytes, WritableRow, WritableRows, Writable};
+ghost use Rattle.prelude.specs.Part.{splice};
+ghost use Rattle.prelude.specs.Written.{WrittenAt};
+ghost use Rattle.schema.specs.declared.number.TableId.the-variants.{Attributes, Classes};
+ghost use Rattle.schema.specs.Store.{tableIn, schemaIn};
+ghost use Rattle.sheet_write.specs.Writing.{heading, rowTag, rowField, rowFields, sheetBytes, WritableRow, Writable};
 
-// How long the field of row k of a store is, whatever its tag.
-fn field_length(kind: Kind, store: &[u8], k: usize) -> usize
-    requires { ⌜ WritableRow kind (now store) k ⌝ }
-    ensures { λ r. ⌜ ((tag : ℕ) → r ≡ length (rowField kind tag (rowAt rowsAt (widthOf kind) (now (store .entry)) k))) ⌝ }
+// The tag of a table's rows.
+fn row_tag(table: TableId) -> u8
+    ensures { λ r. ⌜ r ≡ rowTag table ⌝ }
 {
-    HEADER + row_length(kind, row_of(store, ROWS, row_width(kind), k))
+    match table {
+        TableId::Attributes => ATTRIBUTE,
+        TableId::Classes => CLASS,
+    }
 }
 
-// How long the fields of the first n rows are.
-fn rows_length(kind: Kind, store: &[u8], n: usize) -> usize
-    requires { ⌜ WritableRows kind (now store) n ⌝ }
-    ensures { λ r. ⌜ ((tag : ℕ) → r ≡ length (rowFields kind tag (tableOf (widthOf kind) (now (store .entry)) n))) ⌝ }
+// How long the field of a row is.
+fn row_field_length(table: TableId, row: &[u8]) -> usize
+    requires { ⌜ WritableRow table (now row) ⌝ }
+    ensures { λ r. ⌜ r ≡ length (rowField table (now (row .entry))) ⌝ }
 {
+    HEADER + row_length(Format::Row(table), row)
+}
+
+// How long the fields of a table's rows are.
+fn row_fields_length(table: TableId, store: &[u8]) -> usize
+    requires { ⌜ Writable table (now store) ⌝ }
+    ensures { λ r. ⌜ r ≡ length (rowFields table (tableIn table (now (store .entry)))) ⌝ }
+{
+    let count = row_count(table, store);
     let mut total = 0;
     let mut k = 0;
-    while k < n {
-        total += field_length(kind, store, k);
+    while k < count {
+        total += row_field_length(table, row(store, row_id(table, k)));
         k += 1;
     }
     total
 }
 
-// How long the sheet of two tables is.
+// How long the sheet of the schema in two stores is.
 pub fn sheet_length(attributes: &[u8], classes: &[u8]) -> usize
-    requires { ⌜ Writable (now attributes) (now classes) ⌝ }
-    ensures { λ r. ⌜ r ≡ length (sheetBytes (attributeTable (now (attributes .entry))) (classTable (now (classes .entry)))) ⌝ }
+    requires { ⌜ Writable Attributes (now attributes) × Writable Classes (now classes) ⌝ }
+    ensures { λ r. ⌜ r ≡ length (sheetBytes (schemaIn (now (attributes .entry)) (now (classes .entry)))) ⌝ }
 {
-    let before = rows_length(Kind::Attribute, attributes, attribute_count(attributes));
-    let behind = rows_length(Kind::Class, classes, class_count(classes));
+    let before = row_fields_length(TableId::Attributes, attributes);
+    let behind = row_fields_length(TableId::Classes, classes);
     HEADER + 1 + before + behind
 }
 
-// Writes the field of row k at a place, and gives the place after it.
-fn put_row(kind: Kind, tag: u8, store: &[u8], k: usize, out: &mut [u8], at: usize) -> usize
-    requires { ⌜ WritableRow kind (now store) k × (at + length (rowField kind tag (rowAt rowsAt (widthOf kind) (now store) k)) ≤ length (now out)) ⌝ }
-    ensures { λ r. ⌜ (r ≡ at + length (rowField kind tag (rowAt rowsAt (widthOf kind) (now (store .entry)) k)))
-        × (now (out .exit) ≡ splice at (rowField kind tag (rowAt rowsAt (widthOf kind) (now (store .entry)) k)) (now (out .entry))) ⌝ }
+// Writes the field of a row at a place, and gives the place after it.
+fn put_row_field(table: TableId, row: &[u8], out: &mut [u8], at: usize) -> usize
+    requires { ⌜ WritableRow table (now row) × (at + length (rowField table (now row)) ≤ length (now out)) ⌝ }
+    ensures { λ r. ⌜ WrittenAt (rowField table (now (row .entry))) at r (now (out .entry)) (now (out .exit)) ⌝ }
 {
-    let row = row_of(store, ROWS, row_width(kind), k);
-    let n = row_length(kind, row);
-    write_header(out, at, tag, n as u16);
-    write_row(kind, row, out, at + HEADER)
+    let n = row_length(Format::Row(table), row);
+    write_header(out, at, row_tag(table), n as u16);
+    write_row(Format::Row(table), row, out, at + HEADER)
 }
 
-// Writes the fields of the first n rows at a place, and gives the place after them.
-fn put_rows(kind: Kind, tag: u8, store: &[u8], n: usize, out: &mut [u8], at: usize) -> usize
-    requires { ⌜ WritableRows kind (now store) n × (at + length (rowFields kind tag (tableOf (widthOf kind) (now store) n)) ≤ length (now out)) ⌝ }
-    ensures { λ r. ⌜ (r ≡ at + length (rowFields kind tag (tableOf (widthOf kind) (now (store .entry)) n)))
-        × (now (out .exit) ≡ splice at (rowFields kind tag (tableOf (widthOf kind) (now (store .entry)) n)) (now (out .entry))) ⌝ }
+// Writes the fields of a table's rows at a place, and gives the place after them.
+fn put_row_fields(table: TableId, store: &[u8], out: &mut [u8], at: usize) -> usize
+    requires { ⌜ Writable table (now store) × (at + length (rowFields table (tableIn table (now store))) ≤ length (now out)) ⌝ }
+    ensures { λ r. ⌜ WrittenAt (rowFields table (tableIn table (now (store .entry)))) at r (now (out .entry)) (now (out .exit)) ⌝ }
 {
+    let count = row_count(table, store);
     let mut next = at;
     let mut k = 0;
-    while k < n {
-        next = put_row(kind, tag, store, k, out, next);
+    while k < count {
+        next = put_row_field(table, row(store, row_id(table, k)), out, next);
         k += 1;
     }
     next
@@ -84,26 +92,20 @@ fn put_rows(kind: Kind, tag: u8, store: &[u8], n: usize, out: &mut [u8], at: usi
 // Writes the heading, and gives the place after it.
 fn put_heading(out: &mut [u8]) -> usize
     requires { ⌜ length heading ≤ length (now out) ⌝ }
-    ensures { λ r. ⌜ (r ≡ length heading) × (now (out .exit) ≡ splice 0 heading (now (out .entry))) ⌝ }
+    ensures { λ r. ⌜ WrittenAt heading 0 r (now (out .entry)) (now (out .exit)) ⌝ }
 {
     let one = [1u8; 1];
     write_field(out, 0, HEADING, &one);
     HEADER + 1
 }
 
-// Writes the sheet of two tables to the front of out.
+// Writes the sheet of the schema in two stores to the front of out.
 pub fn write_sheet(attributes: &[u8], classes: &[u8], out: &mut [u8])
-    requires { ⌜ Writable (now attributes) (now classes) × (length (sheetBytes (attributeTable (now attributes)) (classTable (now classes))) ≤ length (now out)) ⌝ }
-    ensures { λ _. ⌜ now (out .exit) ≡ splice 0 (sheetBytes (attributeTable (now (attributes .entry))) (classTable (now (classes .entry)))) (now (out .entry)) ⌝ }
+    requires { ⌜ Writable Attributes (now attributes) × Writable Classes (now classes)
+        × (length (sheetBytes (schemaIn (now attributes) (now classes))) ≤ length (now out)) ⌝ }
+    ensures { λ _. ⌜ now (out .exit) ≡ splice 0 (sheetBytes (schemaIn (now (attributes .entry)) (now (classes .entry)))) (now (out .entry)) ⌝ }
 {
     let first = put_heading(out);
-    let next = put_rows(
-        Kind::Attribute,
-        ATTRIBUTE,
-        attributes,
-        attribute_count(attributes),
-        out,
-        first,
-    );
-    put_rows(Kind::Class, CLASS, classes, class_count(classes), out, next);
+    let next = put_row_fields(TableId::Attributes, attributes, out, first);
+    put_row_fields(TableId::Classes, classes, out, next);
 }

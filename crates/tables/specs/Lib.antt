@@ -1,9 +1,15 @@
--- What the rules ask of tables: which rows are live, what makes reading them safe, one row changed or added, and the same rows in two tables.
-pub mod Live
-pub mod Shaped
-pub mod Changed
+-- Tables: the rows that a store holds, rows put in place, the same rows in two tables, one row changed or added, what a row names and may name.
+pub mod Filled
+pub mod FilledLaws
+pub mod PutLaws
 pub mod Same
-pub mod LiveLaws
-pub mod ShapedLaws
-pub mod ChangedLaws
 pub mod SameLaws
+pub mod Chain
+pub mod Changed
+pub mod ChangedLaws
+pub mod Live
+pub mod LiveLaws
+pub mod Named
+pub mod NamedLaws
+pub mod Shaped
+pub mod ShapedLaws

@@ -82,12 +82,14 @@ module _ (p q : List ℕ) (tag : ℕ) (v : List ℕ) where
 
   pub field-read : (end : ℕ) → length v < 65536 → length p + 3 + length v ≤ end
       → fieldAt (p ++ (fieldBytes tag v ++ q)) (length p) end ≡ Field tag (length p + 3) (length p + 3 + length v)
-  field-read end h k = sym (ap (λ (t : ℕ). Field t (length p + 3) (length p + 3 + length v)) (sym tag-at) ∙ field-whole (p ++ (fieldBytes tag v ++ q)) (length p) end (length v) (sym (length-at h)) k)
+  field-read end h k = sym (ap (λ (t : ℕ). Field t (length p + 3) (length p + 3 + length v)) (sym tag-at)
+      ∙ field-whole (p ++ (fieldBytes tag v ++ q)) (length p) end (length v) (sym (length-at h)) k)
 
   pub value-read : part (length p + 3) (length v) (p ++ (fieldBytes tag v ++ q)) ≡ v
   unfolding fieldBytes
   value-read =
-      let before : length (p ++ headerBytes tag (length v)) ≡ length p + 3 = length-append p (headerBytes tag (length v)) ∙ ap (λ (k : ℕ). length p + k) (header-length tag (length v)) in
+      let before : length (p ++ headerBytes tag (length v)) ≡ length p + 3 = length-append p (headerBytes tag (length v))
+      ∙ ap (λ (k : ℕ). length p + k) (header-length tag (length v)) in
       let apart : p ++ ((headerBytes tag (length v) ++ v) ++ q) ≡ (p ++ headerBytes tag (length v)) ++ (v ++ q) = simp append-assoc in
       rw apart (part-between (p ++ headerBytes tag (length v)) v q (length p + 3) (length v) before refl)
 
@@ -103,12 +105,23 @@ field-back s at end tag start stop bytes l e =
     let value : stop - start ≡ n = omega arith in
     let behind : at + 1 + 2 ≡ start = omega arith in
     let long : length (part start n s) ≡ n = part-length start n s (omega arith) in
-    rw (whole, value, w .tag-is, part-cons at (2 + n) s (omega arith), part-add (at + 1) 2 n s, behind, long, bytes-of-number s bytes 2 (at + 1) (omega arith))
+    rw (
+      whole,
+      value,
+      w .tag-is,
+      part-cons at (2 + n) s (omega arith),
+      part-add (at + 1) 2 n s,
+      behind,
+      long,
+      bytes-of-number s bytes 2 (at + 1)
+          (omega arith),
+    )
 
 -- ---- writing a field, for the code
 
 -- the tag stored, and then the length
-pub header-written : (at tag n : ℕ) (d e : List ℕ) → at + 3 ≤ length d → e ≡ splice (at + 1) (bigEndianBytes 2 n) (set d at tag) → e ≡ splice at (headerBytes tag n) d
+pub header-written : (at tag n : ℕ) (d e : List ℕ) → at + 3 ≤ length d → e ≡ splice (at + 1) (bigEndianBytes 2 n) (set d at tag) → e
+    ≡ splice at (headerBytes tag n) d
 unfolding headerBytes
 header-written at tag n d e h q = q ∙ set-then-splice at tag (bigEndianBytes 2 n) d (omega (arith, bytes-length 2 n))
 

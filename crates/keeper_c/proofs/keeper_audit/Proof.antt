@@ -19,7 +19,11 @@ same-length c = search needs
 
 returns-2 : tie.Need-returns-2
 unfolding auditCall isShort
-returns-2 c = rw (le-ltb _ _ (c .before .before .before .before .before .if1 .left), c .before .before .answer-in .ensures, c .before .before .before .before .audit .ensures)
+returns-2 c =
+    let c₁ = c .before .before in
+    let c₂ = c₁ .before .before in
+    let c₃ = c₂ .before in
+    rw (le-ltb _ _ (c₃ .if1 .left), c₁ .answer-in .ensures, c₂ .audit .ensures)
 
 pub keeper-audit-spec : {M : Type 1} → statement M
 keeper-audit-spec =

@@ -19,7 +19,11 @@ same-length c = search needs
 
 returns-2 : tie.Need-returns-2
 unfolding depthCall isShort
-returns-2 c = rw (le-ltb _ _ (c .before .before .before .before .before .if1 .left), c .before .before .answer-in .ensures, c .before .before .before .before .depth .ensures)
+returns-2 c =
+    let c₁ = c .before .before in
+    let c₂ = c₁ .before .before in
+    let c₃ = c₂ .before in
+    rw (le-ltb _ _ (c₃ .if1 .left), c₁ .answer-in .ensures, c₂ .depth .ensures)
 
 pub keeper-depth-spec : {M : Type 1} → statement M
 keeper-depth-spec =

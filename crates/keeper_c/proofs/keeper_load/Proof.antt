@@ -29,7 +29,11 @@ same-length-4 c = search needs
 
 returns-2 : tie.Need-returns-2
 unfolding isShort
-returns-2 c = load-told _ (c .before .before .answer-in .ensures) (le-ltb _ _ (c .before .before .before .before .before .before .before .before .before .before .before .before .before .before .if1 .left)) _ _ (c .before .before .before .before .before .before .before .before .before .before .load .ensures)
+returns-2 c =
+    let c₁ = c .before .before in
+    let c₂ = c₁ .before .before .before .before .before .before .before .before in
+    let c₃ = c₂ .before .before .before .before in
+    load-told _ (c₁ .answer-in .ensures) (le-ltb _ _ (c₃ .if1 .left)) _ _ (c₂ .load .ensures)
 
 pub keeper-load-spec : {M : Type 1} → statement M
 keeper-load-spec =

@@ -23,7 +23,11 @@ same-length-2 c = search needs
 
 returns-2 : tie.Need-returns-2
 unfolding isShort
-returns-2 c = write-told _ (c .before .before .answer-in .ensures) (le-ltb _ _ (c .before .before .before .before .before .before .before .before .if1 .left)) _ _ (c .before .before .before .before .before .before .write .ensures)
+returns-2 c =
+    let c₁ = c .before .before in
+    let c₂ = c₁ .before .before .before .before in
+    let c₃ = c₂ .before .before in
+    write-told _ (c₁ .answer-in .ensures) (le-ltb _ _ (c₃ .if1 .left)) _ _ (c₂ .write .ensures)
 
 pub keeper-write-spec : {M : Type 1} → statement M
 keeper-write-spec =

@@ -1,6 +1,6 @@
 use mathlib.Core.Path.{sym}
 use lib.Seq.{length-take-le}
-use Rattle.listing.specs.TextLaws.{written-within}
+use Rattle.prelude.specs.WrittenLaws.{written-within}
 use borrow.Author.Needs.{needs}
 use Rattle.list.proofs.main.Statement.{statement}
 use Rattle.list.proofs.main.Tie as tie
@@ -24,7 +24,9 @@ array-share-prefix-text : tie.Need-array-share-prefix-text
 array-share-prefix-text c = written-within (c .list .ensures)
 
 slice-aggregate-write-all : tie.Need-slice-aggregate-write-all
-slice-aggregate-write-all c = sym (length-take-le (c .before .list .result) (c .before .list .last .1 .0) (written-within (c .before .list .ensures)))
+slice-aggregate-write-all c =
+    let c₁ = c .before in
+    sym (length-take-le (c₁ .list .result) (c₁ .list .last .1 .0) (written-within (c₁ .list .ensures)))
 
 write-all-requires : tie.Need-write-all-requires
 write-all-requires c κs = search needs

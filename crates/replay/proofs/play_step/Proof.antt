@@ -1,20 +1,45 @@
 use mathlib.Core.Path.{sym, ap, subst}
+use native.Mathlib.Omega.{arith}
+use borrow.Author.Needs.{needs}
 use Rattle.replay.specs.Steps.{longest}
 use Rattle.replay.specs.Playing.{AtMost, Played}
 use Rattle.replay.proofs.Ready.{after-at-most}
-use native.Mathlib.Omega.{arith}
-use borrow.Author.Needs.{needs}
 use Rattle.replay.proofs.play_step.Statement.{statement}
 use Rattle.replay.proofs.play_step.Tie as tie
 
 take-step-requires : tie.Need-take-step-requires
-take-step-requires c κs = ((record { attributes = omega (arith, c .before .before .before .before .before .before .before .before .before .pre .0 .0 .attributes, c .before .before .before .before .before .before .before .before .before .pre .1 .0); classes = omega (arith, c .before .before .before .before .before .before .before .before .before .pre .0 .0 .classes, c .before .before .before .before .before .before .before .before .before .pre .1 .1); closure = omega (arith, c .before .before .before .before .before .before .before .before .before .pre .0 .0 .closure, c .before .before .before .before .before .before .before .before .before .pre .1 .2) }, c .before .before .before .before .before .before .before .before .before .pre .0 .1), (c .before .before .before .before .before .before .before .before .before .pre .1 .0, c .before .before .before .before .before .before .before .before .before .pre .1 .1, c .before .before .before .before .before .before .before .before .before .pre .1 .2, c .before .before .before .before .before .before .before .before .before .pre .1 .3))
+take-step-requires c κs =
+    let start = c .before .before .before .before .before .before .before .before .before in (
+      (
+        record {
+          attributes = omega (arith, start .pre .0 .0 .attributes, start .pre .1 .0);
+          classes = omega
+              (arith, start .pre .0 .0 .classes, start .pre .1 .1);
+          closure = omega (arith, start .pre .0 .0 .closure, start .pre .1 .2);
+        },
+        start .pre .0 .1,
+      ),
+      (start .pre .1 .0, start .pre .1 .1, start .pre .1 .2, start .pre .1 .3),
+    )
 
 lengths-after-requires : tie.Need-lengths-after-requires
 lengths-after-requires c κs = search needs
 
 say-requires : tie.Need-say-requires
-say-requires c κs = (let m : AtMost longest (c .before .before .before .before .lengths-after .result) = subst (AtMost longest) (sym (c .before .before .before .before .lengths-after .ensures)) (after-at-most (c .before .before .before .before .before .before .before .before .before .before .before .before .before .before .before .before .before .before .before .before .before .before .before .args .script .now) (c .before .before .before .before .before .before .before .before .before .before .before .before .before .before .before .before .before .before .before .before .before .before .before .args .step) (c .before .before .before .before .before .before .before .before .before .before .before .before .before .before .before .before .before .before .before .before .before .before .before .args .lengths) (c .before .before .before .before .before .before .before .before .before .before .before .before .before .before .before .before .before .before .before .before .before .before .before .pre .0 .1) (c .before .before .before .before .before .before .before .before .before .before .before .before .before .before .before .before .before .before .before .before .before .before .before .pre .0 .0)) in record { attributes = omega (arith, m .attributes, c .before .before .before .before .before .before .before .before .before .before .before .before .before .before .before .before .before .before .before .before .before .before .before .pre .1 .0, c .before .before .before .before .before .before .before .before .before .before .before .before .before .take-step .kept .1 .1 .0); classes = omega (arith, m .classes, c .before .before .before .before .before .before .before .before .before .before .before .before .before .before .before .before .before .before .before .before .before .before .before .pre .1 .1, c .before .before .before .before .before .before .before .before .before .before .before .before .before .take-step .kept .1 .1 .1 .0); closure = omega (arith, m .closure, c .before .before .before .before .before .before .before .before .before .before .before .before .before .before .before .before .before .before .before .before .before .before .before .pre .1 .2, c .before .before .before .before .before .before .before .before .before .before .before .before .before .take-step .kept .1 .1 .1 .1 .0) }, (c .before .before .before .before .before .before .before .before .before .before .before .before .before .before .before .before .before .before .before .before .before .before .before .pre .0 .1, omega (arith, c .before .before .before .before .before .before .before .before .before .before .before .before .before .take-step .kept .1 .1 .1 .1 .1 .0, c .before .before .before .before .before .before .before .before .before .before .before .before .before .before .before .before .before .before .before .before .before .before .before .pre .1 .3)))
+say-requires c κs =
+    let c₁ = c .before .before .before .before in
+    let c₂ = c₁ .before .before .before .before .before .before .before .before .before in
+    let start = c₂ .before .before .before .before .before .before .before .before .before .before in (
+      let m : AtMost longest (c₁ .lengths-after .result) = subst (AtMost longest) (sym (c₁ .lengths-after .ensures))
+          (after-at-most (start .args .script .now) (start .args .step) (start .args .lengths) (start .pre .0 .1) (start .pre .0 .0)) in record {
+            attributes = omega (arith, m .attributes, start .pre .1 .0, c₂ .take-step .kept .1 .1 .0);
+            classes = omega
+                (arith, m .classes, start .pre .1 .1, c₂ .take-step .kept .1 .1 .1 .0);
+            closure = omega
+                (arith, m .closure, start .pre .1 .2, c₂ .take-step .kept .1 .1 .1 .1 .0);
+          },
+      (start .pre .0 .1, omega (arith, c₂ .take-step .kept .1 .1 .1 .1 .1 .0, start .pre .1 .3)),
+    )
 
 same-length : tie.Need-same-length
 same-length c = search needs
@@ -29,7 +54,10 @@ same-length-4 : tie.Need-same-length-4
 same-length-4 c = search needs
 
 returns : tie.Need-returns
-returns c = (c .before .before .before .before .before .lengths-after .ensures, ap (λ (p : Played). p .left) (c .before .before .before .before .before .before .before .before .before .before .before .before .before .before .take-step .ensures), ap (λ (p : Played). p .output) (c .before .before .before .before .before .before .before .before .before .before .before .before .before .before .take-step .ensures))
+returns c =
+    let c₁ = c .before .before .before .before .before in
+    let c₂ = c₁ .before .before .before .before .before .before .before .before .before in
+    (c₁ .lengths-after .ensures, ap (λ (p : Played). p .left) (c₂ .take-step .ensures), ap (λ (p : Played). p .output) (c₂ .take-step .ensures))
 
 pub play-step-spec : {M : Type 1} → statement M
 play-step-spec =

@@ -1,8 +1,8 @@
 use mathlib.Core.Path.{subst}
-use Rattle.replay.specs.declared.step.Step.{Step}
-use Rattle.replay.specs.Steps.{StepWithin}
 use native.Mathlib.Omega.{arith}
 use borrow.Author.Needs.{needs}
+use Rattle.replay.specs.declared.step.Step.{Step}
+use Rattle.replay.specs.Steps.{StepWithin}
 use Rattle.replay.proofs.say_output.Statement.{statement}
 use Rattle.replay.proofs.say_output.Tie as tie
 
@@ -16,7 +16,10 @@ enum-known-step : tie.Need-enum-known-step
 enum-known-step c = search needs
 
 part-of-requires : tie.Need-part-of-requires
-part-of-requires c κs = omega (arith, subst (λ (x : Step). StepWithin (c .before .before .before .before .before .args .script .now) x) (c .before .step .given .1) (c .before .before .before .before .before .pre .0), c .before .before .before .before .before .pre .1)
+part-of-requires c κs =
+    let c₁ = c .before in
+    let start = c₁ .before .before .before .before in
+    omega (arith, subst (λ (x : Step). StepWithin (start .args .script .now) x) (c₁ .step .given .1) (start .pre .0), start .pre .1)
 
 say-hash-requires : tie.Need-say-hash-requires
 say-hash-requires c κs = search needs

@@ -1,6 +1,6 @@
 use mathlib.Core.Path.{refl}
-use Rattle.replay.specs.Playing.{started}
 use borrow.Author.Needs.{needs}
+use Rattle.replay.specs.Playing.{started}
 use Rattle.replay.proofs.start.Statement.{statement}
 use Rattle.replay.proofs.start.Tie as tie
 
@@ -42,7 +42,11 @@ same-length-3 c = search needs
 
 returns : tie.Need-returns
 unfolding started
-returns c = (refl, rw (c .before .before .before .before .before .before .before .before .before .before .lengthen .ensures, c .before .before .before .before .before .before .lengthen2 .ensures, c .before .before .lengthen3 .ensures))
+returns c =
+    let c₁ = c .before .before in
+    let c₂ = c₁ .before .before .before .before in
+    let c₃ = c₂ .before .before .before .before in
+    (refl, rw (c₃ .lengthen .ensures, c₂ .lengthen2 .ensures, c₁ .lengthen3 .ensures))
 
 pub start-spec : {M : Type 1} → statement M
 start-spec =

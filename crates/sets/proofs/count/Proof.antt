@@ -26,7 +26,10 @@ cast-n : tie.Need-cast-n Inv-loop μ-loop
 cast-n c = omega (arith, ones-le 8 _ (c .shared-slice-known .given (c .before .before .loop .i) .fits))
 
 add-n : tie.Need-add-n Inv-loop μ-loop
-add-n c = omega (arith, ones-le 8 _ (c .shared-slice-known .given (c .before .before .loop .i) .fits), count-le (c .before .before .loop .i * 8) (member (c .before .before .before .args .s .now)))
+add-n c =
+    let c₁ = c .before .before in
+    let start = c₁ .before in
+    omega (arith, ones-le 8 _ (c .shared-slice-known .given (c₁ .loop .i) .fits), count-le (c₁ .loop .i * 8) (member (start .args .s .now)))
 
 add-i : tie.Need-add-i Inv-loop μ-loop
 add-i c = search needs
@@ -35,11 +38,18 @@ loop-less : tie.Need-loop-less Inv-loop μ-loop
 loop-less c = search needs
 
 loop-again : tie.Need-loop-again Inv-loop μ-loop
-loop-again c = omega (arith, count-byte (c .before .before .before .args .s .now) (c .before .before .loop .i) (c .shared-slice-known .given (c .before .before .loop .i) .fits))
+loop-again c =
+    let c₁ = c .before .before in
+    let start = c₁ .before in
+    omega (arith, count-byte (start .args .s .now) (c₁ .loop .i) (c .shared-slice-known .given (c₁ .loop .i) .fits))
 
 returns : tie.Need-returns Inv-loop μ-loop
 unfolding memberCount
-returns c = let e : c .before .loop .i ≡ length (c .before .before .args .s .now) = omega arith in c .before .loop .inv .1 ∙ ap (λ (n : ℕ). countBelow (n * 8) (member (c .before .before .args .s .now))) e
+returns c =
+    let c₁ = c .before in
+    let start = c₁ .before in
+    let s = start .args .s .now in
+    let e : c₁ .loop .i ≡ length s = omega arith in c₁ .loop .inv .1 ∙ ap (λ (n : ℕ). countBelow (n * 8) (member s)) e
 
 pub count-spec : {M : Type 1} → statement M
 count-spec =

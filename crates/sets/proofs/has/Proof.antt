@@ -22,7 +22,9 @@ returns c = search needs
 
 returns-2 : tie.Need-returns-2
 unfolding member
-returns-2 c = sym (ap (λ (x : ℕ). eqb x 1) (bit-past (c .before .args .s .now) (c .before .args .n) (c .if1 .left)))
+returns-2 c =
+    let start = c .before in
+    sym (ap (λ (x : ℕ). eqb x 1) (bit-past (start .args .s .now) (start .args .n) (c .if1 .left)))
 
 pub has-spec : {M : Type 1} → statement M
 has-spec = tie.close (tie.spec shared-slice-read-result cast-result shr-result returns returns-2)

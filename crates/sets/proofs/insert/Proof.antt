@@ -19,7 +19,9 @@ same-length : tie.Need-same-length
 same-length c = search needs
 
 returns : tie.Need-returns
-returns c = inserted (c .before .args .s .now) (c .before .args .n) (λ j. c .slice-known .given j .fits) ((c .before) .pre)
+returns c =
+    let start = c .before in
+    inserted (start .args .s .now) (start .args .n) (λ j. c .slice-known .given j .fits) (start .pre)
 
 pub insert-spec : {M : Type 1} → statement M
 insert-spec = tie.close (tie.spec slice-read-s cast-s shl-s slice-write-s same-length returns)

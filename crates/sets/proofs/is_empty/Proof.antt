@@ -8,7 +8,10 @@ is-zero-requires : tie.Need-is-zero-requires
 is-zero-requires c κs = search needs
 
 returns : tie.Need-returns
-returns c = c .is-zero .ensures ∙ zero-empty (c .before .before .args .s .now) (λ i. c .before .shared-slice-known .given i .fits)
+returns c =
+    let c₁ = c .before in
+    let start = c₁ .before in
+    c .is-zero .ensures ∙ zero-empty (start .args .s .now) (λ i. c₁ .shared-slice-known .given i .fits)
 
 pub is-empty-spec : {M : Type 1} → statement M
 is-empty-spec = tie.close (tie.spec is-zero-requires returns)

@@ -30,7 +30,16 @@ shared-slice-read-if1-3 : tie.Need-shared-slice-read-if1-3 Inv-loop μ-loop
 shared-slice-read-if1-3 c = search needs
 
 returns : tie.Need-returns Inv-loop μ-loop
-returns c = sym (says-false (says-subset _ _) (λ h. c .if1 .taken (subset-byte (c .before .before .before .before .before .before .args .a .now) (c .before .before .before .before .before .before .args .b .now) (c .before .before .before .before .before .loop .i) (c .before .before .before .shared-slice-known .given (c .before .before .before .before .before .loop .i) .fits) (c .before .before .shared-slice-known2 .given (c .before .before .before .before .before .loop .i) .fits) h)))
+returns c =
+    let c₁ = c .before .before in
+    let c₂ = c₁ .before in
+    let c₃ = c₂ .before .before in
+    let start = c₃ .before in
+    sym
+    (says-false (says-subset _ _)
+    (λ h. c .if1 .taken
+    (subset-byte (start .args .a .now) (start .args .b .now) (c₃ .loop .i) (c₂ .shared-slice-known .given (c₃ .loop .i) .fits)
+    (c₁ .shared-slice-known2 .given (c₃ .loop .i) .fits) h)))
 
 add-i : tie.Need-add-i Inv-loop μ-loop
 add-i c = search needs
@@ -42,7 +51,12 @@ loop-again : tie.Need-loop-again Inv-loop μ-loop
 loop-again c = (search needs, below-more _ _ (c .before .before .before .before .before .loop .inv .1) (c .if1 .left))
 
 returns-2 : tie.Need-returns-2 Inv-loop μ-loop
-returns-2 c = let h : length (c .before .before .args .a .now) ≤ c .before .loop .i = omega arith in sym (says-true (says-subset _ _) (subset-bytes (c .before .before .args .a .now) (c .before .before .args .b .now) (λ k l. c .before .loop .inv .1 k (omega arith))))
+returns-2 c =
+    let c₁ = c .before in
+    let start = c₁ .before in
+    let a = start .args .a .now in
+    let h : length a ≤ c₁ .loop .i = omega arith in sym
+    (says-true (says-subset _ _) (subset-bytes a (start .args .b .now) (λ k l. c₁ .loop .inv .1 k (omega arith))))
 
 pub is-subset-spec : {M : Type 1} → statement M
 is-subset-spec =

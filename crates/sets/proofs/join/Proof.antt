@@ -37,20 +37,22 @@ loop-less c = search needs
 
 loop-again : tie.Need-loop-again Inv-loop μ-loop
 loop-again c =
-    let l = c .before .before .before .loop in
-    let a = c .before .before .before .before .args .a .now in
-    let b = c .before .before .before .before .args .b .now in
-    let n : length (union a b) ≡ length a = union-length a b in
-    let h : l .i < length a = omega arith in
-    let later : getD (l .a) (l .i) 0 ≡ getD a (l .i) 0 = fill-later (union a b) a (l .i) (l .i) (l .a) n (omega arith) (l .inv) in
-    let small : getD a (l .i) 0 < 256 = rw later at (c .before .slice-known .given (l .i) .fits) in
-    fill-more _ _ (l .i) _ _ n h (ap (λ (x : ℕ). bitOr x (getD b (l .i) 0)) later ∙ union-byte a b (l .i) h small (c .shared-slice-known .given (l .i) .fits)) (l .inv)
+    let c₁ = c .before in
+    let c₂ = c₁ .before .before in
+    let start = c₂ .before in
+    let l = c₂ .loop in let a = start .args .a .now in let b = start .args .b .now in let n : length (union a b) ≡ length a = union-length a b in let
+    h : l .i < length a = omega arith in let later : getD (l .a) (l .i) 0 ≡ getD a (l .i) 0 = fill-later (union a b) a (l .i) (l .i) (l .a) n
+    (omega arith) (l .inv) in let small : getD a (l .i) 0 < 256 = rw later at (c₁ .slice-known .given (l .i) .fits) in fill-more _ _ (l .i) _ _ n h
+    (ap (λ (x : ℕ). bitOr x (getD b (l .i) 0)) later ∙ union-byte a b (l .i) h small (c .shared-slice-known .given (l .i) .fits)) (l .inv)
 
 same-length : tie.Need-same-length Inv-loop μ-loop
 same-length c = search needs
 
 returns : tie.Need-returns Inv-loop μ-loop
-returns c = fill-all _ _ _ _ (union-length (c .before .before .args .a .now) (c .before .before .args .b .now)) (search needs) (c .before .loop .inv)
+returns c =
+    let c₁ = c .before in
+    let start = c₁ .before in
+    fill-all _ _ _ _ (union-length (start .args .a .now) (start .args .b .now)) (search needs) (c₁ .loop .inv)
 
 pub join-spec : {M : Type 1} → statement M
 join-spec =

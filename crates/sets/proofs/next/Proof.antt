@@ -26,7 +26,13 @@ has-requires : tie.Need-has-requires Inv-loop μ-loop
 has-requires c κs = search needs
 
 returns : tie.Need-returns Inv-loop μ-loop
-returns c = let p = member (c .before .before .before .before .before .args .s .now) in sym (first-found (from _ p) _ _ (search needs) (any-false (from _ p) _ (c .before .before .before .loop .inv .1)) (from-past _ p _ (c .before .before .before .loop .inv .0) ∙ sym (c .before .has .ensures) ∙ c .if1 .taken))
+returns c =
+    let c₁ = c .before in
+    let c₂ = c₁ .before .before in
+    let start = c₂ .before .before in
+    let p = member (start .args .s .now) in sym
+    (first-found (from _ p) _ _ (search needs) (any-false (from _ p) _ (c₂ .loop .inv .1))
+    (from-past _ p _ (c₂ .loop .inv .0) ∙ sym (c₁ .has .ensures) ∙ c .if1 .taken))
 
 add-n : tie.Need-add-n Inv-loop μ-loop
 add-n c = search needs
@@ -35,7 +41,14 @@ loop-less : tie.Need-loop-less Inv-loop μ-loop
 loop-less c = search needs
 
 loop-again : tie.Need-loop-again Inv-loop μ-loop
-loop-again c = (search needs, below-more _ _ (c .before .before .before .loop .inv .1) (from-past _ (member (c .before .before .before .before .before .args .s .now)) _ (c .before .before .before .loop .inv .0) ∙ sym (c .before .has .ensures) ∙ c .if1 .left))
+loop-again c =
+    let c₁ = c .before in
+    let c₂ = c₁ .before .before in
+    let start = c₂ .before .before in (
+      search needs,
+      below-more _ _ (c₂ .loop .inv .1)
+          (from-past _ (member (start .args .s .now)) _ (c₂ .loop .inv .0) ∙ sym (c₁ .has .ensures) ∙ c .if1 .left),
+    )
 
 returns-2 : tie.Need-returns-2 Inv-loop μ-loop
 returns-2 c = sym (first-absent _ _ (any-false _ _ (λ k l. c .before .loop .inv .1 k (omega arith))))

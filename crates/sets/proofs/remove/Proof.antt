@@ -22,7 +22,10 @@ same-length : tie.Need-same-length
 same-length c = search needs
 
 returns : tie.Need-returns
-returns c = removed (c .before .before .args .s .now) (c .before .before .args .n) (λ j. c .before .slice-known .given j .fits) ((c .before .before) .pre)
+returns c =
+    let c₁ = c .before in
+    let start = c₁ .before in
+    removed (start .args .s .now) (start .args .n) (λ j. c₁ .slice-known .given j .fits) (start .pre)
 
 pub remove-spec : {M : Type 1} → statement M
 remove-spec =

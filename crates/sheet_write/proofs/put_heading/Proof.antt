@@ -1,4 +1,3 @@
-use mathlib.Core.Path.{sym}
 use Rattle.sheet_write.specs.Writing.{heading}
 use Rattle.sheet_write.proofs.Rows.{heading-length}
 use native.Mathlib.Omega.{arith}
@@ -19,8 +18,7 @@ same-length : tie.Need-same-length
 same-length c = search needs
 
 returns : tie.Need-returns
-unfolding heading
-returns c = (sym heading-length, c .before .before .write-field .ensures)
+returns c = record { place = omega (arith, heading-length); bytes = unfold heading in c .before .before .write-field .ensures }
 
 pub put-heading-spec : {M : Type 1} → statement M
 put-heading-spec =

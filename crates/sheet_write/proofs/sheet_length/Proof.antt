@@ -1,46 +1,52 @@
-use mathlib.Core.Path.{ap}
-use lib.ListN.{length}
-use Rattle.schema.specs.Store.{tableOf}
-use Rattle.formats.specs.Formats.{widthOf}
-use Rattle.formats.specs.declared.table.Kind.the-variants.{Attribute, Class}
-use Rattle.sheet_write.proofs.Rows.{rows-short, writable-attributes, writable-classes, sheet-size, sheet-is}
 use native.Mathlib.Omega.{arith}
 use borrow.Author.Needs.{needs}
+use Rattle.schema.specs.declared.number.TableId.the-variants.{Attributes, Classes}
+use Rattle.schema.specs.Store.{tableIn, schemaIn}
+use Rattle.sheet_write.proofs.Rows.{all-short, sheet-size}
 use Rattle.sheet_write.proofs.sheet_length.Statement.{statement}
 use Rattle.sheet_write.proofs.sheet_length.Tie as tie
 
-attribute-count-requires : tie.Need-attribute-count-requires
-attribute-count-requires c κs = search needs
+row-fields-length-requires : tie.Need-row-fields-length-requires
+row-fields-length-requires c κs = search needs
 
-rows-length-requires : tie.Need-rows-length-requires
-rows-length-requires c κs = writable-attributes (c .before .before .before .args .attributes .now) (c .before .before .before .args .classes .now) (c .before .before .before .pre) (c .attribute-count .ensures)
-
-class-count-requires : tie.Need-class-count-requires
-class-count-requires c κs = search needs
-
-rows-length-requires-2 : tie.Need-rows-length-requires-2
-rows-length-requires-2 c κs = writable-classes (c .before .before .before .before .before .args .attributes .now) (c .before .before .before .before .before .args .classes .now) (c .before .before .before .before .before .pre) (c .class-count .ensures)
+row-fields-length-requires-2 : tie.Need-row-fields-length-requires-2
+row-fields-length-requires-2 c κs = search needs
 
 add-result : tie.Need-add-result
 add-result c = search needs
 
 add-result-2 : tie.Need-add-result-2
-add-result-2 c = omega (arith, rows-short Attribute 32 (c .before .before .before .before .before .before .args .attributes .now) (c .before .before .before .attribute-count .result), c .before .before .before .attribute-count .ensures, c .before .before .before .before .before .before .pre .ready .attributesFew, c .before .before .rows-length .ensures 32)
+add-result-2 c =
+    let c₁ = c .before in let start = c₁ .before .before .before in omega
+    (arith, c₁ .row-fields-length .ensures, all-short Attributes (tableIn Attributes (start .args .attributes .now)) (start .pre .0 .few))
 
 add-result-3 : tie.Need-add-result-3
-add-result-3 c = omega (arith, rows-short Attribute 32 (c .before .before .before .before .before .before .args .attributes .now) (c .before .before .before .attribute-count .result), c .before .before .before .attribute-count .ensures, c .before .before .before .before .before .before .pre .ready .attributesFew, c .before .before .rows-length .ensures 32, rows-short Class 48 (c .before .before .before .before .before .before .args .classes .now) (c .before .class-count .result), c .before .class-count .ensures, c .before .before .before .before .before .before .pre .ready .classesFew, c .rows-length2 .ensures 48)
+add-result-3 c =
+    let c₁ = c .before in let start = c₁ .before .before .before in omega (
+      arith,
+      c₁ .row-fields-length .ensures,
+      c .row-fields-length2 .ensures,
+      all-short Attributes (tableIn Attributes (start .args .attributes .now))
+          (start .pre .0 .few),
+      all-short Classes (tableIn Classes (start .args .classes .now)) (start .pre .1 .few),
+    )
 
 returns : tie.Need-returns
-returns c = omega (arith, c .before .before .rows-length .ensures 32, c .rows-length2 .ensures 48, sheet-size (tableOf (widthOf Attribute) (c .before .before .before .before .before .before .args .attributes .now) (c .before .before .before .attribute-count .result)) (tableOf (widthOf Class) (c .before .before .before .before .before .before .args .classes .now) (c .before .class-count .result)), ap length (sheet-is (c .before .before .before .before .before .before .args .attributes .now) (c .before .before .before .before .before .before .args .classes .now) (c .before .before .before .attribute-count .ensures) (c .before .class-count .ensures)))
+returns c =
+    let c₁ = c .before in let start = c₁ .before .before .before in omega (
+      arith,
+      c₁ .row-fields-length .ensures,
+      c .row-fields-length2 .ensures,
+      sheet-size
+          (schemaIn (start .args .attributes .now) (start .args .classes .now)),
+    )
 
 pub sheet-length-spec : {M : Type 1} → statement M
 sheet-length-spec =
     tie.close
     (tie.spec
-    attribute-count-requires
-    rows-length-requires
-    class-count-requires
-    rows-length-requires-2
+    row-fields-length-requires
+    row-fields-length-requires-2
     add-result
     add-result-2
     add-result-3

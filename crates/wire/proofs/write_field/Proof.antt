@@ -28,7 +28,11 @@ same-length : tie.Need-same-length
 same-length c = search needs
 
 returns : tie.Need-returns
-returns c = field-written _ _ (c .before .before .before .before .before .before .before .before .before .before .args .value .now) (c .before .before .before .before .before .before .before .before .before .before .args .d .now) _ _ ((c .before .before .before .before .before .before .before .before .before .before) .pre .1) (c .before .before .before .before .before .before .write-header .ensures) (c .before .before .copy .ensures .1)
+returns c =
+    let c₁ = c .before .before in
+    let c₂ = c₁ .before .before .before .before in
+    let start = c₂ .before .before .before .before in
+    field-written _ _ (start .args .value .now) (start .args .d .now) _ _ (start .pre .1) (c₂ .write-header .ensures) (c₁ .copy .ensures .1)
 
 pub write-field-spec : {M : Type 1} → statement M
 write-field-spec =

@@ -16,10 +16,16 @@ write-u16-requires : tie.Need-write-u16-requires
 write-u16-requires c κs = simp length-set (omega arith)
 
 same-length : tie.Need-same-length
-same-length c = c .before .before .write-u16 .kept .0 ∙ length-set (c .before .before .before .before .before .args .d .now) _ _
+same-length c =
+    let c₁ = c .before .before in
+    let start = c₁ .before .before .before in
+    c₁ .write-u16 .kept .0 ∙ length-set (start .args .d .now) _ _
 
 returns : tie.Need-returns
-returns c = header-written _ _ _ _ _ ((c .before .before .before .before .before) .pre) (c .before .before .write-u16 .ensures)
+returns c =
+    let c₁ = c .before .before in
+    let start = c₁ .before .before .before in
+    header-written _ _ _ _ _ (start .pre) (c₁ .write-u16 .ensures)
 
 pub write-header-spec : {M : Type 1} → statement M
 write-header-spec =

@@ -1,20 +1,21 @@
-use mathlib.Core.Path.{_≡_, sym, ap, _∙_}
 use mathlib.Core.Bool.{Bool, true}
 use mathlib.Core.List.{List}
+use mathlib.Core.Path.{_≡_, sym, ap, _∙_}
 use Prim.Native.Nat.{ℕ, _-_, _≤_}
+use borrow.Author.Needs.{needs}
 use borrow.Author.Tests.{not-true, not-false}
 use Rattle.prelude.specs.Part.{sameBytes}
 use Rattle.prelude.specs.Below.{allBelow}
 use Rattle.prelude.specs.BelowLaws.{all-zero, all-more, all-not, all-end}
 use Rattle.schema.specs.Numbers.{classLimit}
-use Rattle.schema.specs.Store.{classTable, closureAt}
+use Rattle.schema.specs.Store.{tableIn, closureAt}
+use Rattle.schema.specs.declared.number.TableId.the-variants.{Classes}
 use Rattle.graph.specs.Graph.{closureRow, isFresh}
-use borrow.Author.Needs.{needs}
 use Rattle.graph.proofs.closure.is_fresh.Statement.{statement}
 use Rattle.graph.proofs.closure.is_fresh.Tie as tie
 
 abbrev Inv-loop : tie.InvT-loop
-Inv-loop classes closure c₀ c = (c ≤ classLimit) × (allBelow c (λ j. sameBytes (closureAt closure j) (closureRow (classTable classes) j)) ≡ true)
+Inv-loop classes closure c₀ c = (c ≤ classLimit) × (allBelow c (λ j. sameBytes (closureAt closure j) (closureRow (tableIn Classes classes) j)) ≡ true)
 
 abbrev μ-loop : tie.MeasureT-loop
 μ-loop classes closure c₀ c = classLimit - c
@@ -34,7 +35,14 @@ row-is-fresh-requires c κs = search needs
 
 returns : tie.Need-returns Inv-loop μ-loop
 unfolding isFresh
-returns c = sym (all-not (λ j. sameBytes (closureAt (c .before .before .before .before .before .before .before .args .closure .now) j) (closureRow (classTable (c .before .before .before .before .before .before .before .args .classes .now)) j)) (c .before .before .before .before .loop .c) classLimit (search needs) (row-test _ _ _ _ (c .before .before .closure-row .ensures) (c .before .row-is-fresh .ensures) ∙ not-true _ (c .if1 .taken)))
+returns c =
+    let c₁ = c .before in
+    let c₂ = c₁ .before in
+    let c₃ = c₂ .before .before in
+    let start = c₃ .before .before .before in
+    sym
+    (all-not (λ j. sameBytes (closureAt (start .args .closure .now) j) (closureRow (tableIn Classes (start .args .classes .now)) j)) (c₃ .loop .c)
+    classLimit (search needs) (row-test _ _ _ _ (c₂ .closure-row .ensures) (c₁ .row-is-fresh .ensures) ∙ not-true _ (c .if1 .taken)))
 
 add-c : tie.Need-add-c Inv-loop μ-loop
 add-c c = search needs
@@ -43,11 +51,24 @@ loop-less : tie.Need-loop-less Inv-loop μ-loop
 loop-less c = search needs
 
 loop-again : tie.Need-loop-again Inv-loop μ-loop
-loop-again c = (search needs, all-more (λ j. sameBytes (closureAt (c .before .before .before .before .before .before .before .args .closure .now) j) (closureRow (classTable (c .before .before .before .before .before .before .before .args .classes .now)) j)) (c .before .before .before .before .loop .c) (c .before .before .before .before .loop .inv .1) (row-test _ _ _ _ (c .before .before .closure-row .ensures) (c .before .row-is-fresh .ensures) ∙ not-false _ (c .if1 .left)))
+loop-again c =
+    let c₁ = c .before in
+    let c₂ = c₁ .before in
+    let c₃ = c₂ .before .before in
+    let start = c₃ .before .before .before in (
+      search needs,
+      all-more (λ j. sameBytes (closureAt (start .args .closure .now) j) (closureRow (tableIn Classes (start .args .classes .now)) j))
+          (c₃ .loop .c) (c₃ .loop .inv .1) (row-test _ _ _ _ (c₂ .closure-row .ensures) (c₁ .row-is-fresh .ensures) ∙ not-false _ (c .if1 .left)),
+    )
 
 returns-2 : tie.Need-returns-2 Inv-loop μ-loop
 unfolding isFresh
-returns-2 c = sym (all-end (λ j. sameBytes (closureAt (c .before .before .before .before .args .closure .now) j) (closureRow (classTable (c .before .before .before .before .args .classes .now)) j)) (c .before .loop .c) classLimit (c .before .loop .inv .0) (search needs) (c .before .loop .inv .1))
+returns-2 c =
+    let c₁ = c .before in
+    let start = c₁ .before .before .before in
+    sym
+    (all-end (λ j. sameBytes (closureAt (start .args .closure .now) j) (closureRow (tableIn Classes (start .args .classes .now)) j)) (c₁ .loop .c)
+    classLimit (c₁ .loop .inv .0) (search needs) (c₁ .loop .inv .1))
 
 pub is-fresh-spec : {M : Type 1} → statement M
 is-fresh-spec =

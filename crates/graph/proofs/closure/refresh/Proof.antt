@@ -1,7 +1,8 @@
 use mathlib.Core.Path.{refl}
-use Rattle.schema.specs.Store.{classTable}
-use Rattle.graph.proofs.Rows.{refreshed}
 use borrow.Author.Needs.{needs}
+use Rattle.schema.specs.Store.{tableIn}
+use Rattle.schema.specs.declared.number.TableId.the-variants.{Classes}
+use Rattle.graph.proofs.Rows.{refreshed}
 use Rattle.graph.proofs.closure.refresh.Statement.{statement}
 use Rattle.graph.proofs.closure.refresh.Tie as tie
 
@@ -27,7 +28,10 @@ same-length : tie.Need-same-length
 same-length c = search needs
 
 returns : tie.Need-returns
-returns c = refreshed (classTable (c .before .before .before .before .before .before .before .args .classes .now)) (c .before .before .before .before .before .before .before .args .c .0) _ _ (c .before .before .before .before .before .before .before .args .closure .now) _ refl refl (c .before .before .write-row .ensures)
+returns c =
+    let c₁ = c .before .before in
+    let start = c₁ .before .before .before .before .before in
+    refreshed (tableIn Classes (start .args .classes .now)) (start .args .c .0) _ _ (start .args .closure .now) _ refl refl (c₁ .write-row .ensures)
 
 pub refresh-spec : {M : Type 1} → statement M
 refresh-spec =

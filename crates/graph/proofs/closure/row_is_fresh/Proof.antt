@@ -1,6 +1,6 @@
 use mathlib.Core.Path.{ap, _∙_}
-use Rattle.prelude.specs.Part.{sameBytes}
 use borrow.Author.Needs.{needs}
+use Rattle.prelude.specs.Part.{sameBytes}
 use Rattle.graph.proofs.closure.row_is_fresh.Statement.{statement}
 use Rattle.graph.proofs.closure.row_is_fresh.Tie as tie
 
@@ -17,7 +17,10 @@ same-requires : tie.Need-same-requires
 same-requires c κs = search needs
 
 returns : tie.Need-returns
-returns c = c .same .ensures ∙ ap (sameBytes (c .before .before .before .before .before .before .before .args .row .now)) (c .before .before .before .write-row .ensures)
+returns c =
+    let c₁ = c .before .before .before in
+    let start = c₁ .before .before .before .before in
+    c .same .ensures ∙ ap (sameBytes (start .args .row .now)) (c₁ .write-row .ensures)
 
 pub row-is-fresh-spec : {M : Type 1} → statement M
 row-is-fresh-spec =

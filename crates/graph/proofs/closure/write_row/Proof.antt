@@ -1,12 +1,13 @@
 use mathlib.Core.Path.{_≡_, ap, _∙_}
+use native.Mathlib.Omega.{arith}
 use lib.ListN.{length, take}
 use lib.Seq.{length-take-le}
+use borrow.Author.Needs.{needs}
 use Rattle.sets.specs.SetsLaws.{set-length}
 use Rattle.schema.specs.Layout.{classSet}
-use Rattle.schema.specs.Store.{classTable}
+use Rattle.schema.specs.Store.{tableIn}
+use Rattle.schema.specs.declared.number.TableId.the-variants.{Classes}
 use Rattle.graph.proofs.Rows.{row-written}
-use native.Mathlib.Omega.{arith}
-use borrow.Author.Needs.{needs}
 use Rattle.graph.proofs.closure.write_row.Statement.{statement}
 use Rattle.graph.proofs.closure.write_row.Tie as tie
 
@@ -27,9 +28,11 @@ slice-aggregate-copy-padded c = search needs
 
 copy-padded-requires : tie.Need-copy-padded-requires
 copy-padded-requires c κs =
-    let b : length (c .before .before .before .reached .result .bits) ≡ classSet = ap length (c .before .before .before .reached .ensures) ∙ set-length classSet _ in
-    let r : length (take classSet (c .before .before .before .before .before .before .args .row .now)) ≡ classSet = length-take-le classSet (c .before .before .before .before .before .before .args .row .now) (omega arith) in
-    omega arith
+    let c₁ = c .before .before .before in
+    let start = c₁ .before .before .before in
+    let row = start .args .row .now in
+    let b : length (c₁ .reached .result .bits) ≡ classSet = ap length (c₁ .reached .ensures) ∙ set-length classSet _ in let r : length
+    (take classSet row) ≡ classSet = length-take-le classSet row (omega arith) in omega arith
 
 sub-write-mandatory : tie.Need-sub-write-mandatory
 sub-write-mandatory c = search needs
@@ -59,7 +62,15 @@ same-length : tie.Need-same-length
 same-length c = search needs
 
 returns : tie.Need-returns
-returns c = row-written (classTable (c .before .before .before .before .before .before .before .before .before .before .before .before .before .before .before .before .before .args .classes .now)) (c .before .before .before .before .before .before .before .before .before .before .before .before .before .before .before .before .before .args .c .0) (c .before .before .before .before .before .before .before .before .before .before .before .before .before .before .before .before .before .args .row .now) (c .before .before .before .before .before .before .before .before .before .before .before .before .before .before .reached .result .bits) (c .before .before .before .before .before .before .before .before .before .before .copy-padded .last .0) (c .before .before .before .before .before .before .write-mandatory .last .1 .1 .0) (c .before .before .write-optional .last .1 .1 .0) ((c .before .before .before .before .before .before .before .before .before .before .before .before .before .before .before .before .before) .pre .1) ((c .before .before .before .before .before .before .before .before .before .before .before .before .before .before .before .before .before) .pre .0 .few) (c .before .before .before .before .before .before .before .before .before .before .before .before .before .before .reached .ensures) (c .before .before .before .before .before .before .before .before .before .before .copy-padded .ensures) (c .before .before .before .before .before .before .write-mandatory .ensures) (c .before .before .write-optional .ensures)
+returns c =
+    let c₁ = c .before .before in
+    let c₂ = c₁ .before .before .before .before in
+    let c₃ = c₂ .before .before .before .before in
+    let c₄ = c₃ .before .before .before .before in
+    let start = c₄ .before .before .before in
+    row-written (tableIn Classes (start .args .classes .now)) (start .args .c .0) (start .args .row .now) (c₄ .reached .result .bits)
+    (c₃ .copy-padded .last .0) (c₂ .write-mandatory .last .1 .1 .0) (c₁ .write-optional .last .1 .1 .0) (start .pre .1) (start .pre .0 .few)
+    (c₄ .reached .ensures) (c₃ .copy-padded .ensures) (c₂ .write-mandatory .ensures) (c₁ .write-optional .ensures)
 
 pub write-row-spec : {M : Type 1} → statement M
 write-row-spec =

@@ -1,14 +1,15 @@
 use mathlib.Core.Path.{sym, ap, _∙_}
 use Prim.Native.Nat.{_≤_}
+use native.Mathlib.Omega.{arith}
 use lib.ListN.{length}
+use borrow.Author.Needs.{needs}
 use Rattle.prelude.specs.PartLaws.{part-length}
 use Rattle.sets.specs.Sets.{member}
 use Rattle.schema.specs.Layout.{attributeSet, classWidth}
-use Rattle.schema.specs.Store.{classTable}
-use Rattle.schema.specs.StoreLaws.{class-wide}
+use Rattle.schema.specs.Store.{tableIn}
+use Rattle.schema.specs.StoreLaws.{table-row-wide}
+use Rattle.schema.specs.declared.number.TableId.the-variants.{Classes}
 use Rattle.graph.proofs.Gather.{chosen-joined, not-chosen}
-use native.Mathlib.Omega.{arith}
-use borrow.Author.Needs.{needs}
 use Rattle.graph.proofs.collect.add_chosen.Statement.{statement}
 use Rattle.graph.proofs.collect.add_chosen.Tie as tie
 
@@ -19,21 +20,43 @@ class-row-requires : tie.Need-class-row-requires
 class-row-requires c κs = search needs
 
 part-of-requires : tie.Need-part-of-requires
-part-of-requires c κs = let w : classWidth ≤ length (c .before .class-row .result .now) = class-wide (c .before .before .before .before .before .before .args .classes .now) (c .before .class-row .result .now) (c .before .before .before .before .before .before .args .k) ((c .before .before .before .before .before .before) .pre .0 .long) (omega arith) (c .before .class-row .ensures) in omega arith
+part-of-requires c κs =
+    let c₁ = c .before in
+    let start = c₁ .before .before .before .before .before in
+    let x = c₁ .class-row .result .now in
+    let w : classWidth ≤ length x = table-row-wide Classes (start .args .classes .now) x (start .args .k) (start .pre .0 .long) (omega arith)
+    (c₁ .class-row .ensures) in omega arith
 
 join-requires : tie.Need-join-requires
 join-requires c κs =
-    let w : classWidth ≤ length (c .before .before .class-row .result .now) = class-wide (c .before .before .before .before .before .before .before .args .classes .now) (c .before .before .class-row .result .now) (c .before .before .before .before .before .before .before .args .k) ((c .before .before .before .before .before .before .before) .pre .0 .long) (omega arith) (c .before .before .class-row .ensures) in
-    ap length (c .part-of .ensures) ∙ part-length (c .before .before .before .before .before .before .before .args .at) attributeSet (c .before .before .class-row .result .now) (omega arith) ∙ sym ((c .before .before .before .before .before .before .before) .pre .1 .2)
+    let c₁ = c .before .before in
+    let start = c₁ .before .before .before .before .before in
+    let x = c₁ .class-row .result .now in
+    let w : classWidth ≤ length x = table-row-wide Classes (start .args .classes .now) x (start .args .k) (start .pre .0 .long) (omega arith)
+    (c₁ .class-row .ensures) in ap length (c .part-of .ensures) ∙ part-length (start .args .at) attributeSet x (omega arith) ∙ sym (start .pre .1 .2)
 
 same-length : tie.Need-same-length
 same-length c = search needs
 
 returns : tie.Need-returns
-returns c = chosen-joined (classTable (c .before .before .before .before .before .before .before .before .before .before .args .classes .now)) (member (c .before .before .before .before .before .before .before .before .before .before .args .chosen .bits)) (c .before .before .before .before .before .before .before .before .before .before .args .at) (c .before .before .before .before .before .before .before .before .before .before .args .k) (c .before .before .before .before .before .before .before .before .before .before .args .out .now) ((c .before .before .before .before .before .before .before .before .before .before) .pre .1 .2) _ _ _ (sym (c .before .before .before .before .before .before .before .has .ensures) ∙ c .before .before .before .before .before .before .if1 .taken) (c .before .before .before .before .before .class-row .ensures) (c .before .before .before .part-of .ensures) (c .before .before .join .ensures)
+returns c =
+    let c₁ = c .before .before in
+    let c₂ = c₁ .before in
+    let c₃ = c₂ .before .before in
+    let c₄ = c₃ .before in
+    let c₅ = c₄ .before in
+    let start = c₅ .before .before .before in
+    chosen-joined (tableIn Classes (start .args .classes .now)) (member (start .args .chosen .bits)) (start .args .at) (start .args .k)
+    (start .args .out .now) (start .pre .1 .2) _ _ _ (sym (c₅ .has .ensures) ∙ c₄ .if1 .taken) (c₃ .class-row .ensures) (c₂ .part-of .ensures)
+    (c₁ .join .ensures)
 
 returns-2 : tie.Need-returns-2
-returns-2 c = not-chosen (classTable (c .before .before .before .before .args .classes .now)) (member (c .before .before .before .before .args .chosen .bits)) (c .before .before .before .before .args .at) (c .before .before .before .before .args .k) (c .before .before .before .before .args .out .now) ((c .before .before .before .before) .pre .1 .2) (λ i. c .before .before .slice-known .given i .fits) (sym (c .before .has .ensures) ∙ c .if1 .left)
+returns-2 c =
+    let c₁ = c .before in
+    let c₂ = c₁ .before in
+    let start = c₂ .before .before in
+    not-chosen (tableIn Classes (start .args .classes .now)) (member (start .args .chosen .bits)) (start .args .at) (start .args .k)
+    (start .args .out .now) (start .pre .1 .2) (λ i. c₂ .slice-known .given i .fits) (sym (c₁ .has .ensures) ∙ c .if1 .left)
 
 pub add-chosen-spec : {M : Type 1} → statement M
 add-chosen-spec =

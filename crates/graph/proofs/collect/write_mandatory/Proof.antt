@@ -1,10 +1,11 @@
 use mathlib.Core.Path.{ap, _∙_}
+use borrow.Author.Needs.{needs}
 use Rattle.prelude.specs.Part.{zeros}
 use Rattle.sets.specs.Sets.{member}
 use Rattle.schema.specs.Layout.{mandatoryAt}
-use Rattle.schema.specs.Store.{classTable}
+use Rattle.schema.specs.Store.{tableIn}
+use Rattle.schema.specs.declared.number.TableId.the-variants.{Classes}
 use Rattle.graph.proofs.Gather.{from-empty}
-use borrow.Author.Needs.{needs}
 use Rattle.graph.proofs.collect.write_mandatory.Statement.{statement}
 use Rattle.graph.proofs.collect.write_mandatory.Tie as tie
 
@@ -18,7 +19,12 @@ same-length : tie.Need-same-length
 same-length c = search needs
 
 returns : tie.Need-returns
-returns c = from-empty (classTable (c .before .before .before .before .before .before .before .before .before .before .args .classes .now)) (member (c .before .before .before .before .before .before .before .before .before .before .args .chosen .bits)) mandatoryAt _ _ (c .before .before .before .before .before .before .clear .ensures ∙ ap zeros ((c .before .before .before .before .before .before .before .before .before .before) .pre .1)) (c .before .before .add-all .ensures)
+returns c =
+    let c₁ = c .before .before in
+    let c₂ = c₁ .before .before .before .before in
+    let start = c₂ .before .before .before .before in
+    from-empty (tableIn Classes (start .args .classes .now)) (member (start .args .chosen .bits)) mandatoryAt _ _
+    (c₂ .clear .ensures ∙ ap zeros (start .pre .1)) (c₁ .add-all .ensures)
 
 pub write-mandatory-spec : {M : Type 1} → statement M
 write-mandatory-spec = tie.close (tie.spec clear-requires add-all-requires same-length returns)

@@ -1,9 +1,10 @@
 use mathlib.Core.Path.{ap, _∙_}
+use borrow.Author.Needs.{needs}
 use Rattle.prelude.specs.Part.{zeros}
 use Rattle.sets.specs.Sets.{member}
-use Rattle.schema.specs.Store.{classTable}
+use Rattle.schema.specs.Store.{tableIn}
+use Rattle.schema.specs.declared.number.TableId.the-variants.{Classes}
 use Rattle.graph.proofs.Gather.{both-lists}
-use borrow.Author.Needs.{needs}
 use Rattle.graph.proofs.collect.write_optional.Statement.{statement}
 use Rattle.graph.proofs.collect.write_optional.Tie as tie
 
@@ -20,7 +21,13 @@ same-length : tie.Need-same-length
 same-length c = search needs
 
 returns : tie.Need-returns
-returns c = both-lists (classTable (c .before .before .before .before .before .before .before .before .before .before .before .before .before .before .args .classes .now)) (member (c .before .before .before .before .before .before .before .before .before .before .before .before .before .before .args .chosen .bits)) _ _ _ (c .before .before .before .before .before .before .before .before .before .before .clear .ensures ∙ ap zeros ((c .before .before .before .before .before .before .before .before .before .before .before .before .before .before) .pre .1)) (c .before .before .before .before .before .before .add-all .ensures) (c .before .before .add-all2 .ensures)
+returns c =
+    let c₁ = c .before .before in
+    let c₂ = c₁ .before .before .before .before in
+    let c₃ = c₂ .before .before .before .before in
+    let start = c₃ .before .before .before .before in
+    both-lists (tableIn Classes (start .args .classes .now)) (member (start .args .chosen .bits)) _ _ _
+    (c₃ .clear .ensures ∙ ap zeros (start .pre .1)) (c₂ .add-all .ensures) (c₁ .add-all2 .ensures)
 
 pub write-optional-spec : {M : Type 1} → statement M
 write-optional-spec =

@@ -1,13 +1,13 @@
-use mathlib.Core.Path.{_≡_, sym, _∙_}
 use mathlib.Core.Bool.{false}
+use mathlib.Core.Path.{_≡_, sym, _∙_}
 use Prim.Native.Nat.{ℕ, _≤_, _<_, _-_}
+use native.Mathlib.Omega.{arith}
 use borrow.Author.Count.{below-more}
+use borrow.Author.Needs.{needs}
 use Rattle.sets.specs.Sets.{from}
 use Rattle.sets.specs.ListLaws.{from-before, from-past}
 use Rattle.graph.specs.Visit.{unvisitedIn}
 use Rattle.graph.proofs.Next.{class-found, class-none}
-use native.Mathlib.Omega.{arith}
-use borrow.Author.Needs.{needs}
 use Rattle.graph.proofs.reach.first_unvisited.Statement.{statement}
 use Rattle.graph.proofs.reach.first_unvisited.Tie as tie
 
@@ -24,7 +24,13 @@ is-unvisited-requires : tie.Need-is-unvisited-requires Inv-loop μ-loop
 is-unvisited-requires c κs = search needs
 
 returns : tie.Need-returns Inv-loop μ-loop
-returns c = class-found _ _ _ (search needs) (c .before .before .before .loop .inv .1) (from-past _ (unvisitedIn (c .before .before .before .before .before .before .args .fixed .now) (c .before .before .before .before .before .before .args .other .now) (c .before .before .before .before .before .before .args .seen .bits)) _ (c .before .before .before .loop .inv .0) ∙ sym (c .before .is-unvisited .ensures) ∙ c .if1 .taken)
+returns c =
+    let c₁ = c .before in
+    let c₂ = c₁ .before .before in
+    let start = c₂ .before .before .before in
+    class-found _ _ _ (search needs) (c₂ .loop .inv .1)
+    (from-past _ (unvisitedIn (start .args .fixed .now) (start .args .other .now) (start .args .seen .bits)) _ (c₂ .loop .inv .0) ∙ sym
+    (c₁ .is-unvisited .ensures) ∙ c .if1 .taken)
 
 add-d : tie.Need-add-d Inv-loop μ-loop
 add-d c = search needs
@@ -33,7 +39,15 @@ loop-less : tie.Need-loop-less Inv-loop μ-loop
 loop-less c = search needs
 
 loop-again : tie.Need-loop-again Inv-loop μ-loop
-loop-again c = (search needs, below-more _ _ (c .before .before .before .loop .inv .1) (from-past _ (unvisitedIn (c .before .before .before .before .before .before .args .fixed .now) (c .before .before .before .before .before .before .args .other .now) (c .before .before .before .before .before .before .args .seen .bits)) _ (c .before .before .before .loop .inv .0) ∙ sym (c .before .is-unvisited .ensures) ∙ c .if1 .left))
+loop-again c =
+    let c₁ = c .before in
+    let c₂ = c₁ .before .before in
+    let start = c₂ .before .before .before in (
+      search needs,
+      below-more _ _ (c₂ .loop .inv .1)
+          (from-past _ (unvisitedIn (start .args .fixed .now) (start .args .other .now) (start .args .seen .bits)) _ (c₂ .loop .inv .0) ∙ sym
+          (c₁ .is-unvisited .ensures) ∙ c .if1 .left),
+    )
 
 returns-2 : tie.Need-returns-2 Inv-loop μ-loop
 returns-2 c = class-none _ _ (λ k l. c .before .loop .inv .1 k (omega arith))

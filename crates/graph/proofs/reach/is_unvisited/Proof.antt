@@ -1,8 +1,8 @@
-use mathlib.Core.Path.{_≡_, refl, sym, _∙_}
 use mathlib.Core.Bool.{Bool, true, false, not, _&&_, _||_, true≢false, false≢true}
+use mathlib.Core.Path.{_≡_, refl, sym, _∙_}
+use borrow.Author.Needs.{needs}
 use Rattle.sets.specs.Sets.{member}
 use Rattle.graph.specs.Visit.{unvisitedIn}
-use borrow.Author.Needs.{needs}
 use Rattle.graph.proofs.reach.is_unvisited.Statement.{statement}
 use Rattle.graph.proofs.reach.is_unvisited.Tie as tie
 
@@ -29,21 +29,34 @@ has-requires c κs = search needs
 
 returns : tie.Need-returns
 unfolding unvisitedIn
-returns c = unseen-false (member (c .before .before .before .before .args .fixed .now) (c .before .before .before .before .args .d)) (member (c .before .before .before .before .args .other .now) (c .before .before .before .before .args .d)) _ (sym (c .before .has .ensures) ∙ c .if1 .taken)
+returns c =
+    let c₁ = c .before in
+    let start = c₁ .before .before .before in
+    let d = start .args .d in
+    unseen-false (member (start .args .fixed .now) d) (member (start .args .other .now) d) _ (sym (c₁ .has .ensures) ∙ c .if1 .taken)
 
 has-requires-2 : tie.Need-has-requires-2
 has-requires-2 c κs = search needs
 
 returns-2 : tie.Need-returns-2
 unfolding unvisitedIn
-returns-2 c = listed-first _ _ _ (sym (c .before .has2 .ensures) ∙ c .if2 .taken) (sym (c .before .before .before .has .ensures) ∙ c .before .before .if1 .left)
+returns-2 c =
+    let c₁ = c .before in
+    let c₂ = c₁ .before in
+    let c₃ = c₂ .before in
+    listed-first _ _ _ (sym (c₁ .has2 .ensures) ∙ c .if2 .taken) (sym (c₃ .has .ensures) ∙ c₂ .if1 .left)
 
 has-requires-3 : tie.Need-has-requires-3
 has-requires-3 c κs = search needs
 
 returns-3 : tie.Need-returns-3
 unfolding unvisitedIn
-returns-3 c = c .has3 .ensures ∙ listed-second _ _ _ (sym (c .before .before .has2 .ensures) ∙ c .before .if2 .left) (sym (c .before .before .before .before .has .ensures) ∙ c .before .before .before .if1 .left)
+returns-3 c =
+    let c₁ = c .before in
+    let c₂ = c₁ .before in
+    let c₃ = c₂ .before in
+    let c₄ = c₃ .before in
+    c .has3 .ensures ∙ listed-second _ _ _ (sym (c₂ .has2 .ensures) ∙ c₁ .if2 .left) (sym (c₄ .has .ensures) ∙ c₃ .if1 .left)
 
 pub is-unvisited-spec : {M : Type 1} → statement M
 is-unvisited-spec =

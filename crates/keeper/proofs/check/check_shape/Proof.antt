@@ -1,16 +1,10 @@
 use mathlib.Core.Path.{sym, _∙_}
+use borrow.Author.Needs.{needs}
 use Rattle.schema.specs.Store.{stores}
 use Rattle.schema.specs.StoreLaws.{long-enough}
 use Rattle.keeper.specs.AnsweringLaws.{short-stores, formed-stores, broken-stores}
-use borrow.Author.Needs.{needs}
 use Rattle.keeper.proofs.check.check_shape.Statement.{statement}
 use Rattle.keeper.proofs.check.check_shape.Tie as tie
-use Rattle.keeper.proofs.check.check_shape.Reads as reads
-use Rattle.keeper.proofs.check.check_shape.Lts as lts
-use Rattle.schema.proofs.answer.Answer.done.Reads as done-reads
-use Rattle.schema.proofs.answer.Answer.refused.Reads as refused-reads
-use Rattle.schema.proofs.store.any_short.Reads as any-short-reads
-use Rattle.shape.proofs.stores_formed.Reads as stores-formed-reads
 
 any-short-requires : tie.Need-any-short-requires
 any-short-requires c κs = search needs
@@ -19,22 +13,33 @@ refused-requires : tie.Need-refused-requires
 refused-requires c κs = search needs
 
 returns : tie.Need-returns
-returns c = c .refused .ensures ∙ short-stores (stores (c .before .before .before .before .before .before .args .attributes .now) (c .before .before .before .before .before .before .args .classes .now) (c .before .before .before .before .before .before .args .closure .now)) (sym (c .before .before .any-short .ensures) ∙ c .before .if1 .taken)
+returns c =
+    let c₁ = c .before in let c₂ = c₁ .before in let start = c₂ .before .before .before .before in c .refused .ensures ∙ short-stores
+    (stores (start .args .attributes .now) (start .args .classes .now) (start .args .closure .now)) (sym (c₂ .any-short .ensures) ∙ c₁ .if1 .taken)
 
 stores-formed-requires : tie.Need-stores-formed-requires
-stores-formed-requires c κs = (let l = long-enough (stores (c .before .before .before .before .before .args .attributes .now) (c .before .before .before .before .before .args .classes .now) (c .before .before .before .before .before .args .closure .now)) (sym (c .before .any-short .ensures) ∙ c .if1 .left) in (l .attributes, l .classes))
+stores-formed-requires c κs =
+    let c₁ = c .before in let start = c₁ .before .before .before .before in let l = long-enough
+    (stores (start .args .attributes .now) (start .args .classes .now) (start .args .closure .now)) (sym (c₁ .any-short .ensures) ∙ c .if1 .left) in
+    (l .attributes, l .classes)
 
-done-requires : tie.Need-done-requires
-done-requires c κs = search needs
+passed-requires : tie.Need-passed-requires
+passed-requires c κs = search needs
 
 refused-requires-2 : tie.Need-refused-requires-2
 refused-requires-2 c κs = search needs
 
 returns-2 : tie.Need-returns-2
-returns-2 c = c .done .ensures ∙ formed-stores (stores (c .before .before .before .before .before .before .before .before .args .attributes .now) (c .before .before .before .before .before .before .before .before .args .classes .now) (c .before .before .before .before .before .before .before .before .args .closure .now)) (sym (c .before .before .before .before .any-short .ensures) ∙ c .before .before .before .if1 .left) (sym (c .before .before .stores-formed .ensures) ∙ c .before .if2 .taken)
+returns-2 c =
+    let c₁ = c .before in let c₂ = c₁ .before in let c₃ = c₂ .before in let c₄ = c₃ .before in let start = c₄ .before .before .before .before in
+    c .passed .ensures ∙ formed-stores (stores (start .args .attributes .now) (start .args .classes .now) (start .args .closure .now))
+    (sym (c₄ .any-short .ensures) ∙ c₃ .if1 .left) (sym (c₂ .stores-formed .ensures) ∙ c₁ .if2 .taken)
 
 returns-3 : tie.Need-returns-3
-returns-3 c = c .refused2 .ensures ∙ broken-stores (stores (c .before .before .before .before .before .before .before .before .args .attributes .now) (c .before .before .before .before .before .before .before .before .args .classes .now) (c .before .before .before .before .before .before .before .before .args .closure .now)) (sym (c .before .before .before .before .any-short .ensures) ∙ c .before .before .before .if1 .left) (sym (c .before .before .stores-formed .ensures) ∙ c .before .if2 .left)
+returns-3 c =
+    let c₁ = c .before in let c₂ = c₁ .before in let c₃ = c₂ .before in let c₄ = c₃ .before in let start = c₄ .before .before .before .before in
+    c .refused2 .ensures ∙ broken-stores (stores (start .args .attributes .now) (start .args .classes .now) (start .args .closure .now))
+    (sym (c₄ .any-short .ensures) ∙ c₃ .if1 .left) (sym (c₂ .stores-formed .ensures) ∙ c₁ .if2 .left)
 
 pub check-shape-spec : {M : Type 1} → statement M
 check-shape-spec =
@@ -44,7 +49,7 @@ check-shape-spec =
     refused-requires
     returns
     stores-formed-requires
-    done-requires
+    passed-requires
     refused-requires-2
     returns-2
     returns-3)

@@ -1,22 +1,26 @@
+use mathlib.Core.Path.{ap, _∙_}
+use Prim.Native.Nat.{ℕ}
+use borrow.Author.Needs.{needs}
+use Rattle.prelude.specs.Part.{splice, zeros}
 use Rattle.schema.specs.Store.{stores}
 use Rattle.keeper.specs.Load.{emptied}
-use borrow.Author.Needs.{needs}
 use Rattle.keeper.proofs.load.empty_all.Statement.{statement}
 use Rattle.keeper.proofs.load.empty_all.Tie as tie
-use Rattle.keeper.proofs.load.empty_all.Reads as reads
-use Rattle.keeper.proofs.load.empty_all.Lts as lts
-use Rattle.stores.proofs.empty_attributes.Reads as empty-attributes-reads
-use Rattle.stores.proofs.empty_classes.Reads as empty-classes-reads
-use Rattle.stores.proofs.empty_closure.Reads as empty-closure-reads
 
-empty-attributes-requires : tie.Need-empty-attributes-requires
-empty-attributes-requires c κs = search needs
+store-length-requires : tie.Need-store-length-requires
+store-length-requires c κs = search needs
 
-empty-classes-requires : tie.Need-empty-classes-requires
-empty-classes-requires c κs = search needs
+empty-requires : tie.Need-empty-requires
+empty-requires c κs = search needs
 
-empty-closure-requires : tie.Need-empty-closure-requires
-empty-closure-requires c κs = search needs
+store-length-requires-2 : tie.Need-store-length-requires-2
+store-length-requires-2 c κs = search needs
+
+empty-requires-2 : tie.Need-empty-requires-2
+empty-requires-2 c κs = search needs
+
+empty-requires-3 : tie.Need-empty-requires-3
+empty-requires-3 c κs = search needs
 
 same-length : tie.Need-same-length
 same-length c = search needs
@@ -29,15 +33,21 @@ same-length-3 c = search needs
 
 returns : tie.Need-returns
 unfolding emptied
-returns c = λ i. stores (c .before .before .before .before .before .before .before .before .before .before .empty-attributes .ensures i) (c .before .before .before .before .before .before .empty-classes .ensures i) (c .before .before .empty-closure .ensures i)
+returns c =
+    let c₁ = c .before .before in let c₂ = c₁ .before .before .before .before in let c₃ = c₂ .before in let c₄ = c₃ .before .before .before .before in
+    let c₅ = c₄ .before in let start = c₅ .before .before .before .before .before in λ i. stores
+    ((c₄ .empty .ensures ∙ ap (λ (n : ℕ). splice 0 (zeros n) (start .args .attributes .now)) (c₅ .store-length .ensures)) i)
+    ((c₂ .empty2 .ensures ∙ ap (λ (n : ℕ). splice 0 (zeros n) (start .args .classes .now)) (c₃ .store-length2 .ensures)) i) (c₁ .empty3 .ensures i)
 
 pub empty-all-spec : {M : Type 1} → statement M
 empty-all-spec =
     tie.close
     (tie.spec
-    empty-attributes-requires
-    empty-classes-requires
-    empty-closure-requires
+    store-length-requires
+    empty-requires
+    store-length-requires-2
+    empty-requires-2
+    empty-requires-3
     same-length
     same-length-2
     same-length-3

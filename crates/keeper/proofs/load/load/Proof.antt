@@ -1,17 +1,10 @@
 use mathlib.Core.Path.{sym, _∙_}
+use borrow.Author.Needs.{needs}
 use Rattle.schema.specs.Store.{stores}
 use Rattle.schema.specs.StoreLaws.{long-enough}
-use Rattle.keeper.proofs.Loading.{short-ends, filled-ends, emptied-ends, read-long, read-readable}
-use borrow.Author.Needs.{needs}
+use Rattle.keeper.proofs.Loading.{stores-lent, short-ends, found-readable, found-long, filled-ends, emptied-ends}
 use Rattle.keeper.proofs.load.load.Statement.{statement}
 use Rattle.keeper.proofs.load.load.Tie as tie
-use Rattle.keeper.proofs.load.load.Reads as reads
-use Rattle.keeper.proofs.load.load.Lts as lts
-use Rattle.graph.proofs.closure.refresh_all.Reads as refresh-all-reads
-use Rattle.keeper.proofs.load.empty_all.Reads as empty-all-reads
-use Rattle.keeper.proofs.load.read_and_judge.Reads as read-and-judge-reads
-use Rattle.schema.proofs.answer.Answer.refused.Reads as refused-reads
-use Rattle.schema.proofs.store.any_short.Reads as any-short-reads
 
 any-short-requires : tie.Need-any-short-requires
 any-short-requires c κs = search needs
@@ -29,16 +22,32 @@ same-length-3 : tie.Need-same-length-3
 same-length-3 c = search needs
 
 returns : tie.Need-returns
-returns c = short-ends (c .before .before .before .before .before .before .before .before .before .before .args .sheet .now) (stores (c .before .before .before .before .before .before .before .before .before .before .args .attributes .now) (c .before .before .before .before .before .before .before .before .before .before .args .classes .now) (c .before .before .before .before .before .before .before .before .before .before .args .closure .now)) (c .refused .ensures) (sym (c .before .before .any-short .ensures) ∙ c .before .if1 .taken)
+returns c =
+    let c₁ = c .before in let c₂ = c₁ .before in let start = c₂ .before .before .before .before .before .before .before .before in short-ends
+    (start .args .sheet .now) (stores (start .args .attributes .now) (start .args .classes .now) (start .args .closure .now)) (c .refused .ensures)
+    (sym (c₂ .any-short .ensures) ∙ c₁ .if1 .taken)
 
 read-and-judge-requires : tie.Need-read-and-judge-requires
-read-and-judge-requires c κs = ((long-enough (stores (c .before .before .before .before .before .before .before .before .before .before .before .args .attributes .now) (c .before .before .before .before .before .before .before .before .before .before .before .args .classes .now) (c .before .before .before .before .before .before .before .before .before .before .before .args .closure .now)) (sym (c .before .before .before .any-short .ensures) ∙ c .before .before .if1 .left)) .attributes, (long-enough (stores (c .before .before .before .before .before .before .before .before .before .before .before .args .attributes .now) (c .before .before .before .before .before .before .before .before .before .before .before .args .classes .now) (c .before .before .before .before .before .before .before .before .before .before .before .args .closure .now)) (sym (c .before .before .before .any-short .ensures) ∙ c .before .before .if1 .left)) .classes)
+read-and-judge-requires c κs =
+    let c₁ = c .before .before in let c₂ = c₁ .before in let start = c₂ .before .before .before .before .before .before .before .before in stores-lent
+    (stores (start .args .attributes .now) (start .args .classes .now) (start .args .closure .now)) (sym (c₂ .any-short .ensures) ∙ c₁ .if1 .left)
 
 refresh-all-requires : tie.Need-refresh-all-requires
-refresh-all-requires c κs = (read-readable (c .before .before .before .before .before .before .before .before .before .before .before .before .before .before .before .before .before .before .before .before .args .sheet .now) (c .before .before .before .before .before .before .before .before .before .before .before .before .before .before .before .before .before .before .before .before .args .attributes .now) (c .before .before .before .before .before .before .before .before .before .before .before .before .before .before .before .before .before .before .before .before .args .classes .now) (λ i. c .before .before .before .before .before .before .before .before .before .before .before .before .before .before .before .before .before .before .before .shared-slice-known .given i .fits) ((long-enough (stores (c .before .before .before .before .before .before .before .before .before .before .before .before .before .before .before .before .before .before .before .before .args .attributes .now) (c .before .before .before .before .before .before .before .before .before .before .before .before .before .before .before .before .before .before .before .before .args .classes .now) (c .before .before .before .before .before .before .before .before .before .before .before .before .before .before .before .before .before .before .before .before .args .closure .now)) (sym (c .before .before .before .before .before .before .before .before .before .before .before .before .any-short .ensures) ∙ c .before .before .before .before .before .before .before .before .before .before .before .if1 .left)) .attributes) ((long-enough (stores (c .before .before .before .before .before .before .before .before .before .before .before .before .before .before .before .before .before .before .before .before .args .attributes .now) (c .before .before .before .before .before .before .before .before .before .before .before .before .before .before .before .before .before .before .before .before .args .classes .now) (c .before .before .before .before .before .before .before .before .before .before .before .before .before .before .before .before .before .before .before .before .args .closure .now)) (sym (c .before .before .before .before .before .before .before .before .before .before .before .before .any-short .ensures) ∙ c .before .before .before .before .before .before .before .before .before .before .before .if1 .left)) .classes) (c .before .before .before .before .before .before .before .before .read-and-judge .ensures .2), (long-enough (stores (c .before .before .before .before .before .before .before .before .before .before .before .before .before .before .before .before .before .before .before .before .args .attributes .now) (c .before .before .before .before .before .before .before .before .before .before .before .before .before .before .before .before .before .before .before .before .args .classes .now) (c .before .before .before .before .before .before .before .before .before .before .before .before .before .before .before .before .before .before .before .before .args .closure .now)) (sym (c .before .before .before .before .before .before .before .before .before .before .before .before .any-short .ensures) ∙ c .before .before .before .before .before .before .before .before .before .before .before .if1 .left)) .closure)
+refresh-all-requires c κs =
+    let c₁ = c .before .before .before .before .before .before .before .before in let c₂ = c₁ .before .before .before in let c₃ = c₂ .before in let c₄
+    = c₃ .before .before .before .before .before .before .before in let start = c₄ .before in let s = stores (start .args .attributes .now)
+    (start .args .classes .now) (start .args .closure .now) in let e = sym (c₃ .any-short .ensures) ∙ c₂ .if1 .left in (
+      found-readable (start .args .sheet .now) s e (λ i. c₄ .shared-slice-known .given i .fits) (c₁ .read-and-judge .ensures),
+      long-enough s
+          e .closure,
+    )
 
 empty-all-requires : tie.Need-empty-all-requires
-empty-all-requires c κs = read-long (c .before .before .before .before .before .before .before .before .before .before .before .before .before .before .before .before .before .before .before .before .before .args .sheet .now) (stores (c .before .before .before .before .before .before .before .before .before .before .before .before .before .before .before .before .before .before .before .before .before .args .attributes .now) (c .before .before .before .before .before .before .before .before .before .before .before .before .before .before .before .before .before .before .before .before .before .args .classes .now) (c .before .before .before .before .before .before .before .before .before .before .before .before .before .before .before .before .before .before .before .before .before .args .closure .now)) (sym (c .before .before .before .before .before .before .before .before .before .before .before .before .before .any-short .ensures) ∙ c .before .before .before .before .before .before .before .before .before .before .before .before .if1 .left) (λ i. c .before .before .before .before .before .before .before .before .before .before .before .before .before .before .before .before .before .before .before .before .shared-slice-known .given i .fits) (long-enough (stores (c .before .before .before .before .before .before .before .before .before .before .before .before .before .before .before .before .before .before .before .before .before .args .attributes .now) (c .before .before .before .before .before .before .before .before .before .before .before .before .before .before .before .before .before .before .before .before .before .args .classes .now) (c .before .before .before .before .before .before .before .before .before .before .before .before .before .before .before .before .before .before .before .before .before .args .closure .now)) (sym (c .before .before .before .before .before .before .before .before .before .before .before .before .before .any-short .ensures) ∙ c .before .before .before .before .before .before .before .before .before .before .before .before .if1 .left)) (c .before .before .before .before .before .before .before .before .before .read-and-judge .ensures .1) (c .before .before .before .before .before .before .before .before .before .read-and-judge .ensures .2)
+empty-all-requires c κs =
+    let c₁ = c .before .before .before .before .before .before .before .before .before in let c₂ = c₁ .before .before .before in let c₃ = c₂ .before
+    in let c₄ = c₃ .before .before .before .before .before .before .before in let start = c₄ .before in let s = stores (start .args .attributes .now)
+    (start .args .classes .now) (start .args .closure .now) in found-long (start .args .sheet .now) s (sym (c₃ .any-short .ensures) ∙ c₂ .if1 .left)
+    (λ i. c₄ .shared-slice-known .given i .fits) (c₁ .read-and-judge .ensures)
 
 same-length-4 : tie.Need-same-length-4
 same-length-4 c = search needs
@@ -50,7 +59,12 @@ same-length-6 : tie.Need-same-length-6
 same-length-6 c = search needs
 
 returns-2 : tie.Need-returns-2
-returns-2 c = filled-ends (c .before .before .before .before .before .before .before .before .before .before .before .before .before .before .before .before .before .before .before .before .before .before .before .args .sheet .now) (stores (c .before .before .before .before .before .before .before .before .before .before .before .before .before .before .before .before .before .before .before .before .before .before .before .args .attributes .now) (c .before .before .before .before .before .before .before .before .before .before .before .before .before .before .before .before .before .before .before .before .before .before .before .args .classes .now) (c .before .before .before .before .before .before .before .before .before .before .before .before .before .before .before .before .before .before .before .before .before .before .before .args .closure .now)) (sym (c .before .before .before .before .before .before .before .before .before .before .before .before .before .before .before .any-short .ensures) ∙ c .before .before .before .before .before .before .before .before .before .before .before .before .before .before .if1 .left) (c .before .before .before .before .before .before .before .before .before .before .before .read-and-judge .ensures) (c .before .before .before .before .before .if2 .taken) (c .before .before .refresh-all .ensures)
+returns-2 c =
+    let c₁ = c .before .before in let c₂ = c₁ .before .before .before in let c₃ = c₂ .before .before .before .before .before .before in let c₄ =
+    c₃ .before .before .before in let c₅ = c₄ .before in let c₆ = c₅ .before .before .before .before .before .before .before in let start = c₆ .before
+    in let s = stores (start .args .attributes .now) (start .args .classes .now) (start .args .closure .now) in filled-ends (start .args .sheet .now)
+    s (sym (c₅ .any-short .ensures) ∙ c₄ .if1 .left) (λ i. c₆ .shared-slice-known .given i .fits) (c₃ .read-and-judge .ensures) (c₂ .if2 .taken)
+    (c₁ .refresh-all .ensures)
 
 same-length-7 : tie.Need-same-length-7
 same-length-7 c = search needs
@@ -62,7 +76,12 @@ same-length-9 : tie.Need-same-length-9
 same-length-9 c = search needs
 
 returns-3 : tie.Need-returns-3
-returns-3 c = emptied-ends (c .before .before .before .before .before .before .before .before .before .before .before .before .before .before .before .before .before .before .before .before .before .before .before .before .before .before .before .before .args .sheet .now) (stores (c .before .before .before .before .before .before .before .before .before .before .before .before .before .before .before .before .before .before .before .before .before .before .before .before .before .before .before .before .args .attributes .now) (c .before .before .before .before .before .before .before .before .before .before .before .before .before .before .before .before .before .before .before .before .before .before .before .before .before .before .before .before .args .classes .now) (c .before .before .before .before .before .before .before .before .before .before .before .before .before .before .before .before .before .before .before .before .before .before .before .before .before .before .before .before .args .closure .now)) (sym (c .before .before .before .before .before .before .before .before .before .before .before .before .before .before .before .before .before .before .before .before .any-short .ensures) ∙ c .before .before .before .before .before .before .before .before .before .before .before .before .before .before .before .before .before .before .before .if1 .left) (λ i. c .before .before .before .before .before .before .before .before .before .before .before .before .before .before .before .before .before .before .before .before .before .before .before .before .before .before .before .shared-slice-known .given i .fits) (long-enough (stores (c .before .before .before .before .before .before .before .before .before .before .before .before .before .before .before .before .before .before .before .before .before .before .before .before .before .before .before .before .args .attributes .now) (c .before .before .before .before .before .before .before .before .before .before .before .before .before .before .before .before .before .before .before .before .before .before .before .before .before .before .before .before .args .classes .now) (c .before .before .before .before .before .before .before .before .before .before .before .before .before .before .before .before .before .before .before .before .before .before .before .before .before .before .before .before .args .closure .now)) (sym (c .before .before .before .before .before .before .before .before .before .before .before .before .before .before .before .before .before .before .before .before .any-short .ensures) ∙ c .before .before .before .before .before .before .before .before .before .before .before .before .before .before .before .before .before .before .before .if1 .left)) (c .before .before .before .before .before .before .before .before .before .before .before .before .before .before .before .before .read-and-judge .ensures) (c .before .before .before .before .before .before .before .before .before .before .if2 .left) (c .before .before .before .before .before .before .empty-all .ensures)
+returns-3 c =
+    let c₁ = c .before .before .before .before .before .before in let c₂ = c₁ .before .before .before .before in let c₃ =
+    c₂ .before .before .before .before .before .before in let c₄ = c₃ .before .before .before in let c₅ = c₄ .before in let c₆ =
+    c₅ .before .before .before .before .before .before .before in let start = c₆ .before in let s = stores (start .args .attributes .now)
+    (start .args .classes .now) (start .args .closure .now) in emptied-ends (start .args .sheet .now) s (sym (c₅ .any-short .ensures) ∙ c₄ .if1 .left)
+    (λ i. c₆ .shared-slice-known .given i .fits) (c₃ .read-and-judge .ensures) (c₂ .if2 .left) (c₁ .empty-all .ensures)
 
 pub load-spec : {M : Type 1} → statement M
 load-spec =

@@ -1,30 +1,22 @@
-use Rattle.keeper.specs.LoadLaws.{read-judged, read-bad, read-full}
 use mathlib.Core.Path.{_∙_}
-use Rattle.keeper.proofs.Loading.{ready, was-read, read-shaped, read-ends}
 use borrow.Author.Needs.{needs}
+use Rattle.sheet_read.specs.Reading.{readSheet}
+use Rattle.keeper.specs.LoadLaws.{read-bad, read-full}
+use Rattle.keeper.proofs.Loading.{read-shaped, read-ends, judge-ends}
 use Rattle.keeper.proofs.load.read_and_judge.Statement.{statement}
 use Rattle.keeper.proofs.load.read_and_judge.Tie as tie
-use Rattle.keeper.proofs.load.read_and_judge.Reads as reads
-use Rattle.keeper.proofs.load.read_and_judge.Lts as lts
-use Rattle.rules.proofs.judge.judge.Reads as judge-reads
-use Rattle.schema.proofs.answer.Answer.unreadable.Reads as unreadable-reads
-use Rattle.stores.proofs.empty_attributes.Reads as empty-attributes-reads
-use Rattle.stores.proofs.empty_classes.Reads as empty-classes-reads
-
-empty-attributes-requires : tie.Need-empty-attributes-requires
-empty-attributes-requires c κs = search needs
-
-empty-classes-requires : tie.Need-empty-classes-requires
-empty-classes-requires c κs = search needs
 
 read-sheet-requires : tie.Need-read-sheet-requires
-read-sheet-requires c κs = ready (c .before .before .before .before .before .before .before .before .before .before .before .before .before .args .attributes .now) (c .before .before .before .before .before .before .before .before .before .before .before .before .before .args .classes .now) (c .before .before .before .before .before .before .before .before .before .before .before .before .before .pre .0) (c .before .before .before .before .before .before .before .before .before .before .before .before .before .pre .1) (c .before .before .before .before .before .before .before .before .empty-attributes .ensures) (c .before .before .before .before .empty-classes .ensures)
+read-sheet-requires c κs = search needs
 
 enum-told : tie.Need-enum-told
 enum-told c = search needs
 
 judge-requires : tie.Need-judge-requires
-judge-requires c κs = read-shaped (c .before .before .before .before .before .before .before .before .before .before .before .before .before .before .before .before .before .before .before .before .before .before .args .sheet .now) (c .before .before .before .before .before .before .before .before .before .before .before .before .before .before .before .before .before .before .before .before .before .before .args .attributes .now) (c .before .before .before .before .before .before .before .before .before .before .before .before .before .before .before .before .before .before .before .before .before .before .args .classes .now) (λ i. c .before .before .before .before .before .before .before .before .before .before .before .before .before .before .before .before .before .before .before .before .before .shared-slice-known .given i .fits) (c .before .before .before .before .before .before .before .before .before .before .before .before .before .before .before .before .before .before .before .before .before .before .pre .0) (c .before .before .before .before .before .before .before .before .before .before .before .before .before .before .before .before .before .before .before .before .before .before .pre .1) (was-read (c .before .before .before .before .before .before .before .before .before .before .before .before .before .before .before .before .before .before .before .before .before .before .args .sheet .now) (c .before .before .before .before .before .before .before .before .before .before .before .before .before .before .before .before .before .before .before .before .before .before .args .attributes .now) (c .before .before .before .before .before .before .before .before .before .before .before .before .before .before .before .before .before .before .before .before .before .before .args .classes .now) _ _ (c .before .before .before .before .before .before .before .before .before .before .before .before .before .before .before .before .before .empty-attributes .ensures) (c .before .before .before .before .before .before .before .before .before .before .before .before .before .empty-classes .ensures) (c .before .before .before .before .before .before .before .before .read-sheet .ensures))
+judge-requires c κs =
+    let c₁ = c .before .before .before .before .before .before .before .before in let c₂ = c₁ .before .before .before .before .before in let start =
+    c₂ .before in read-shaped (start .args .sheet .now) (λ i. c₂ .shared-slice-known .given i .fits) (start .args .attributes .now)
+    (start .args .classes .now) (start .pre) (c₁ .read-sheet .ensures)
 
 enum-known-at : tie.Need-enum-known-at
 enum-known-at c = search needs
@@ -35,6 +27,9 @@ unreadable-requires c κs = search needs
 enum-known-table : tie.Need-enum-known-table
 enum-known-table c = search needs
 
+full-requires : tie.Need-full-requires
+full-requires c κs = search needs
+
 same-length : tie.Need-same-length
 same-length c = search needs
 
@@ -42,7 +37,12 @@ same-length-2 : tie.Need-same-length-2
 same-length-2 c = search needs
 
 returns : tie.Need-returns
-returns c = read-ends (was-read (c .before .before .before .before .before .before .before .before .before .before .before .before .before .before .before .before .before .before .before .before .before .before .before .args .sheet .now) (c .before .before .before .before .before .before .before .before .before .before .before .before .before .before .before .before .before .before .before .before .before .before .before .args .attributes .now) (c .before .before .before .before .before .before .before .before .before .before .before .before .before .before .before .before .before .before .before .before .before .before .before .args .classes .now) _ _ (c .before .before .before .before .before .before .before .before .before .before .before .before .before .before .before .before .before .before .empty-attributes .ensures) (c .before .before .before .before .before .before .before .before .before .before .before .before .before .before .empty-classes .ensures) (c .before .before .before .before .before .before .before .before .before .read-sheet .ensures)) (c .before .before .before .enum-told .given .1) (c .judge .ensures ∙ read-judged _ _)
+returns c =
+    let c₁ = c .before .before .before in let c₂ = c₁ .before .before .before .before .before .before in let c₃ =
+    c₂ .before .before .before .before .before in let start = c₃ .before in let sheet = start .args .sheet .now in let attributes =
+    start .args .attributes .now in let classes = start .args .classes .now in read-ends sheet (λ i. c₃ .shared-slice-known .given i .fits) attributes
+    classes (start .pre) (c₂ .read-sheet .ensures) (c₁ .enum-told .given .1)
+    (judge-ends sheet (λ i. c₃ .shared-slice-known .given i .fits) attributes classes (start .pre) (c₂ .read-sheet .ensures) (c .judge .ensures))
 
 same-length-3 : tie.Need-same-length-3
 same-length-3 c = search needs
@@ -51,7 +51,11 @@ same-length-4 : tie.Need-same-length-4
 same-length-4 c = search needs
 
 returns-2 : tie.Need-returns-2
-returns-2 c = read-ends (was-read (c .before .before .before .before .before .before .before .before .before .before .before .before .before .before .before .before .before .before .before .before .before .before .args .sheet .now) (c .before .before .before .before .before .before .before .before .before .before .before .before .before .before .before .before .before .before .before .before .before .before .args .attributes .now) (c .before .before .before .before .before .before .before .before .before .before .before .before .before .before .before .before .before .before .before .before .before .before .args .classes .now) _ _ (c .before .before .before .before .before .before .before .before .before .before .before .before .before .before .before .before .before .empty-attributes .ensures) (c .before .before .before .before .before .before .before .before .before .before .before .before .before .empty-classes .ensures) (c .before .before .before .before .before .before .before .before .read-sheet .ensures)) (c .before .before .at .given .1) (c .unreadable .ensures ∙ read-bad _ _ _)
+returns-2 c =
+    let c₁ = c .before .before in let c₂ = c₁ .before .before .before .before .before .before in let c₃ = c₂ .before .before .before .before .before
+    in let start = c₃ .before in let sheet = start .args .sheet .now in read-ends sheet (λ i. c₃ .shared-slice-known .given i .fits)
+    (start .args .attributes .now) (start .args .classes .now) (start .pre) (c₂ .read-sheet .ensures) (c₁ .at .given .1)
+    (c .unreadable .ensures ∙ read-bad (readSheet sheet .rows) _)
 
 same-length-5 : tie.Need-same-length-5
 same-length-5 c = search needs
@@ -60,20 +64,23 @@ same-length-6 : tie.Need-same-length-6
 same-length-6 c = search needs
 
 returns-3 : tie.Need-returns-3
-returns-3 c = read-ends (was-read (c .before .before .before .before .before .before .before .before .before .before .before .before .before .before .before .before .before .before .before .before .before .args .sheet .now) (c .before .before .before .before .before .before .before .before .before .before .before .before .before .before .before .before .before .before .before .before .before .args .attributes .now) (c .before .before .before .before .before .before .before .before .before .before .before .before .before .before .before .before .before .before .before .before .before .args .classes .now) _ _ (c .before .before .before .before .before .before .before .before .before .before .before .before .before .before .before .before .empty-attributes .ensures) (c .before .before .before .before .before .before .before .before .before .before .before .before .empty-classes .ensures) (c .before .before .before .before .before .before .before .read-sheet .ensures)) (c .before .table .given .1) (read-full _ _ _ _)
+returns-3 c =
+    let c₁ = c .before .before in let c₂ = c₁ .before .before .before .before .before .before in let c₃ = c₂ .before .before .before .before .before
+    in let start = c₃ .before in let sheet = start .args .sheet .now in read-ends sheet (λ i. c₃ .shared-slice-known .given i .fits)
+    (start .args .attributes .now) (start .args .classes .now) (start .pre) (c₂ .read-sheet .ensures) (c₁ .table .given .1)
+    (c .full .ensures ∙ read-full (readSheet sheet .rows) _)
 
 pub read-and-judge-spec : {M : Type 1} → statement M
 read-and-judge-spec =
     tie.close
     (tie.spec
-    empty-attributes-requires
-    empty-classes-requires
     read-sheet-requires
     enum-told
     judge-requires
     enum-known-at
     unreadable-requires
     enum-known-table
+    full-requires
     same-length
     same-length-2
     returns

@@ -1,31 +1,44 @@
-use Rattle.schema.specs.Store.{stores}
-use Rattle.keeper.proofs.Checked.{in-shape, writable}
-use Rattle.keeper.proofs.Ends.{write-refused, write-short, write-done}
+use mathlib.Core.Path.{ap, _∙_}
 use native.Mathlib.Omega.{arith}
 use borrow.Author.Needs.{needs}
+use Rattle.schema.specs.Store.{stores}
+use Rattle.schema.specs.declared.answer.Answer.{Answer}
+use Rattle.keeper.specs.Write.{written}
+use Rattle.keeper.specs.CheckedLaws.{in-shape, writable}
+use Rattle.keeper.specs.EndLaws.{write-refused, write-short, write-done}
 use Rattle.keeper.proofs.write.write.Statement.{statement}
 use Rattle.keeper.proofs.write.write.Tie as tie
-use Rattle.keeper.proofs.write.write.Reads as reads
-use Rattle.keeper.proofs.write.write.Lts as lts
-use Rattle.keeper.proofs.check.check_shape.Reads as check-shape-reads
-use Rattle.schema.proofs.answer.Answer.done.Reads as done-reads
-use Rattle.sheet_write.proofs.sheet_length.Reads as sheet-length-reads
-use Rattle.sheet_write.proofs.write_sheet.Reads as write-sheet-reads
 
 check-shape-requires : tie.Need-check-shape-requires
 check-shape-requires c κs = search needs
 
 returns : tie.Need-returns
-returns c = write-refused (stores (c .before .before .before .before .before .before .before .args .attributes .now) (c .before .before .before .before .before .before .before .args .classes .now) (c .before .before .before .before .before .before .before .args .closure .now)) (c .before .before .before .before .before .before .before .args .out .now) (c .before .before .check-shape .ensures) (c .if1 .taken)
+returns c =
+    let c₁ = c .before .before in let start = c₁ .before .before .before .before .before in write-refused
+    (stores (start .args .attributes .now) (start .args .classes .now) (start .args .closure .now)) (start .args .out .now) (c₁ .check-shape .ensures)
+    (c .if1 .taken)
 
 sheet-length-requires : tie.Need-sheet-length-requires
-sheet-length-requires c κs = writable (stores (c .before .before .before .before .before .before .before .args .attributes .now) (c .before .before .before .before .before .before .before .args .classes .now) (c .before .before .before .before .before .before .before .args .closure .now)) (in-shape (stores (c .before .before .before .before .before .before .before .args .attributes .now) (c .before .before .before .before .before .before .before .args .classes .now) (c .before .before .before .before .before .before .before .args .closure .now)) (c .before .before .check-shape .ensures) (c .if1 .left))
+sheet-length-requires c κs =
+    let c₁ = c .before .before in let start = c₁ .before .before .before .before .before in let s = stores (start .args .attributes .now)
+    (start .args .classes .now) (start .args .closure .now) in writable s (in-shape s (c₁ .check-shape .ensures) (c .if1 .left))
+
+short-output-requires : tie.Need-short-output-requires
+short-output-requires c κs = search needs
 
 returns-2 : tie.Need-returns-2
-returns-2 c = write-short (stores (c .before .before .before .before .before .before .before .before .before .args .attributes .now) (c .before .before .before .before .before .before .before .before .before .args .classes .now) (c .before .before .before .before .before .before .before .before .before .args .closure .now)) (c .before .before .before .before .before .before .before .before .before .args .out .now) (c .before .before .before .before .check-shape .ensures) _ (c .before .before .if1 .left) (c .before .sheet-length .ensures) (c .if2 .taken)
+returns-2 c =
+    let c₁ = c .before in let c₂ = c₁ .before in let c₃ = c₂ .before in let c₄ = c₃ .before .before in let start =
+    c₄ .before .before .before .before .before in let out = start .args .out .now in ap (λ (a : Answer). written a out) (c .short-output .ensures) ∙
+    write-short (stores (start .args .attributes .now) (start .args .classes .now) (start .args .closure .now)) out (c₄ .check-shape .ensures) _
+    (c₃ .if1 .left) (c₂ .sheet-length .ensures) (c₁ .if2 .taken)
 
 write-sheet-requires : tie.Need-write-sheet-requires
-write-sheet-requires c κs = (writable (stores (c .before .before .before .before .before .before .before .before .before .before .args .attributes .now) (c .before .before .before .before .before .before .before .before .before .before .args .classes .now) (c .before .before .before .before .before .before .before .before .before .before .args .closure .now)) (in-shape (stores (c .before .before .before .before .before .before .before .before .before .before .args .attributes .now) (c .before .before .before .before .before .before .before .before .before .before .args .classes .now) (c .before .before .before .before .before .before .before .before .before .before .args .closure .now)) (c .before .before .before .before .before .check-shape .ensures) (c .before .before .before .if1 .left)), omega (arith, c .before .if2 .left, c .before .before .sheet-length .ensures))
+write-sheet-requires c κs =
+    let c₁ = c .before in let c₂ = c₁ .before in let c₃ = c₂ .before in let c₄ = c₃ .before .before in let start =
+    c₄ .before .before .before .before .before in let s = stores (start .args .attributes .now) (start .args .classes .now)
+    (start .args .closure .now) in let w = writable s (in-shape s (c₄ .check-shape .ensures) (c₃ .if1 .left)) in
+    (w .0, w .1, omega (arith, c₁ .if2 .left, c₂ .sheet-length .ensures))
 
 done-requires : tie.Need-done-requires
 done-requires c κs = search needs
@@ -34,7 +47,11 @@ same-length : tie.Need-same-length
 same-length c = search needs
 
 returns-3 : tie.Need-returns-3
-returns-3 c = write-done (stores (c .before .before .before .before .before .before .before .before .before .before .before .before .before .before .args .attributes .now) (c .before .before .before .before .before .before .before .before .before .before .before .before .before .before .args .classes .now) (c .before .before .before .before .before .before .before .before .before .before .before .before .before .before .args .closure .now)) (c .before .before .before .before .before .before .before .before .before .before .before .before .before .before .args .out .now) (c .before .before .before .before .before .before .before .before .before .check-shape .ensures) _ _ _ (c .done .ensures) (c .before .before .before .before .before .before .before .if1 .left) (c .before .before .before .before .before .before .sheet-length .ensures) (omega (arith, c .before .before .before .before .before .if2 .left)) (c .before .before .before .write-sheet .ensures)
+returns-3 c =
+    let c₁ = c .before .before .before in let c₂ = c₁ .before .before in let c₃ = c₂ .before in let c₄ = c₃ .before in let c₅ = c₄ .before .before in
+    let start = c₅ .before .before .before .before .before in write-done
+    (stores (start .args .attributes .now) (start .args .classes .now) (start .args .closure .now)) (start .args .out .now) (c₅ .check-shape .ensures)
+    _ _ _ (c .done .ensures) (c₄ .if1 .left) (c₃ .sheet-length .ensures) (omega (arith, c₂ .if2 .left)) (c₁ .write-sheet .ensures)
 
 pub write-spec : {M : Type 1} → statement M
 write-spec =
@@ -43,6 +60,7 @@ write-spec =
     check-shape-requires
     returns
     sheet-length-requires
+    short-output-requires
     returns-2
     write-sheet-requires
     done-requires

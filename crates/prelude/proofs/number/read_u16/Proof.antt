@@ -26,7 +26,9 @@ add-result : tie.Need-add-result
 add-result c = search needs
 
 returns : tie.Need-returns
-returns c = omega (arith, two-bytes (c .before .before .before .args .at) (c .before .before .before .args .s .now))
+returns c =
+    let start = c .before .before .before in
+    omega (arith, two-bytes (start .args .at) (start .args .s .now))
 
 pub read-u16-spec : {M : Type 1} → statement M
 read-u16-spec =

@@ -38,7 +38,9 @@ loop-again c = (search needs, all-more _ _ (c .before .before .before .loop .inv
 
 returns-2 : tie.Need-returns-2 Inv-loop μ-loop
 unfolding isZero
-returns-2 c = sym (all-end _ (c .before .loop .i) _ (search needs) (search needs) (c .before .loop .inv .1))
+returns-2 c =
+    let c₁ = c .before in
+    sym (all-end _ (c₁ .loop .i) _ (search needs) (search needs) (c₁ .loop .inv .1))
 
 pub is-zero-spec : {M : Type 1} → statement M
 is-zero-spec =

@@ -30,7 +30,8 @@ shared-slice-read-if2-2 : tie.Need-shared-slice-read-if2-2 Inv-loop μ-loop
 shared-slice-read-if2-2 c = search needs
 
 returns-2 : tie.Need-returns-2 Inv-loop μ-loop
-returns-2 c = sym (says-false (says-same-bytes _ _) (λ e. c .if2 .taken (ap (λ (l : List ℕ). getD l (c .before .before .before .before .loop .i) 0) e)))
+returns-2 c =
+    sym (says-false (says-same-bytes _ _) (λ e. c .if2 .taken (ap (λ (l : List ℕ). getD l (c .before .before .before .before .loop .i) 0) e)))
 
 add-i : tie.Need-add-i Inv-loop μ-loop
 add-i c = search needs
@@ -42,7 +43,12 @@ loop-again : tie.Need-loop-again Inv-loop μ-loop
 loop-again c = (search needs, below-more _ _ (c .before .before .before .before .loop .inv .1) (c .if2 .left))
 
 returns-3 : tie.Need-returns-3 Inv-loop μ-loop
-returns-3 c = let h : length (c .before .before .before .args .a .now) ≤ c .before .loop .i = omega arith in sym (says-true (says-same-bytes _ _) (ext-getD 0 _ _ (c .before .before .if1 .left) (λ k l. c .before .loop .inv .1 k (omega arith))))
+returns-3 c =
+    let c₁ = c .before in
+    let c₂ = c₁ .before in
+    let start = c₂ .before in
+    let h : length (start .args .a .now) ≤ c₁ .loop .i = omega arith in sym
+    (says-true (says-same-bytes _ _) (ext-getD 0 _ _ (c₂ .if1 .left) (λ k l. c₁ .loop .inv .1 k (omega arith))))
 
 pub same-spec : {M : Type 1} → statement M
 same-spec =

@@ -1,11 +1,10 @@
 use mathlib.Core.Path.{_≡_, refl}
 use Prim.Native.Nat.{_≤_, _-_}
-use lib.ListN.{length, drop}
-use Rattle.replay.specs.Hash.{hashFrom}
-use Rattle.replay.specs.Hash.{fnv1a as hashed}
-use Rattle.replay.proofs.Hashing.{hash-step, hash-end}
 use native.Mathlib.Omega.{arith}
+use lib.ListN.{length, drop}
 use borrow.Author.Needs.{needs}
+use Rattle.replay.specs.Hash.{hashFrom, fnv1a as hashed}
+use Rattle.replay.proofs.Hashing.{hash-step, hash-end}
 use Rattle.replay.proofs.hash.fnv1a.Statement.{statement}
 use Rattle.replay.proofs.hash.fnv1a.Tie as tie
 
@@ -32,10 +31,21 @@ loop-less : tie.Need-loop-less Inv-loop μ-loop
 loop-less c = omega arith
 
 loop-again : tie.Need-loop-again Inv-loop μ-loop
-loop-again c = (omega arith, hash-step (c .before .before .before .before .before .args .s .now) (c .before .before .before .loop .i) (c .before .before .before .loop .hash) (c .before .before .before .loop .inv .1) (c .before .byte-at .result) (c .mix .result) (c .before .before .loop-test .taken) (c .before .byte-at .ensures) (c .mix .ensures))
+loop-again c =
+    let c₁ = c .before in
+    let c₂ = c₁ .before in
+    let c₃ = c₂ .before in
+    let start = c₃ .before .before in (
+      omega arith,
+      hash-step (start .args .s .now) (c₃ .loop .i) (c₃ .loop .hash) (c₃ .loop .inv .1) (c₁ .byte-at .result) (c .mix .result)
+          (c₂ .loop-test .taken) (c₁ .byte-at .ensures) (c .mix .ensures),
+    )
 
 returns : tie.Need-returns Inv-loop μ-loop
-returns c = hash-end (c .before .before .before .args .s .now) (c .before .loop .i) (c .before .loop .hash) (c .before .loop .inv .1) (c .loop-test .left)
+returns c =
+    let c₁ = c .before in
+    let start = c₁ .before .before in
+    hash-end (start .args .s .now) (c₁ .loop .i) (c₁ .loop .hash) (c₁ .loop .inv .1) (c .loop-test .left)
 
 pub fnv1a-spec : {M : Type 1} → statement M
 fnv1a-spec =

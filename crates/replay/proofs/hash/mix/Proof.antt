@@ -1,5 +1,5 @@
-use Rattle.replay.specs.Hash.{mixed}
 use borrow.Author.Needs.{needs}
+use Rattle.replay.specs.Hash.{mixed}
 use Rattle.replay.proofs.hash.mix.Statement.{statement}
 use Rattle.replay.proofs.hash.mix.Tie as tie
 

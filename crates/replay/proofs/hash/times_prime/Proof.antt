@@ -1,7 +1,7 @@
 use mathlib.Core.Path.{ap, _∙_}
 use Prim.Native.Nat.{ℕ, _+_, _*_, _%_, _^_}
-use Rattle.replay.proofs.Prime.{in-parts}
 use borrow.Author.Needs.{needs}
+use Rattle.replay.proofs.Prime.{in-parts}
 use Rattle.replay.proofs.hash.times_prime.Statement.{statement}
 use Rattle.replay.proofs.hash.times_prime.Tie as tie
 
@@ -24,7 +24,11 @@ wrapping-add-u64-requires-2 : tie.Need-wrapping-add-u64-requires-2
 wrapping-add-u64-requires-2 c κs = search needs
 
 returns : tie.Need-returns
-returns c = c .wrapping-add-u642 .ensures ∙ ap (λ (k : ℕ). (k + c .before .before .args .x % 4294967296 * 435) % 2 ^ 64) (c .before .wrapping-add-u64 .ensures) ∙ in-parts (c .before .before .args .x)
+returns c =
+    let c₁ = c .before in
+    let start = c₁ .before in
+    c .wrapping-add-u642 .ensures ∙ ap (λ (k : ℕ). (k + start .args .x % 4294967296 * 435) % 2 ^ 64) (c₁ .wrapping-add-u64 .ensures) ∙ in-parts
+    (start .args .x)
 
 pub times-prime-spec : {M : Type 1} → statement M
 times-prime-spec =

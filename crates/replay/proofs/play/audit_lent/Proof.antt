@@ -15,7 +15,11 @@ audit-requires : tie.Need-audit-requires
 audit-requires c κs = search needs
 
 returns : tie.Need-returns
-returns c = rw (c .audit .ensures, c .before .before .before .part-of .ensures, c .before .before .part-of2 .ensures, c .before .part-of3 .ensures)
+returns c =
+    let c₁ = c .before in
+    let c₂ = c₁ .before in
+    let c₃ = c₂ .before in
+    rw (c .audit .ensures, c₃ .part-of .ensures, c₂ .part-of2 .ensures, c₁ .part-of3 .ensures)
 
 pub audit-lent-spec : {M : Type 1} → statement M
 audit-lent-spec =

@@ -15,7 +15,11 @@ depth-requires : tie.Need-depth-requires
 depth-requires c κs = search needs
 
 returns : tie.Need-returns
-returns c = rw (c .depth .ensures, c .before .before .before .part-of .ensures, c .before .before .part-of2 .ensures, c .before .part-of3 .ensures)
+returns c =
+    let c₁ = c .before in
+    let c₂ = c₁ .before in
+    let c₃ = c₂ .before in
+    rw (c .depth .ensures, c₃ .part-of .ensures, c₂ .part-of2 .ensures, c₁ .part-of3 .ensures)
 
 pub depth-lent-spec : {M : Type 1} → statement M
 depth-lent-spec =

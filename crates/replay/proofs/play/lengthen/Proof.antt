@@ -1,10 +1,10 @@
 use mathlib.Core.Path.{_≡_, refl, sym, _∙_}
 use Prim.Native.Nat.{_≤_, _-_}
+use native.Mathlib.Omega.{arith}
 use lib.ListN.{length, length-set}
+use borrow.Author.Needs.{needs}
 use Rattle.replay.specs.Playing.{pastByte, lengthened}
 use Rattle.replay.proofs.Lending.{lengthened-none, lengthened-more, lengthened-all}
-use native.Mathlib.Omega.{arith}
-use borrow.Author.Needs.{needs}
 use Rattle.replay.proofs.play.lengthen.Statement.{statement}
 use Rattle.replay.proofs.play.lengthen.Tie as tie
 
@@ -27,7 +27,15 @@ loop-less : tie.Need-loop-less Inv-loop μ-loop
 loop-less c = search needs
 
 loop-again : tie.Need-loop-again Inv-loop μ-loop
-loop-again c = (omega arith, omega arith, length-set (c .before .loop .store) (c .before .loop .i) pastByte ∙ c .before .loop .inv .2, lengthened-more (c .before .before .args .from) (c .before .loop .i) (c .before .before .args .store .now) (c .before .loop .store) (omega arith) (omega arith) (c .before .loop .inv .3))
+loop-again c =
+    let c₁ = c .before in
+    let start = c₁ .before in (
+      omega arith,
+      omega arith,
+      length-set (c₁ .loop .store) (c₁ .loop .i) pastByte ∙ c₁ .loop .inv .2,
+      lengthened-more (start .args .from)
+          (c₁ .loop .i) (start .args .store .now) (c₁ .loop .store) (omega arith) (omega arith) (c₁ .loop .inv .3),
+    )
 
 same-length : tie.Need-same-length Inv-loop μ-loop
 same-length c = search needs

@@ -1,6 +1,6 @@
 use mathlib.Core.Path.{_∙_}
-use Rattle.replay.proofs.Lending.{front-length, load-back}
 use borrow.Author.Needs.{needs}
+use Rattle.replay.proofs.Lending.{front-length, load-back}
 use Rattle.replay.proofs.play.load_lent.Statement.{statement}
 use Rattle.replay.proofs.play.load_lent.Tie as tie
 
@@ -44,7 +44,13 @@ same-length-3 : tie.Need-same-length-3
 same-length-3 c = search needs
 
 returns : tie.Need-returns
-returns c = load-back (c .before .before .before .before .before .before .before .before .before .before .before .before .before .before .args .sheet .now) (c .before .before .before .before .before .before .before .before .before .before .before .before .before .before .args .lengths) _ (c .before .before .before .before .before .before .load .result) _ _ _ (c .before .before .before .before .before .before .load .ensures) (c .before .before .before .before .before .before .load .kept .1 .0 ∙ front-length (c .before .before .before .before .before .before .before .before .before .before .before .before .before .before .args .lengths .attributes) (c .before .before .before .before .before .before .before .before .before .before .before .before .before .before .args .attributes .now) (c .before .before .before .before .before .before .before .before .before .before .before .before .before .before .pre .attributes)) (c .before .before .before .before .before .before .load .kept .1 .1 .0 ∙ front-length (c .before .before .before .before .before .before .before .before .before .before .before .before .before .before .args .lengths .classes) (c .before .before .before .before .before .before .before .before .before .before .before .before .before .before .args .classes .now) (c .before .before .before .before .before .before .before .before .before .before .before .before .before .before .pre .classes)) (c .before .before .before .before .before .before .load .kept .1 .1 .1 .0 ∙ front-length (c .before .before .before .before .before .before .before .before .before .before .before .before .before .before .args .lengths .closure) (c .before .before .before .before .before .before .before .before .before .before .before .before .before .before .args .closure .now) (c .before .before .before .before .before .before .before .before .before .before .before .before .before .before .pre .closure))
+returns c =
+    let c₁ = c .before .before .before .before .before .before in
+    let start = c₁ .before .before .before .before .before .before .before .before in
+    load-back (start .args .sheet .now) (start .args .lengths) _ (c₁ .load .result) _ _ _ (c₁ .load .ensures)
+    (c₁ .load .kept .1 .0 ∙ front-length (start .args .lengths .attributes) (start .args .attributes .now) (start .pre .attributes))
+    (c₁ .load .kept .1 .1 .0 ∙ front-length (start .args .lengths .classes) (start .args .classes .now) (start .pre .classes))
+    (c₁ .load .kept .1 .1 .1 .0 ∙ front-length (start .args .lengths .closure) (start .args .closure .now) (start .pre .closure))
 
 pub load-lent-spec : {M : Type 1} → statement M
 load-lent-spec =

@@ -1,6 +1,6 @@
+use borrow.Author.Needs.{needs}
 use borrow.Author.Tests.{lt-ltb, le-ltb}
 use Rattle.replay.specs.Playing.{poked}
-use borrow.Author.Needs.{needs}
 use Rattle.replay.proofs.play.poke.Statement.{statement}
 use Rattle.replay.proofs.play.poke.Tie as tie
 

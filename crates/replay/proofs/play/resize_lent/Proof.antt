@@ -1,6 +1,6 @@
+use borrow.Author.Needs.{needs}
 use borrow.Author.Tests.{eq-eqb, ne-eqb}
 use Rattle.replay.specs.Playing.{resizeLent}
-use borrow.Author.Needs.{needs}
 use Rattle.replay.proofs.play.resize_lent.Statement.{statement}
 use Rattle.replay.proofs.play.resize_lent.Tie as tie
 
@@ -18,21 +18,32 @@ same-length c = search needs
 
 returns : tie.Need-returns
 unfolding resizeLent
-returns c = rw (eq-eqb _ _ (c .before .before .before .before .if1 .taken), c .before .before .lengthen .ensures)
+returns c =
+    let c₁ = c .before .before in
+    let c₂ = c₁ .before .before in
+    rw (eq-eqb _ _ (c₂ .if1 .taken), c₁ .lengthen .ensures)
 
 same-length-2 : tie.Need-same-length-2
 same-length-2 c = search needs
 
 returns-2 : tie.Need-returns-2
 unfolding resizeLent
-returns-2 c = rw (ne-eqb _ _ (c .before .before .before .before .before .if1 .left), eq-eqb _ _ (c .before .before .before .before .if2 .taken), c .before .before .lengthen2 .ensures)
+returns-2 c =
+    let c₁ = c .before .before in
+    let c₂ = c₁ .before .before in
+    let c₃ = c₂ .before in
+    rw (ne-eqb _ _ (c₃ .if1 .left), eq-eqb _ _ (c₂ .if2 .taken), c₁ .lengthen2 .ensures)
 
 same-length-3 : tie.Need-same-length-3
 same-length-3 c = search needs
 
 returns-3 : tie.Need-returns-3
 unfolding resizeLent
-returns-3 c = rw (ne-eqb _ _ (c .before .before .before .before .before .if1 .left), ne-eqb _ _ (c .before .before .before .before .if2 .left), c .before .before .lengthen3 .ensures)
+returns-3 c =
+    let c₁ = c .before .before in
+    let c₂ = c₁ .before .before in
+    let c₃ = c₂ .before in
+    rw (ne-eqb _ _ (c₃ .if1 .left), ne-eqb _ _ (c₂ .if2 .left), c₁ .lengthen3 .ensures)
 
 pub resize-lent-spec : {M : Type 1} → statement M
 resize-lent-spec =

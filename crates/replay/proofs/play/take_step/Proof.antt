@@ -1,9 +1,9 @@
 use mathlib.Core.Path.{subst}
+use native.Mathlib.Omega.{arith}
+use borrow.Author.Needs.{needs}
 use Rattle.prelude.specs.Part.{part}
 use Rattle.replay.specs.declared.step.Step.{Step}
 use Rattle.replay.specs.Steps.{StepWithin}
-use native.Mathlib.Omega.{arith}
-use borrow.Author.Needs.{needs}
 use Rattle.replay.proofs.play.take_step.Statement.{statement}
 use Rattle.replay.proofs.play.take_step.Tie as tie
 
@@ -11,13 +11,22 @@ enum-known-step : tie.Need-enum-known-step
 enum-known-step c = search needs
 
 sub-load-lent : tie.Need-sub-load-lent
-sub-load-lent c = (subst (λ (x : Step). StepWithin (c .before .before .before .before .before .before .before .before .args .script .now) x) (c .before .step .given .1) (c .before .before .before .before .before .before .before .before .pre .0 .1)) .0
+sub-load-lent c =
+    let c₁ = c .before in
+    let start = c₁ .before .before .before .before .before .before .before in
+    (subst (λ (x : Step). StepWithin (start .args .script .now) x) (c₁ .step .given .1) (start .pre .0 .1)) .0
 
 part-load-lent-start : tie.Need-part-load-lent-start
-part-load-lent-start c = (subst (λ (x : Step). StepWithin (c .before .before .before .before .before .before .before .before .args .script .now) x) (c .before .step .given .1) (c .before .before .before .before .before .before .before .before .pre .0 .1)) .0
+part-load-lent-start c =
+    let c₁ = c .before in
+    let start = c₁ .before .before .before .before .before .before .before in
+    (subst (λ (x : Step). StepWithin (start .args .script .now) x) (c₁ .step .given .1) (start .pre .0 .1)) .0
 
 part-load-lent-end : tie.Need-part-load-lent-end
-part-load-lent-end c = (subst (λ (x : Step). StepWithin (c .before .before .before .before .before .before .before .before .args .script .now) x) (c .before .step .given .1) (c .before .before .before .before .before .before .before .before .pre .0 .1)) .1
+part-load-lent-end c =
+    let c₁ = c .before in
+    let start = c₁ .before .before .before .before .before .before .before in
+    (subst (λ (x : Step). StepWithin (start .args .script .now) x) (c₁ .step .given .1) (start .pre .0 .1)) .1
 
 load-lent-requires : tie.Need-load-lent-requires
 load-lent-requires c κs = search needs
@@ -32,7 +41,13 @@ enum-known-step-2 : tie.Need-enum-known-step-2
 enum-known-step-2 c = search needs
 
 write-lent-requires : tie.Need-write-lent-requires
-write-lent-requires c κs = (c .before .before .before .before .before .before .before .before .before .before .before .before .pre .0 .0, omega (arith, subst (λ (x : Step). StepWithin (c .before .before .before .before .before .before .before .before .before .before .before .before .args .script .now) x) (c .before .before .before .before .before .step2 .given .1) (c .before .before .before .before .before .before .before .before .before .before .before .before .pre .0 .1), c .before .before .before .before .before .before .before .before .before .before .before .before .pre .1 .3))
+write-lent-requires c κs =
+    let c₁ = c .before .before .before .before .before in
+    let start = c₁ .before .before .before .before .before .before .before in (
+      start .pre .0 .0,
+      omega
+          (arith, subst (λ (x : Step). StepWithin (start .args .script .now) x) (c₁ .step2 .given .1) (start .pre .0 .1), start .pre .1 .3),
+    )
 
 enum-known-step-3 : tie.Need-enum-known-step-3
 enum-known-step-3 c = search needs
@@ -46,17 +61,29 @@ enum-known-step-4 c = search needs
 poke-lent-requires : tie.Need-poke-lent-requires
 poke-lent-requires c κs = search needs
 
-done-requires : tie.Need-done-requires
-done-requires c κs = search needs
+passed-requires : tie.Need-passed-requires
+passed-requires c κs = search needs
 
 enum-known-step-5 : tie.Need-enum-known-step-5
 enum-known-step-5 c = search needs
 
 resize-lent-requires : tie.Need-resize-lent-requires
-resize-lent-requires c κs = (c .before .before .before .before .before .before .before .before .before .before .before .pre .0 .0, (omega (arith, subst (λ (x : Step). StepWithin (c .before .before .before .before .before .before .before .before .before .before .before .args .script .now) x) (c .before .before .before .before .step5 .given .1) (c .before .before .before .before .before .before .before .before .before .before .before .pre .0 .1), c .before .before .before .before .before .before .before .before .before .before .before .pre .1 .0), omega (arith, subst (λ (x : Step). StepWithin (c .before .before .before .before .before .before .before .before .before .before .before .args .script .now) x) (c .before .before .before .before .step5 .given .1) (c .before .before .before .before .before .before .before .before .before .before .before .pre .0 .1), c .before .before .before .before .before .before .before .before .before .before .before .pre .1 .1), omega (arith, subst (λ (x : Step). StepWithin (c .before .before .before .before .before .before .before .before .before .before .before .args .script .now) x) (c .before .before .before .before .step5 .given .1) (c .before .before .before .before .before .before .before .before .before .before .before .pre .0 .1), c .before .before .before .before .before .before .before .before .before .before .before .pre .1 .2)))
+resize-lent-requires c κs =
+    let c₁ = c .before .before .before .before in
+    let start = c₁ .before .before .before .before .before .before .before in
+    let script = start .args .script .now in (
+      start .pre .0 .0,
+      (
+        omega (arith, subst (λ (x : Step). StepWithin script x) (c₁ .step5 .given .1) (start .pre .0 .1), start .pre .1 .0),
+        omega
+            (arith, subst (λ (x : Step). StepWithin script x) (c₁ .step5 .given .1) (start .pre .0 .1), start .pre .1 .1),
+        omega
+            (arith, subst (λ (x : Step). StepWithin script x) (c₁ .step5 .given .1) (start .pre .0 .1), start .pre .1 .2),
+      ),
+    )
 
-done-requires-2 : tie.Need-done-requires-2
-done-requires-2 c κs = search needs
+passed-requires-2 : tie.Need-passed-requires-2
+passed-requires-2 c κs = search needs
 
 same-length : tie.Need-same-length
 same-length c = search needs
@@ -69,7 +96,10 @@ same-length-3 c = search needs
 
 returns : tie.Need-returns
 unfolding part
-returns c = rw (c .before .before .before .before .before .before .before .before .before .before .before .before .step .given .1, ← (c .before .before .before .before .before .before .load-lent .ensures))
+returns c =
+    let c₁ = c .before .before .before .before .before .before in
+    let c₂ = c₁ .before .before .before .before .before .before in
+    rw (c₂ .step .given .1, ← (c₁ .load-lent .ensures))
 
 same-length-4 : tie.Need-same-length-4
 same-length-4 c = search needs
@@ -96,7 +126,10 @@ same-length-10 : tie.Need-same-length-10
 same-length-10 c = search needs
 
 returns-3 : tie.Need-returns-3
-returns-3 c = rw (c .before .before .before .before .before .before .before .before .step2 .given .1, ← (c .before .before .write-lent .ensures))
+returns-3 c =
+    let c₁ = c .before .before in
+    let c₂ = c₁ .before .before .before .before .before .before in
+    rw (c₂ .step2 .given .1, ← (c₁ .write-lent .ensures))
 
 same-length-11 : tie.Need-same-length-11
 same-length-11 c = search needs
@@ -120,7 +153,10 @@ same-length-16 : tie.Need-same-length-16
 same-length-16 c = search needs
 
 returns-5 : tie.Need-returns-5
-returns-5 c = rw (c .before .before .before .before .before .before .before .before .before .before .before .before .step4 .given .1, c .done .ensures, ← (c .before .before .before .before .before .before .before .poke-lent .ensures))
+returns-5 c =
+    let c₁ = c .before .before .before .before .before .before .before in
+    let c₂ = c₁ .before .before .before .before .before in
+    rw (c₂ .step4 .given .1, c .passed .ensures, ← (c₁ .poke-lent .ensures))
 
 same-length-17 : tie.Need-same-length-17
 same-length-17 c = search needs
@@ -132,7 +168,10 @@ same-length-19 : tie.Need-same-length-19
 same-length-19 c = search needs
 
 returns-6 : tie.Need-returns-6
-returns-6 c = rw (c .before .before .before .before .before .before .before .before .before .before .before .before .step5 .given .1, c .done2 .ensures, ← (c .before .before .before .before .before .before .before .resize-lent .ensures))
+returns-6 c =
+    let c₁ = c .before .before .before .before .before .before .before in
+    let c₂ = c₁ .before .before .before .before .before in
+    rw (c₂ .step5 .given .1, c .passed2 .ensures, ← (c₁ .resize-lent .ensures))
 
 pub take-step-spec : {M : Type 1} → statement M
 take-step-spec =
@@ -151,10 +190,10 @@ take-step-spec =
     depth-lent-requires
     enum-known-step-4
     poke-lent-requires
-    done-requires
+    passed-requires
     enum-known-step-5
     resize-lent-requires
-    done-requires-2
+    passed-requires-2
     same-length
     same-length-2
     same-length-3

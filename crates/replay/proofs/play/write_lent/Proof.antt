@@ -1,6 +1,6 @@
+use borrow.Author.Needs.{needs}
 use Rattle.schema.specs.Store.{stores}
 use Rattle.replay.proofs.Lending.{write-back}
-use borrow.Author.Needs.{needs}
 use Rattle.replay.proofs.play.write_lent.Statement.{statement}
 use Rattle.replay.proofs.play.write_lent.Tie as tie
 
@@ -32,7 +32,17 @@ same-length : tie.Need-same-length
 same-length c = search needs
 
 returns : tie.Need-returns
-returns c = write-back (c .before .before .before .before .before .before .before .before .before .before .before .before .before .before .before .args .lengths) (stores (c .before .before .before .before .before .before .before .before .before .before .before .before .before .before .before .args .attributes .now) (c .before .before .before .before .before .before .before .before .before .before .before .before .before .before .before .args .classes .now) (c .before .before .before .before .before .before .before .before .before .before .before .before .before .before .before .args .closure .now)) (c .before .before .before .before .before .before .before .before .before .before .before .before .before .before .before .args .n) (c .before .before .before .before .before .before .before .before .before .before .before .before .before .before .before .args .output .now) (c .before .before .before .before .before .before .before .before .before .lengthen .last .0) (c .before .before .write .last .1 .1 .1 .0) (c .before .before .write .result) (stores (c .before .before .before .before .before .before .part-of .result .now) (c .before .before .before .before .before .part-of2 .result .now) (c .before .before .before .before .part-of3 .result .now)) (c .before .before .before .before .before .before .before .before .before .before .before .before .before .before .before .pre .1) (c .before .before .before .before .before .before .before .before .before .lengthen .ensures) (rw (c .before .before .before .before .before .before .part-of .ensures, c .before .before .before .before .before .part-of2 .ensures, c .before .before .before .before .part-of3 .ensures)) (c .before .before .write .ensures) (c .before .before .write .kept .1 .1 .1 .0)
+returns c =
+    let c₁ = c .before .before in
+    let c₂ = c₁ .before .before in
+    let c₃ = c₂ .before in
+    let c₄ = c₃ .before in
+    let c₅ = c₄ .before .before .before in
+    let start = c₅ .before .before .before .before .before .before in
+    write-back (start .args .lengths) (stores (start .args .attributes .now) (start .args .classes .now) (start .args .closure .now)) (start .args .n)
+    (start .args .output .now) (c₅ .lengthen .last .0) (c₁ .write .last .1 .1 .1 .0) (c₁ .write .result)
+    (stores (c₄ .part-of .result .now) (c₃ .part-of2 .result .now) (c₂ .part-of3 .result .now)) (start .pre .1) (c₅ .lengthen .ensures)
+    (rw (c₄ .part-of .ensures, c₃ .part-of2 .ensures, c₂ .part-of3 .ensures)) (c₁ .write .ensures) (c₁ .write .kept .1 .1 .1 .0)
 
 pub write-lent-spec : {M : Type 1} → statement M
 write-lent-spec =

@@ -1,7 +1,7 @@
-use borrow.Author.Tests.{lt-ltb, le-ltb}
-use Rattle.replay.specs.Steps.{isCut, depthAt}
 use native.Mathlib.Omega.{arith}
 use borrow.Author.Needs.{needs}
+use borrow.Author.Tests.{lt-ltb, le-ltb}
+use Rattle.replay.specs.Steps.{isCut, depthAt}
 use Rattle.replay.proofs.step.read_depth.Statement.{statement}
 use Rattle.replay.proofs.step.read_depth.Tie as tie
 

@@ -1,7 +1,7 @@
-use borrow.Author.Tests.{lt-ltb, le-ltb}
-use Rattle.replay.specs.Steps.{isCut, loadAt}
 use native.Mathlib.Omega.{arith}
 use borrow.Author.Needs.{needs}
+use borrow.Author.Tests.{lt-ltb, le-ltb}
+use Rattle.replay.specs.Steps.{isCut, loadAt}
 use Rattle.replay.proofs.step.read_load.Statement.{statement}
 use Rattle.replay.proofs.step.read_load.Tie as tie
 
@@ -29,7 +29,10 @@ sub-if2-2 c = search needs
 
 returns-2 : tie.Need-returns-2
 unfolding loadAt isCut
-returns-2 c = (rw (le-ltb _ _ (c .before .before .if1 .left), ← (c .before .read-u32 .ensures), lt-ltb _ _ (c .if2 .taken)), tt)
+returns-2 c =
+    let c₁ = c .before in
+    let c₂ = c₁ .before in
+    (rw (le-ltb _ _ (c₂ .if1 .left), ← (c₁ .read-u32 .ensures), lt-ltb _ _ (c .if2 .taken)), tt)
 
 add-start : tie.Need-add-start
 add-start c = search needs
@@ -39,7 +42,10 @@ add-stop c = search needs
 
 returns-3 : tie.Need-returns-3
 unfolding loadAt isCut
-returns-3 c = (rw (le-ltb _ _ (c .before .before .if1 .left), ← (c .before .read-u32 .ensures), le-ltb _ _ (c .if2 .left)), (omega arith, omega arith, (omega arith, omega arith)))
+returns-3 c =
+    let c₁ = c .before in
+    let c₂ = c₁ .before in
+    (rw (le-ltb _ _ (c₂ .if1 .left), ← (c₁ .read-u32 .ensures), le-ltb _ _ (c .if2 .left)), (omega arith, omega arith, (omega arith, omega arith)))
 
 pub read-load-spec : {M : Type 1} → statement M
 read-load-spec =

@@ -1,7 +1,7 @@
-use borrow.Author.Tests.{eq-eqb, ne-eqb}
-use Rattle.replay.specs.Steps.{turnAt}
 use native.Mathlib.Omega.{arith}
 use borrow.Author.Needs.{needs}
+use borrow.Author.Tests.{eq-eqb, ne-eqb}
+use Rattle.replay.specs.Steps.{turnAt}
 use Rattle.replay.proofs.step.read_turn.Statement.{statement}
 use Rattle.replay.proofs.step.read_turn.Tie as tie
 
@@ -13,46 +13,124 @@ read-load-requires c κs = search needs
 
 returns : tie.Need-returns
 unfolding turnAt
-returns c = (rw (← (c .before .before .byte-at .ensures), eq-eqb _ _ (c .before .if1 .taken)) (c .read-load .ensures .0), c .read-load .ensures .1)
+returns c =
+    let c₁ = c .before in
+    let c₂ = c₁ .before in
+    (rw (← (c₂ .byte-at .ensures), eq-eqb _ _ (c₁ .if1 .taken)) (c .read-load .ensures .0), c .read-load .ensures .1)
 
 add-t6 : tie.Need-add-t6
 add-t6 c = search needs
 
 returns-2 : tie.Need-returns-2
 unfolding turnAt
-returns-2 c = (rw (← (c .before .before .byte-at .ensures), ne-eqb _ _ (c .before .if1 .left), eq-eqb _ _ (c .if2 .taken)), (omega arith, omega arith, tt))
+returns-2 c =
+    let c₁ = c .before in
+    let c₂ = c₁ .before in
+    (rw (← (c₂ .byte-at .ensures), ne-eqb _ _ (c₁ .if1 .left), eq-eqb _ _ (c .if2 .taken)), (omega arith, omega arith, tt))
 
 read-write-requires : tie.Need-read-write-requires
 read-write-requires c κs = search needs
 
 returns-3 : tie.Need-returns-3
 unfolding turnAt
-returns-3 c = (rw (← (c .before .before .before .before .byte-at .ensures), ne-eqb _ _ (c .before .before .before .if1 .left), ne-eqb _ _ (c .before .before .if2 .left), eq-eqb _ _ (c .before .if3 .taken)) (c .read-write .ensures .0), c .read-write .ensures .1)
+returns-3 c =
+    let c₁ = c .before in
+    let c₂ = c₁ .before in
+    let c₃ = c₂ .before in
+    let c₄ = c₃ .before in (
+      rw (← (c₄ .byte-at .ensures), ne-eqb _ _ (c₃ .if1 .left), ne-eqb _ _ (c₂ .if2 .left), eq-eqb _ _ (c₁ .if3 .taken)) (c .read-write .ensures .0),
+      c .read-write .ensures .1,
+    )
 
 read-depth-requires : tie.Need-read-depth-requires
 read-depth-requires c κs = search needs
 
 returns-4 : tie.Need-returns-4
 unfolding turnAt
-returns-4 c = (rw (← (c .before .before .before .before .before .byte-at .ensures), ne-eqb _ _ (c .before .before .before .before .if1 .left), ne-eqb _ _ (c .before .before .before .if2 .left), ne-eqb _ _ (c .before .before .if3 .left), eq-eqb _ _ (c .before .if4 .taken)) (c .read-depth .ensures .0), c .read-depth .ensures .1)
+returns-4 c =
+    let c₁ = c .before in
+    let c₂ = c₁ .before in
+    let c₃ = c₂ .before in
+    let c₄ = c₃ .before in
+    let c₅ = c₄ .before in (
+      rw (← (c₅ .byte-at .ensures), ne-eqb _ _ (c₄ .if1 .left), ne-eqb _ _ (c₃ .if2 .left), ne-eqb _ _ (c₂ .if3 .left), eq-eqb _ _ (c₁ .if4 .taken))
+          (c .read-depth .ensures .0),
+      c .read-depth .ensures .1,
+    )
 
 read-poke-requires : tie.Need-read-poke-requires
 read-poke-requires c κs = search needs
 
 returns-5 : tie.Need-returns-5
 unfolding turnAt
-returns-5 c = (rw (← (c .before .before .before .before .before .before .byte-at .ensures), ne-eqb _ _ (c .before .before .before .before .before .if1 .left), ne-eqb _ _ (c .before .before .before .before .if2 .left), ne-eqb _ _ (c .before .before .before .if3 .left), ne-eqb _ _ (c .before .before .if4 .left), eq-eqb _ _ (c .before .if5 .taken)) (c .read-poke .ensures .0), c .read-poke .ensures .1)
+returns-5 c =
+    let c₁ = c .before in
+    let c₂ = c₁ .before in
+    let c₃ = c₂ .before in
+    let c₄ = c₃ .before in
+    let c₅ = c₄ .before in
+    let c₆ = c₅ .before in (
+      rw (
+        ← (c₆ .byte-at .ensures),
+        ne-eqb _ _ (c₅ .if1 .left),
+        ne-eqb _ _ (c₄ .if2 .left),
+        ne-eqb _ _ (c₃ .if3 .left),
+        ne-eqb _ _ (c₂ .if4 .left),
+        eq-eqb
+            _ _ (c₁ .if5 .taken),
+      )
+          (c .read-poke .ensures .0),
+      c .read-poke .ensures .1,
+    )
 
 read-resize-requires : tie.Need-read-resize-requires
 read-resize-requires c κs = search needs
 
 returns-6 : tie.Need-returns-6
 unfolding turnAt
-returns-6 c = (rw (← (c .before .before .before .before .before .before .before .byte-at .ensures), ne-eqb _ _ (c .before .before .before .before .before .before .if1 .left), ne-eqb _ _ (c .before .before .before .before .before .if2 .left), ne-eqb _ _ (c .before .before .before .before .if3 .left), ne-eqb _ _ (c .before .before .before .if4 .left), ne-eqb _ _ (c .before .before .if5 .left), eq-eqb _ _ (c .before .if6 .taken)) (c .read-resize .ensures .0), c .read-resize .ensures .1)
+returns-6 c =
+    let c₁ = c .before in
+    let c₂ = c₁ .before in
+    let c₃ = c₂ .before in
+    let c₄ = c₃ .before in
+    let c₅ = c₄ .before in
+    let c₆ = c₅ .before in
+    let c₇ = c₆ .before in (
+      rw (
+        ← (c₇ .byte-at .ensures),
+        ne-eqb _ _ (c₆ .if1 .left),
+        ne-eqb _ _ (c₅ .if2 .left),
+        ne-eqb _ _ (c₄ .if3 .left),
+        ne-eqb _ _ (c₃ .if4 .left),
+        ne-eqb
+            _ _ (c₂ .if5 .left),
+        eq-eqb _ _ (c₁ .if6 .taken),
+      )
+          (c .read-resize .ensures .0),
+      c .read-resize .ensures .1,
+    )
 
 returns-7 : tie.Need-returns-7
 unfolding turnAt
-returns-7 c = (rw (← (c .before .before .before .before .before .before .byte-at .ensures), ne-eqb _ _ (c .before .before .before .before .before .if1 .left), ne-eqb _ _ (c .before .before .before .before .if2 .left), ne-eqb _ _ (c .before .before .before .if3 .left), ne-eqb _ _ (c .before .before .if4 .left), ne-eqb _ _ (c .before .if5 .left), ne-eqb _ _ (c .if6 .left)), tt)
+returns-7 c =
+    let c₁ = c .before in
+    let c₂ = c₁ .before in
+    let c₃ = c₂ .before in
+    let c₄ = c₃ .before in
+    let c₅ = c₄ .before in
+    let c₆ = c₅ .before in (
+      rw (
+        ← (c₆ .byte-at .ensures),
+        ne-eqb _ _ (c₅ .if1 .left),
+        ne-eqb _ _ (c₄ .if2 .left),
+        ne-eqb _ _ (c₃ .if3 .left),
+        ne-eqb _ _ (c₂ .if4 .left),
+        ne-eqb
+            _ _ (c₁ .if5 .left),
+        ne-eqb _ _ (c .if6 .left),
+      ),
+      tt,
+    )
 
 pub read-turn-spec : {M : Type 1} → statement M
 read-turn-spec =

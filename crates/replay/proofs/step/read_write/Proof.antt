@@ -1,7 +1,7 @@
-use borrow.Author.Tests.{lt-ltb, le-ltb}
-use Rattle.replay.specs.Steps.{isCut, writeAt}
 use native.Mathlib.Omega.{arith}
 use borrow.Author.Needs.{needs}
+use borrow.Author.Tests.{lt-ltb, le-ltb}
+use Rattle.replay.specs.Steps.{isCut, writeAt}
 use Rattle.replay.proofs.step.read_write.Statement.{statement}
 use Rattle.replay.proofs.step.read_write.Tie as tie
 
@@ -23,14 +23,20 @@ cast-length c = search needs
 
 returns-2 : tie.Need-returns-2
 unfolding writeAt isCut
-returns-2 c = (rw (le-ltb _ _ (c .before .before .if1 .left), ← (c .before .read-u32 .ensures), lt-ltb _ _ (c .if2 .taken)), tt)
+returns-2 c =
+    let c₁ = c .before in
+    let c₂ = c₁ .before in
+    (rw (le-ltb _ _ (c₂ .if1 .left), ← (c₁ .read-u32 .ensures), lt-ltb _ _ (c .if2 .taken)), tt)
 
 add-t4 : tie.Need-add-t4
 add-t4 c = search needs
 
 returns-3 : tie.Need-returns-3
 unfolding writeAt isCut
-returns-3 c = (rw (le-ltb _ _ (c .before .before .if1 .left), ← (c .before .read-u32 .ensures), le-ltb _ _ (c .if2 .left)), (omega arith, omega arith, omega arith))
+returns-3 c =
+    let c₁ = c .before in
+    let c₂ = c₁ .before in
+    (rw (le-ltb _ _ (c₂ .if1 .left), ← (c₁ .read-u32 .ensures), le-ltb _ _ (c .if2 .left)), (omega arith, omega arith, omega arith))
 
 pub read-write-spec : {M : Type 1} → statement M
 read-write-spec =

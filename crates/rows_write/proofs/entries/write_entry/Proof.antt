@@ -1,15 +1,14 @@
-use mathlib.Core.Path.{sym, ap, _∙_}
-use Rattle.prelude.specs.SpliceLaws.{splice-none}
 use mathlib.Core.List.{List}
+use mathlib.Core.Path.{sym, ap, _∙_}
 use Prim.Native.Nat.{ℕ, _+_}
 use native.Mathlib.Nat.{add-zero}
+use native.Mathlib.Omega.{arith}
 use lib.ListN.{length}
+use borrow.Author.Needs.{needs}
 use Rattle.prelude.specs.SpliceLaws.{splice-none}
 use Rattle.prelude.specs.Part.{splice}
 use Rattle.prelude.specs.BigEndianLaws.{bytes-length}
 use Rattle.rows_write.proofs.Listing.{one-entry, no-entry}
-use native.Mathlib.Omega.{arith}
-use borrow.Author.Needs.{needs}
 use Rattle.rows_write.proofs.entries.write_entry.Statement.{statement}
 use Rattle.rows_write.proofs.entries.write_entry.Tie as tie
 
@@ -20,7 +19,12 @@ cast-write-u16 : tie.Need-cast-write-u16
 cast-write-u16 c = search needs
 
 write-u16-requires : tie.Need-write-u16-requires
-write-u16-requires c κs = let l = ap length (one-entry (c .before .before .before .before .before .args .n) (c .before .before .has .ensures) (c .before .if1 .taken)) ∙ bytes-length 2 (c .before .before .before .before .before .args .n) in omega arith
+write-u16-requires c κs =
+    let c₁ = c .before in
+    let c₂ = c₁ .before in
+    let start = c₂ .before .before .before in
+    let n = start .args .n in
+    let l = ap length (one-entry n (c₂ .has .ensures) (c₁ .if1 .taken)) ∙ bytes-length 2 n in omega arith
 
 add-result : tie.Need-add-result
 add-result c = search needs
@@ -29,10 +33,26 @@ same-length : tie.Need-same-length
 same-length c = search needs
 
 returns : tie.Need-returns
-returns c = let e = one-entry (c .before .before .before .before .before .before .before .before .args .n) (c .before .before .before .before .before .has .ensures) (c .before .before .before .before .if1 .taken) in (ap (λ (k : ℕ). c .before .before .before .before .before .before .before .before .args .at + k) (sym (ap length e ∙ bytes-length 2 (c .before .before .before .before .before .before .before .before .args .n))), c .before .before .write-u16 .ensures ∙ ap (λ (v : List ℕ). splice (c .before .before .before .before .before .before .before .before .args .at) v (c .before .before .before .before .before .before .before .before .args .out .now)) (sym e))
+returns c =
+    let c₁ = c .before .before in
+    let c₂ = c₁ .before .before in
+    let c₃ = c₂ .before in
+    let start = c₃ .before .before .before in
+    let n = start .args .n in
+    let e = one-entry n (c₃ .has .ensures) (c₂ .if1 .taken) in (
+      ap (λ (k : ℕ). start .args .at + k) (sym (ap length e ∙ bytes-length 2 n)),
+      c₁ .write-u16 .ensures ∙ ap
+          (λ (v : List ℕ). splice (start .args .at) v (start .args .out .now)) (sym e),
+    )
 
 returns-2 : tie.Need-returns-2
-returns-2 c = let e = no-entry (c .before .before .before .before .args .n) (c .before .has .ensures) (c .if1 .left) in (sym (ap (λ (v : List ℕ). c .before .before .before .before .args .at + length v) e ∙ add-zero (c .before .before .before .before .args .at)), sym (ap (λ (v : List ℕ). splice (c .before .before .before .before .args .at) v (c .before .before .before .before .args .out .now)) e ∙ splice-none (c .before .before .before .before .args .at) (c .before .before .before .before .args .out .now)))
+returns-2 c =
+    let c₁ = c .before in
+    let start = c₁ .before .before .before in
+    let at = start .args .at in
+    let out = start .args .out .now in
+    let e = no-entry (start .args .n) (c₁ .has .ensures) (c .if1 .left) in
+    (sym (ap (λ (v : List ℕ). start .args .at + length v) e ∙ add-zero at), sym (ap (λ (v : List ℕ). splice at v out) e ∙ splice-none at out))
 
 pub write-entry-spec : {M : Type 1} → statement M
 write-entry-spec =

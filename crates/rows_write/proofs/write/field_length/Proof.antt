@@ -1,20 +1,20 @@
 use mathlib.Core.Path.{_≡_, sym, ap, _∙_}
-use Rattle.formats.specs.Rules.{fieldOf}
-use Rattle.wire.specs.WireLaws.{field-length}
 use Prim.Native.Nat.{ℕ, _+_}
-use lib.ListN.{length}
-use Rattle.formats.specs.RulesLaws.{width-small}
-use Rattle.rows_write.proofs.Writing.{cell-of, mark-within, field-has, field-hasnt, field-short}
 use native.Mathlib.Omega.{arith}
+use lib.ListN.{length}
 use borrow.Author.Needs.{needs}
+use Rattle.wire.specs.WireLaws.{field-length}
+use Rattle.rows_format.specs.Columns.{fieldOf}
+use Rattle.rows_format.specs.ColumnsLaws.{width-small}
+use Rattle.rows_write.proofs.Writing.{cell-of, mark-within, field-has, field-hasnt, field-short}
 use Rattle.rows_write.proofs.write.field_length.Statement.{statement}
 use Rattle.rows_write.proofs.write.field_length.Tie as tie
 
-width-of-requires : tie.Need-width-of-requires
-width-of-requires c κs = width-small _ (c .before .pre .0 .sound)
+column-width-requires : tie.Need-column-width-requires
+column-width-requires c κs = width-small _ (c .before .pre .0 .sound)
 
 part-of-requires : tie.Need-part-of-requires
-part-of-requires c κs = omega (arith, c .width-of .ensures, c .before .before .pre .0 .within)
+part-of-requires c κs = omega (arith, c .column-width .ensures, c .before .before .pre .0 .within)
 
 has-value-requires : tie.Need-has-value-requires
 has-value-requires c κs = search needs
@@ -23,31 +23,87 @@ mark-of-requires : tie.Need-mark-of-requires
 mark-of-requires c κs = search needs
 
 sub-value-length : tie.Need-sub-value-length
-sub-value-length c = let k = cell-of (c .before .before .before .before .before .before .args .rule) (c .before .before .before .before .before .before .args .row .now) (c .before .before .before .part-of .result .now) (c .before .before .before .before .width-of .ensures) (c .before .before .before .part-of .ensures) (c .before .before .before .before .before .before .pre .0) (c .before .before .before .before .before .before .pre .1) in mark-within (c .before .before .before .before .before .before .args .rule) (c .before .before .before .before .before .before .args .row .now) (c .before .before .before .part-of .result .now) k (c .mark-of .ensures)
+sub-value-length c =
+    let c₁ = c .before .before .before in
+    let c₂ = c₁ .before in
+    let start = c₂ .before .before in
+    let column = start .args .column in
+    let row = start .args .row .now in
+    let k = cell-of column row (c₁ .part-of .result .now) (c₂ .column-width .ensures) (c₁ .part-of .ensures) (start .pre .0) (start .pre .1) in
+    mark-within column row (c₁ .part-of .result .now) k (c .mark-of .ensures)
 
 part-value-length-start : tie.Need-part-value-length-start
-part-value-length-start c = let k = cell-of (c .before .before .before .before .before .before .args .rule) (c .before .before .before .before .before .before .args .row .now) (c .before .before .before .part-of .result .now) (c .before .before .before .before .width-of .ensures) (c .before .before .before .part-of .ensures) (c .before .before .before .before .before .before .pre .0) (c .before .before .before .before .before .before .pre .1) in mark-within (c .before .before .before .before .before .before .args .rule) (c .before .before .before .before .before .before .args .row .now) (c .before .before .before .part-of .result .now) k (c .mark-of .ensures)
+part-value-length-start c =
+    let c₁ = c .before .before .before in
+    let c₂ = c₁ .before in
+    let start = c₂ .before .before in
+    let column = start .args .column in
+    let row = start .args .row .now in
+    let k = cell-of column row (c₁ .part-of .result .now) (c₂ .column-width .ensures) (c₁ .part-of .ensures) (start .pre .0) (start .pre .1) in
+    mark-within column row (c₁ .part-of .result .now) k (c .mark-of .ensures)
 
 part-value-length-end : tie.Need-part-value-length-end
 part-value-length-end c = search needs
 
 value-length-requires : tie.Need-value-length-requires
-value-length-requires c κs = let k = cell-of (c .before .before .before .before .before .before .before .args .rule) (c .before .before .before .before .before .before .before .args .row .now) (c .before .before .before .before .part-of .result .now) (c .before .before .before .before .before .width-of .ensures) (c .before .before .before .before .part-of .ensures) (c .before .before .before .before .before .before .before .pre .0) (c .before .before .before .before .before .before .before .pre .1) in let h = field-has (c .before .before .before .before .before .before .before .args .rule) (c .before .before .before .before .before .before .before .args .row .now) (c .before .before .before .before .part-of .result .now) (c .before .before .before .before .before .before .before .pre .0 .sound) k (c .before .before .before .has-value .ensures) (c .before .before .if1 .taken) (c .before .mark-of .ensures) in h .0
+value-length-requires c κs =
+    let c₁ = c .before in
+    let c₂ = c₁ .before in
+    let c₃ = c₂ .before in
+    let c₄ = c₃ .before in
+    let c₅ = c₄ .before in
+    let start = c₅ .before .before in
+    let column = start .args .column in
+    let row = start .args .row .now in
+    let k = cell-of column row (c₄ .part-of .result .now) (c₅ .column-width .ensures) (c₄ .part-of .ensures) (start .pre .0) (start .pre .1) in let h
+    = field-has column row (c₄ .part-of .result .now) (start .pre .0 .sound) k (c₃ .has-value .ensures) (c₂ .if1 .taken) (c₁ .mark-of .ensures) in
+    h .0
 
 add-result : tie.Need-add-result
-add-result c = let k = cell-of (c .before .before .before .before .before .before .before .before .args .rule) (c .before .before .before .before .before .before .before .before .args .row .now) (c .before .before .before .before .before .part-of .result .now) (c .before .before .before .before .before .before .width-of .ensures) (c .before .before .before .before .before .part-of .ensures) (c .before .before .before .before .before .before .before .before .pre .0) (c .before .before .before .before .before .before .before .before .pre .1) in let h = field-has (c .before .before .before .before .before .before .before .before .args .rule) (c .before .before .before .before .before .before .before .before .args .row .now) (c .before .before .before .before .before .part-of .result .now) (c .before .before .before .before .before .before .before .before .pre .0 .sound) k (c .before .before .before .before .has-value .ensures) (c .before .before .before .if1 .taken) (c .before .before .mark-of .ensures) in let f = field-short (c .before .before .before .before .before .before .before .before .args .rule) (c .before .before .before .before .before .before .before .before .args .row .now) (c .before .before .before .before .before .before .before .before .pre .0) in let t : 3 + c .value-length .result ≡ length (fieldOf (c .before .before .before .before .before .before .before .before .args .rule) (c .before .before .before .before .before .before .before .before .args .row .now)) = ap (λ (n : ℕ). 3 + n) (c .value-length .ensures) ∙ sym (ap length (h .1) ∙ field-length (c .before .before .before .before .before .before .before .before .args .rule .tag) _) in omega arith
+add-result c =
+    let c₁ = c .before .before in
+    let c₂ = c₁ .before in
+    let c₃ = c₂ .before in
+    let c₄ = c₃ .before in
+    let c₅ = c₄ .before in
+    let start = c₅ .before .before in
+    let column = start .args .column in
+    let row = start .args .row .now in
+    let k = cell-of column row (c₄ .part-of .result .now) (c₅ .column-width .ensures) (c₄ .part-of .ensures) (start .pre .0) (start .pre .1) in let h
+    = field-has column row (c₄ .part-of .result .now) (start .pre .0 .sound) k (c₃ .has-value .ensures) (c₂ .if1 .taken) (c₁ .mark-of .ensures) in let
+    f = field-short column row (start .pre .0) in let t : 3 + c .value-length .result ≡ length (fieldOf column row) = ap (λ (n : ℕ). 3 + n)
+    (c .value-length .ensures) ∙ sym (ap length (h .1) ∙ field-length (start .args .column .tag) _) in omega arith
 
 returns : tie.Need-returns
-returns c = let k = cell-of (c .before .before .before .before .before .before .before .before .args .rule) (c .before .before .before .before .before .before .before .before .args .row .now) (c .before .before .before .before .before .part-of .result .now) (c .before .before .before .before .before .before .width-of .ensures) (c .before .before .before .before .before .part-of .ensures) (c .before .before .before .before .before .before .before .before .pre .0) (c .before .before .before .before .before .before .before .before .pre .1) in let h = field-has (c .before .before .before .before .before .before .before .before .args .rule) (c .before .before .before .before .before .before .before .before .args .row .now) (c .before .before .before .before .before .part-of .result .now) (c .before .before .before .before .before .before .before .before .pre .0 .sound) k (c .before .before .before .before .has-value .ensures) (c .before .before .before .if1 .taken) (c .before .before .mark-of .ensures) in ap (λ (n : ℕ). 3 + n) (c .value-length .ensures) ∙ sym (ap length (h .1) ∙ field-length (c .before .before .before .before .before .before .before .before .args .rule .tag) _)
+returns c =
+    let c₁ = c .before .before in
+    let c₂ = c₁ .before in
+    let c₃ = c₂ .before in
+    let c₄ = c₃ .before in
+    let c₅ = c₄ .before in
+    let start = c₅ .before .before in
+    let column = start .args .column in
+    let row = start .args .row .now in
+    let k = cell-of column row (c₄ .part-of .result .now) (c₅ .column-width .ensures) (c₄ .part-of .ensures) (start .pre .0) (start .pre .1) in let h
+    = field-has column row (c₄ .part-of .result .now) (start .pre .0 .sound) k (c₃ .has-value .ensures) (c₂ .if1 .taken) (c₁ .mark-of .ensures) in ap
+    (λ (n : ℕ). 3 + n) (c .value-length .ensures) ∙ sym (ap length (h .1) ∙ field-length (start .args .column .tag) _)
 
 returns-2 : tie.Need-returns-2
-returns-2 c = let k = cell-of (c .before .before .before .before .before .args .rule) (c .before .before .before .before .before .args .row .now) (c .before .before .part-of .result .now) (c .before .before .before .width-of .ensures) (c .before .before .part-of .ensures) (c .before .before .before .before .before .pre .0) (c .before .before .before .before .before .pre .1) in sym (ap length (field-hasnt (c .before .before .before .before .before .args .rule) (c .before .before .before .before .before .args .row .now) (c .before .before .part-of .result .now) k (c .before .has-value .ensures) (c .if1 .left)))
+returns-2 c =
+    let c₁ = c .before in
+    let c₂ = c₁ .before in
+    let c₃ = c₂ .before in
+    let start = c₃ .before .before in
+    let column = start .args .column in
+    let row = start .args .row .now in
+    let k = cell-of column row (c₂ .part-of .result .now) (c₃ .column-width .ensures) (c₂ .part-of .ensures) (start .pre .0) (start .pre .1) in sym
+    (ap length (field-hasnt column row (c₂ .part-of .result .now) k (c₁ .has-value .ensures) (c .if1 .left)))
 
 pub field-length-spec : {M : Type 1} → statement M
 field-length-spec =
     tie.close
     (tie.spec
-    width-of-requires
+    column-width-requires
     part-of-requires
     has-value-requires
     mark-of-requires

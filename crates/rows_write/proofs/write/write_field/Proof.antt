@@ -1,23 +1,22 @@
-use mathlib.Core.Path.{sym, ap, _∙_}
-use Rattle.prelude.specs.SpliceLaws.{splice-none}
 use mathlib.Core.List.{List}
+use mathlib.Core.Path.{sym, ap, _∙_}
 use Prim.Native.Nat.{ℕ, _+_}
 use native.Mathlib.Nat.{add-zero}
+use native.Mathlib.Omega.{arith}
 use lib.ListN.{length}
+use borrow.Author.Needs.{needs}
 use Rattle.prelude.specs.SpliceLaws.{splice-none}
 use Rattle.prelude.specs.Part.{splice}
-use Rattle.formats.specs.RulesLaws.{width-small}
+use Rattle.rows_format.specs.ColumnsLaws.{width-small}
 use Rattle.rows_write.proofs.Writing.{cell-of, mark-within, field-has, field-hasnt}
-use native.Mathlib.Omega.{arith}
-use borrow.Author.Needs.{needs}
 use Rattle.rows_write.proofs.write.write_field.Statement.{statement}
 use Rattle.rows_write.proofs.write.write_field.Tie as tie
 
-width-of-requires : tie.Need-width-of-requires
-width-of-requires c κs = width-small _ (c .before .before .pre .0 .sound)
+column-width-requires : tie.Need-column-width-requires
+column-width-requires c κs = width-small _ (c .before .before .pre .0 .sound)
 
 part-of-requires : tie.Need-part-of-requires
-part-of-requires c κs = omega (arith, c .width-of .ensures, c .before .before .before .pre .0 .within)
+part-of-requires c κs = omega (arith, c .column-width .ensures, c .before .before .before .pre .0 .within)
 
 has-value-requires : tie.Need-has-value-requires
 has-value-requires c κs = search needs
@@ -26,31 +25,82 @@ mark-of-requires : tie.Need-mark-of-requires
 mark-of-requires c κs = search needs
 
 sub-put-field : tie.Need-sub-put-field
-sub-put-field c = let k = cell-of (c .before .before .before .before .before .before .before .args .rule) (c .before .before .before .before .before .before .before .args .row .now) (c .before .before .before .part-of .result .now) (c .before .before .before .before .width-of .ensures) (c .before .before .before .part-of .ensures) (c .before .before .before .before .before .before .before .pre .0) (c .before .before .before .before .before .before .before .pre .1) in mark-within (c .before .before .before .before .before .before .before .args .rule) (c .before .before .before .before .before .before .before .args .row .now) (c .before .before .before .part-of .result .now) k (c .mark-of .ensures)
+sub-put-field c =
+    let c₁ = c .before .before .before in
+    let c₂ = c₁ .before in
+    let start = c₂ .before .before .before in
+    let column = start .args .column in
+    let row = start .args .row .now in
+    let k = cell-of column row (c₁ .part-of .result .now) (c₂ .column-width .ensures) (c₁ .part-of .ensures) (start .pre .0) (start .pre .1) in
+    mark-within column row (c₁ .part-of .result .now) k (c .mark-of .ensures)
 
 part-put-field-start : tie.Need-part-put-field-start
-part-put-field-start c = let k = cell-of (c .before .before .before .before .before .before .before .args .rule) (c .before .before .before .before .before .before .before .args .row .now) (c .before .before .before .part-of .result .now) (c .before .before .before .before .width-of .ensures) (c .before .before .before .part-of .ensures) (c .before .before .before .before .before .before .before .pre .0) (c .before .before .before .before .before .before .before .pre .1) in mark-within (c .before .before .before .before .before .before .before .args .rule) (c .before .before .before .before .before .before .before .args .row .now) (c .before .before .before .part-of .result .now) k (c .mark-of .ensures)
+part-put-field-start c =
+    let c₁ = c .before .before .before in
+    let c₂ = c₁ .before in
+    let start = c₂ .before .before .before in
+    let column = start .args .column in
+    let row = start .args .row .now in
+    let k = cell-of column row (c₁ .part-of .result .now) (c₂ .column-width .ensures) (c₁ .part-of .ensures) (start .pre .0) (start .pre .1) in
+    mark-within column row (c₁ .part-of .result .now) k (c .mark-of .ensures)
 
 part-put-field-end : tie.Need-part-put-field-end
 part-put-field-end c = search needs
 
 put-field-requires : tie.Need-put-field-requires
-put-field-requires c κs = let k = cell-of (c .before .before .before .before .before .before .before .before .before .args .rule) (c .before .before .before .before .before .before .before .before .before .args .row .now) (c .before .before .before .before .before .part-of .result .now) (c .before .before .before .before .before .before .width-of .ensures) (c .before .before .before .before .before .part-of .ensures) (c .before .before .before .before .before .before .before .before .before .pre .0) (c .before .before .before .before .before .before .before .before .before .pre .1) in let h = field-has (c .before .before .before .before .before .before .before .before .before .args .rule) (c .before .before .before .before .before .before .before .before .before .args .row .now) (c .before .before .before .before .before .part-of .result .now) (c .before .before .before .before .before .before .before .before .before .pre .0 .sound) k (c .before .before .before .before .has-value .ensures) (c .before .before .before .if1 .taken) (c .before .before .mark-of .ensures) in (h .0 .0, h .0 .1, h .0 .2, omega (arith, ap length (h .1), c .before .before .before .before .before .before .before .before .before .pre .2))
+put-field-requires c κs =
+    let c₁ = c .before .before in
+    let c₂ = c₁ .before in
+    let c₃ = c₂ .before in
+    let c₄ = c₃ .before in
+    let c₅ = c₄ .before in
+    let start = c₅ .before .before .before in
+    let column = start .args .column in
+    let row = start .args .row .now in
+    let k = cell-of column row (c₄ .part-of .result .now) (c₅ .column-width .ensures) (c₄ .part-of .ensures) (start .pre .0) (start .pre .1) in let h
+    = field-has column row (c₄ .part-of .result .now) (start .pre .0 .sound) k (c₃ .has-value .ensures) (c₂ .if1 .taken) (c₁ .mark-of .ensures) in
+    (h .0 .0, h .0 .1, h .0 .2, omega (arith, ap length (h .1), start .pre .2))
 
 same-length : tie.Need-same-length
 same-length c = search needs
 
 returns : tie.Need-returns
-returns c = let k = cell-of (c .before .before .before .before .before .before .before .before .before .before .before .before .args .rule) (c .before .before .before .before .before .before .before .before .before .before .before .before .args .row .now) (c .before .before .before .before .before .before .before .before .part-of .result .now) (c .before .before .before .before .before .before .before .before .before .width-of .ensures) (c .before .before .before .before .before .before .before .before .part-of .ensures) (c .before .before .before .before .before .before .before .before .before .before .before .before .pre .0) (c .before .before .before .before .before .before .before .before .before .before .before .before .pre .1) in let h = field-has (c .before .before .before .before .before .before .before .before .before .before .before .before .args .rule) (c .before .before .before .before .before .before .before .before .before .before .before .before .args .row .now) (c .before .before .before .before .before .before .before .before .part-of .result .now) (c .before .before .before .before .before .before .before .before .before .before .before .before .pre .0 .sound) k (c .before .before .before .before .before .before .before .has-value .ensures) (c .before .before .before .before .before .before .if1 .taken) (c .before .before .before .before .before .mark-of .ensures) in (c .before .before .put-field .ensures .0 ∙ ap (λ (v : List ℕ). c .before .before .before .before .before .before .before .before .before .before .before .before .args .at + length v) (sym (h .1)), c .before .before .put-field .ensures .1 ∙ ap (λ (v : List ℕ). splice (c .before .before .before .before .before .before .before .before .before .before .before .before .args .at) v (c .before .before .before .before .before .before .before .before .before .before .before .before .args .out .now)) (sym (h .1)))
+returns c =
+    let c₁ = c .before .before in
+    let c₂ = c₁ .before .before .before in
+    let c₃ = c₂ .before in
+    let c₄ = c₃ .before in
+    let c₅ = c₄ .before in
+    let c₆ = c₅ .before in
+    let start = c₆ .before .before .before in
+    let column = start .args .column in
+    let row = start .args .row .now in
+    let k = cell-of column row (c₅ .part-of .result .now) (c₆ .column-width .ensures) (c₅ .part-of .ensures) (start .pre .0) (start .pre .1) in let h
+    = field-has column row (c₅ .part-of .result .now) (start .pre .0 .sound) k (c₄ .has-value .ensures) (c₃ .if1 .taken) (c₂ .mark-of .ensures) in (
+      c₁ .put-field .ensures .0 ∙ ap (λ (v : List ℕ). start .args .at + length v) (sym (h .1)),
+      c₁ .put-field .ensures .1 ∙ ap
+          (λ (v : List ℕ). splice (start .args .at) v (start .args .out .now)) (sym (h .1)),
+    )
 
 returns-2 : tie.Need-returns-2
-returns-2 c = let k = cell-of (c .before .before .before .before .before .before .args .rule) (c .before .before .before .before .before .before .args .row .now) (c .before .before .part-of .result .now) (c .before .before .before .width-of .ensures) (c .before .before .part-of .ensures) (c .before .before .before .before .before .before .pre .0) (c .before .before .before .before .before .before .pre .1) in let e = field-hasnt (c .before .before .before .before .before .before .args .rule) (c .before .before .before .before .before .before .args .row .now) (c .before .before .part-of .result .now) k (c .before .has-value .ensures) (c .if1 .left) in (sym (ap (λ (v : List ℕ). c .before .before .before .before .before .before .args .at + length v) e ∙ add-zero (c .before .before .before .before .before .before .args .at)), sym (ap (λ (v : List ℕ). splice (c .before .before .before .before .before .before .args .at) v (c .before .before .before .before .before .before .args .out .now)) e ∙ splice-none (c .before .before .before .before .before .before .args .at) (c .before .before .before .before .before .before .args .out .now)))
+returns-2 c =
+    let c₁ = c .before in
+    let c₂ = c₁ .before in
+    let c₃ = c₂ .before in
+    let start = c₃ .before .before .before in
+    let column = start .args .column in
+    let row = start .args .row .now in
+    let at = start .args .at in
+    let out = start .args .out .now in
+    let k = cell-of column row (c₂ .part-of .result .now) (c₃ .column-width .ensures) (c₂ .part-of .ensures) (start .pre .0) (start .pre .1) in let e
+    = field-hasnt column row (c₂ .part-of .result .now) k (c₁ .has-value .ensures) (c .if1 .left) in
+    (sym (ap (λ (v : List ℕ). start .args .at + length v) e ∙ add-zero at), sym (ap (λ (v : List ℕ). splice at v out) e ∙ splice-none at out))
 
 pub write-field-spec : {M : Type 1} → statement M
 write-field-spec =
     tie.close
     (tie.spec
-    width-of-requires
+    column-width-requires
     part-of-requires
     has-value-requires
     mark-of-requires

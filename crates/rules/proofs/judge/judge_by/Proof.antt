@@ -1,10 +1,10 @@
 use mathlib.Core.Path.{_≡_, refl, sym, ap, _∙_}
 use Prim.Native.Nat.{ℕ, _-_}
 use lib.ListN.{length, drop}
-use Rattle.schema.specs.Answers.{done}
-use Rattle.schema.specs.Store.{attributeTable, classTable}
+use Rattle.schema.specs.Answers.{passed}
 use Rattle.schema.specs.declared.answer.Answer.{Answer}
-use Rattle.rules.specs.Rules.{schemaRules, numbered, rulesOf}
+use Rattle.schema.specs.Store.{schemaIn}
+use Rattle.rules.specs.Rules.{schemaRules, rulesOf, numbered}
 use Rattle.rules.specs.Judge.{judgeRule, judgeRules}
 use Rattle.rules.specs.JudgeLaws.{judge-found, judge-next, judge-over}
 use native.Mathlib.Omega.{arith}
@@ -13,10 +13,11 @@ use Rattle.rules.proofs.judge.judge_by.Statement.{statement}
 use Rattle.rules.proofs.judge.judge_by.Tie as tie
 
 abbrev Inv-loop : tie.InvT-loop
-Inv-loop order attributes classes i₀ i = judgeRules (rulesOf (schemaRules (attributeTable attributes) (classTable classes)) order) (attributeTable attributes .count) (classTable classes .count) ≡ judgeRules (rulesOf (schemaRules (attributeTable attributes) (classTable classes)) (drop i order)) (attributeTable attributes .count) (classTable classes .count)
+Inv-loop order added attributes classes i₀ i = judgeRules (rulesOf (schemaRules added) order) (schemaIn attributes classes)
+    ≡ judgeRules (rulesOf (schemaRules added) (drop i order)) (schemaIn attributes classes)
 
 abbrev μ-loop : tie.MeasureT-loop
-μ-loop order attributes classes i₀ i = length order - i
+μ-loop order added attributes classes i₀ i = length order - i
 
 loop-holds : tie.Need-loop-holds Inv-loop μ-loop
 loop-holds c = refl
@@ -25,10 +26,15 @@ byte-at-requires : tie.Need-byte-at-requires Inv-loop μ-loop
 byte-at-requires c κs = search needs
 
 judge-rule-requires : tie.Need-judge-rule-requires Inv-loop μ-loop
-judge-rule-requires c κs = search needs
+judge-rule-requires c κs = c .before .before .before .before .before .before .pre
 
 returns : tie.Need-returns Inv-loop μ-loop
-returns c = (c .before .before .judge-rule .ensures ∙ ap (λ (x : ℕ). judgeRule (numbered (schemaRules (attributeTable (c .before .before .before .before .before .before .before .before .before .args .attributes .now)) (classTable (c .before .before .before .before .before .before .before .before .before .args .classes .now))) x) (attributeTable (c .before .before .before .before .before .before .before .before .before .args .attributes .now) .count) (classTable (c .before .before .before .before .before .before .before .before .before .args .classes .now) .count) (done 0 0)) (c .before .before .before .byte-at .ensures)) ∙ sym (c .before .before .before .before .before .loop .inv ∙ judge-found (schemaRules (attributeTable (c .before .before .before .before .before .before .before .before .before .args .attributes .now)) (classTable (c .before .before .before .before .before .before .before .before .before .args .classes .now))) (c .before .before .before .before .before .before .before .before .before .args .order .now) (attributeTable (c .before .before .before .before .before .before .before .before .before .args .attributes .now) .count) (classTable (c .before .before .before .before .before .before .before .before .before .args .classes .now) .count) (c .before .before .before .before .before .loop .i) (search needs) (λ z. c .if1 .taken (ap (λ (x : Answer). x .table) (c .before .before .judge-rule .ensures ∙ ap (λ (x : ℕ). judgeRule (numbered (schemaRules (attributeTable (c .before .before .before .before .before .before .before .before .before .args .attributes .now)) (classTable (c .before .before .before .before .before .before .before .before .before .args .classes .now))) x) (attributeTable (c .before .before .before .before .before .before .before .before .before .args .attributes .now) .count) (classTable (c .before .before .before .before .before .before .before .before .before .args .classes .now) .count) (done 0 0)) (c .before .before .before .byte-at .ensures)) ∙ z)))
+returns c =
+    let c₁ = c .before .before in let c₂ = c₁ .before in let c₃ = c₂ .before in let c₄ = c₃ .before in let start = c₄ .before .before .before .before
+    in let added = start .args .added in let m = schemaIn (start .args .attributes .now) (start .args .classes .now) in let e =
+    c₁ .judge-rule .ensures ∙ ap (λ (n : ℕ). judgeRule (numbered (schemaRules added) n) m passed) (c₂ .byte-at .ensures) in e ∙ sym
+    (c₄ .loop .inv ∙ judge-found (schemaRules added) (start .args .order .now) m (c₄ .loop .i) (c₃ .loop-test .taken)
+    (λ z. c .if1 .taken (ap (λ (x : Answer). x .table) e ∙ z)))
 
 add-i : tie.Need-add-i Inv-loop μ-loop
 add-i c = search needs
@@ -37,13 +43,20 @@ loop-less : tie.Need-loop-less Inv-loop μ-loop
 loop-less c = search needs
 
 loop-again : tie.Need-loop-again Inv-loop μ-loop
-loop-again c = c .before .before .before .before .before .loop .inv ∙ judge-next (schemaRules (attributeTable (c .before .before .before .before .before .before .before .before .before .args .attributes .now)) (classTable (c .before .before .before .before .before .before .before .before .before .args .classes .now))) (c .before .before .before .before .before .before .before .before .before .args .order .now) (attributeTable (c .before .before .before .before .before .before .before .before .before .args .attributes .now) .count) (classTable (c .before .before .before .before .before .before .before .before .before .args .classes .now) .count) (c .before .before .before .before .before .loop .i) (search needs) (sym (ap (λ (x : Answer). x .table) (c .before .before .judge-rule .ensures ∙ ap (λ (x : ℕ). judgeRule (numbered (schemaRules (attributeTable (c .before .before .before .before .before .before .before .before .before .args .attributes .now)) (classTable (c .before .before .before .before .before .before .before .before .before .args .classes .now))) x) (attributeTable (c .before .before .before .before .before .before .before .before .before .args .attributes .now) .count) (classTable (c .before .before .before .before .before .before .before .before .before .args .classes .now) .count) (done 0 0)) (c .before .before .before .byte-at .ensures))) ∙ c .if1 .left)
+loop-again c =
+    let c₁ = c .before .before in let c₂ = c₁ .before in let c₃ = c₂ .before in let c₄ = c₃ .before in let start = c₄ .before .before .before .before
+    in let added = start .args .added in let m = schemaIn (start .args .attributes .now) (start .args .classes .now) in let e =
+    c₁ .judge-rule .ensures ∙ ap (λ (n : ℕ). judgeRule (numbered (schemaRules added) n) m passed) (c₂ .byte-at .ensures) in c₄ .loop .inv ∙ judge-next
+    (schemaRules added) (start .args .order .now) m (c₄ .loop .i) (c₃ .loop-test .taken) (sym (ap (λ (x : Answer). x .table) e) ∙ c .if1 .left)
 
-done-requires : tie.Need-done-requires Inv-loop μ-loop
-done-requires c κs = search needs
+passed-requires : tie.Need-passed-requires Inv-loop μ-loop
+passed-requires c κs = search needs
 
 returns-2 : tie.Need-returns-2 Inv-loop μ-loop
-returns-2 c = c .done .ensures ∙ sym (c .before .before .loop .inv ∙ judge-over (schemaRules (attributeTable (c .before .before .before .before .before .before .args .attributes .now)) (classTable (c .before .before .before .before .before .before .args .classes .now))) (c .before .before .before .before .before .before .args .order .now) (attributeTable (c .before .before .before .before .before .before .args .attributes .now) .count) (classTable (c .before .before .before .before .before .before .args .classes .now) .count) (c .before .before .loop .i) (omega arith))
+returns-2 c =
+    let c₁ = c .before in let c₂ = c₁ .before in let start = c₂ .before .before .before .before in c .passed .ensures ∙ sym
+    (c₂ .loop .inv ∙ judge-over (schemaRules (start .args .added)) (start .args .order .now)
+    (schemaIn (start .args .attributes .now) (start .args .classes .now)) (c₂ .loop .i) (omega (arith, c₁ .loop-test .left)))
 
 pub judge-by-spec : {M : Type 1} → statement M
 judge-by-spec =
@@ -58,5 +71,5 @@ judge-by-spec =
     add-i
     loop-less
     loop-again
-    done-requires
+    passed-requires
     returns-2)

@@ -1,45 +1,78 @@
-use mathlib.Core.Path.{_∙_}
-use Rattle.schema.specs.Store.{attributeTable, classTable}
+use mathlib.Core.Path.{_≡_, _∙_}
 use Rattle.rules.specs.Rules.{schemaRules}
 use Rattle.rules.specs.JudgeLaws.{answer-attribute, answer-class, answer-none}
+use Rattle.schema.specs.Store.{schemaIn}
+use Rattle.schema.specs.declared.number.TableId.the-variants.{Attributes, Classes}
+use Rattle.rules.proofs.Asked.{broken-at}
 use native.Mathlib.Omega.{arith}
 use borrow.Author.Needs.{needs}
 use Rattle.rules.proofs.judge.judge_rule.Statement.{statement}
 use Rattle.rules.proofs.judge.judge_rule.Tie as tie
 
-first-attribute-requires : tie.Need-first-attribute-requires
-first-attribute-requires c κs = search needs
+first-row-requires : tie.Need-first-row-requires
+first-row-requires c κs = search needs
 
-attribute-count-requires : tie.Need-attribute-count-requires
-attribute-count-requires c κs = search needs
+row-count-requires : tie.Need-row-count-requires
+row-count-requires c κs = search needs
+
+row-id-requires : tie.Need-row-id-requires
+row-id-requires c κs = search needs
+
+broken-by-requires : tie.Need-broken-by-requires
+broken-by-requires c κs = search needs
 
 returns : tie.Need-returns
-returns c = answer-attribute (schemaRules (attributeTable (c .before .before .before .before .before .args .attributes .now)) (classTable (c .before .before .before .before .before .args .classes .now))) (c .before .before .before .before .before .args .number) (attributeTable (c .before .before .before .before .before .args .attributes .now) .count) (classTable (c .before .before .before .before .before .args .classes .now) .count) _ (c .before .before .first-attribute .ensures) (omega (arith, c .before .attribute-count .ensures))
+returns c =
+    let c₁ = c .before in let c₂ = c₁ .before in let c₃ = c₂ .before in let c₄ = c₃ .before in let start = c₄ .before .before .before in let number =
+    start .args .number in c .broken-by .ensures ∙ broken-at Attributes (c₄ .first-row .result) (c₁ .row-id .ensures) number ∙ answer-attribute
+    (schemaRules (start .args .added)) number (schemaIn (start .args .attributes .now) (start .args .classes .now)) (c₄ .first-row .result)
+    (c₄ .first-row .ensures) (omega (arith, c₃ .row-count .ensures, c₂ .if1 .taken))
 
-first-class-requires : tie.Need-first-class-requires
-first-class-requires c κs = search needs
+first-row-requires-2 : tie.Need-first-row-requires-2
+first-row-requires-2 c κs = search needs
 
-class-count-requires : tie.Need-class-count-requires
-class-count-requires c κs = search needs
+row-count-requires-2 : tie.Need-row-count-requires-2
+row-count-requires-2 c κs = search needs
+
+row-id-requires-2 : tie.Need-row-id-requires-2
+row-id-requires-2 c κs = search needs
+
+broken-by-requires-2 : tie.Need-broken-by-requires-2
+broken-by-requires-2 c κs = search needs
 
 returns-2 : tie.Need-returns-2
-returns-2 c = answer-class (schemaRules (attributeTable (c .before .before .before .before .before .before .before .before .args .attributes .now)) (classTable (c .before .before .before .before .before .before .before .before .args .classes .now))) (c .before .before .before .before .before .before .before .before .args .number) (attributeTable (c .before .before .before .before .before .before .before .before .args .attributes .now) .count) (classTable (c .before .before .before .before .before .before .before .before .args .classes .now) .count) _ (c .before .before .before .before .before .first-attribute .ensures) _ (c .before .before .first-class .ensures) (omega (arith, c .before .before .before .before .attribute-count .ensures, c .before .before .before .if1 .left)) (omega (arith, c .before .class-count .ensures))
+returns-2 c =
+    let c₁ = c .before in let c₂ = c₁ .before in let c₃ = c₂ .before in let c₄ = c₃ .before in let c₅ = c₄ .before in let c₆ = c₅ .before in let c₇ =
+    c₆ .before in let start = c₇ .before .before .before in let number = start .args .number in c .broken-by2 .ensures ∙ broken-at Classes
+    (c₄ .first-row2 .result) (c₁ .row-id2 .ensures) number ∙ answer-class (schemaRules (start .args .added)) number
+    (schemaIn (start .args .attributes .now) (start .args .classes .now)) (c₇ .first-row .result) (c₇ .first-row .ensures)
+    (omega (arith, c₆ .row-count .ensures, c₅ .if1 .left)) (c₄ .first-row2 .result) (c₄ .first-row2 .ensures)
+    (omega (arith, c₃ .row-count2 .ensures, c₂ .if2 .taken))
 
-done-requires : tie.Need-done-requires
-done-requires c κs = search needs
+passed-requires : tie.Need-passed-requires
+passed-requires c κs = search needs
 
 returns-3 : tie.Need-returns-3
-returns-3 c = c .done .ensures ∙ answer-none (schemaRules (attributeTable (c .before .before .before .before .before .before .before .before .before .args .attributes .now)) (classTable (c .before .before .before .before .before .before .before .before .before .args .classes .now))) (c .before .before .before .before .before .before .before .before .before .args .number) (attributeTable (c .before .before .before .before .before .before .before .before .before .args .attributes .now) .count) (classTable (c .before .before .before .before .before .before .before .before .before .args .classes .now) .count) _ (c .before .before .before .before .before .before .first-attribute .ensures) _ (c .before .before .before .first-class .ensures) (omega (arith, c .before .before .before .before .before .attribute-count .ensures, c .before .before .before .before .if1 .left)) (omega (arith, c .before .before .class-count .ensures, c .before .if2 .left))
+returns-3 c =
+    let c₁ = c .before in let c₂ = c₁ .before in let c₃ = c₂ .before in let c₄ = c₃ .before in let c₅ = c₄ .before in let c₆ = c₅ .before in let start
+    = c₆ .before .before .before in c .passed .ensures ∙ answer-none (schemaRules (start .args .added)) (start .args .number)
+    (schemaIn (start .args .attributes .now) (start .args .classes .now)) (c₆ .first-row .result) (c₆ .first-row .ensures)
+    (omega (arith, c₅ .row-count .ensures, c₄ .if1 .left)) (c₃ .first-row2 .result) (c₃ .first-row2 .ensures)
+    (omega (arith, c₂ .row-count2 .ensures, c₁ .if2 .left))
 
 pub judge-rule-spec : {M : Type 1} → statement M
 judge-rule-spec =
     tie.close
     (tie.spec
-    first-attribute-requires
-    attribute-count-requires
+    first-row-requires
+    row-count-requires
+    row-id-requires
+    broken-by-requires
     returns
-    first-class-requires
-    class-count-requires
+    first-row-requires-2
+    row-count-requires-2
+    row-id-requires-2
+    broken-by-requires-2
     returns-2
-    done-requires
+    passed-requires
     returns-3)

@@ -1,5 +1,5 @@
-use Rattle.schema.specs.AttributeRow.{boundAt}
 use borrow.Author.Needs.{needs}
+use Rattle.schema.specs.AttributeRow.{boundAt}
 use Rattle.schema.proofs.attribute.bound_at.Statement.{statement}
 use Rattle.schema.proofs.attribute.bound_at.Tie as tie
 
@@ -14,7 +14,10 @@ read-u32-requires c κs = search needs
 
 returns : tie.Need-returns
 unfolding boundAt
-returns c = rw (← (c .before .before .flag .ensures), c .before .if1 .taken, c .read-u32 .ensures)
+returns c =
+    let c₁ = c .before in
+    let c₂ = c₁ .before in
+    rw (← (c₂ .flag .ensures), c₁ .if1 .taken, c .read-u32 .ensures)
 
 returns-2 : tie.Need-returns-2
 unfolding boundAt

@@ -1,5 +1,5 @@
-use Rattle.schema.specs.ClassRow.{namingOf}
 use borrow.Author.Needs.{needs}
+use Rattle.schema.specs.ClassRow.{namingOf}
 use Rattle.schema.proofs.class.naming_attribute.Statement.{statement}
 use Rattle.schema.proofs.class.naming_attribute.Tie as tie
 
@@ -17,7 +17,10 @@ cast-t5 c = search needs
 
 returns : tie.Need-returns
 unfolding namingOf
-returns c = rw (← (c .before .before .flag .ensures), c .before .if1 .taken, c .byte-at .ensures)
+returns c =
+    let c₁ = c .before in
+    let c₂ = c₁ .before in
+    rw (← (c₂ .flag .ensures), c₁ .if1 .taken, c .byte-at .ensures)
 
 returns-2 : tie.Need-returns-2
 unfolding namingOf

@@ -1,6 +1,6 @@
 use mathlib.Core.Path.{ap, _∙_}
-use Rattle.schema.specs.Numbers.{classRead}
 use borrow.Author.Needs.{needs}
+use Rattle.schema.specs.Numbers.{classRead}
 use Rattle.schema.proofs.class.superclass.Statement.{statement}
 use Rattle.schema.proofs.class.superclass.Tie as tie
 

@@ -1,14 +1,14 @@
-use mathlib.Core.Path.{_≡_, sym}
 use mathlib.Core.Bool.{false}
+use mathlib.Core.Path.{_≡_, sym}
 use Prim.Native.Nat.{ℕ, _-_, _≤_}
+use native.Mathlib.Omega.{arith}
 use lib.Dec.{eqb}
+use borrow.Author.Needs.{needs}
 use borrow.Author.Tests.{eq-eqb, ne-eqb}
 use Rattle.prelude.specs.Below.{anyBelow}
 use Rattle.prelude.specs.BelowLaws.{any-zero, any-more, any-end, first-found, first-absent}
 use Rattle.schema.specs.ObjectClasses.{entryCount, entrySyntax}
 use Rattle.schema.specs.ObjectClassesLaws.{entry-length}
-use native.Mathlib.Omega.{arith}
-use borrow.Author.Needs.{needs}
 use Rattle.schema.proofs.object_classes.first_entry.Statement.{statement}
 use Rattle.schema.proofs.object_classes.first_entry.Tie as tie
 
@@ -25,10 +25,20 @@ row-of-requires : tie.Need-row-of-requires Inv-loop μ-loop
 row-of-requires c κs = omega (arith, c .before .before .before .pre .room, c .loop-test .taken)
 
 byte-at-requires : tie.Need-byte-at-requires Inv-loop μ-loop
-byte-at-requires c κs = rw (c .row-of .ensures) (omega (arith, entry-length (c .before .before .before .before .args .table .now) (c .before .before .loop .i) (c .before .before .before .before .pre) (search needs)))
+byte-at-requires c κs =
+    let c₁ = c .before .before in
+    let start = c₁ .before .before in
+    rw (c .row-of .ensures) (omega (arith, entry-length (start .args .table .now) (c₁ .loop .i) (start .pre) (search needs)))
 
 returns : tie.Need-returns Inv-loop μ-loop
-returns c = sym (first-found (λ (j : ℕ). eqb (entrySyntax (c .before .before .before .before .before .before .args .table .now) j) (c .before .before .before .before .before .before .args .syntax)) (c .before .before .before .before .loop .i) entryCount (search needs) (c .before .before .before .before .loop .inv .1) (rw (← (c .before .before .row-of .ensures), ← (c .before .byte-at .ensures)) (eq-eqb _ _ (c .if1 .taken))))
+returns c =
+    let c₁ = c .before in
+    let c₂ = c₁ .before in
+    let c₃ = c₂ .before .before in
+    let start = c₃ .before .before in
+    sym
+    (first-found (λ (j : ℕ). eqb (entrySyntax (start .args .table .now) j) (start .args .syntax)) (c₃ .loop .i) entryCount (search needs)
+    (c₃ .loop .inv .1) (rw (← (c₂ .row-of .ensures), ← (c₁ .byte-at .ensures)) (eq-eqb _ _ (c .if1 .taken))))
 
 add-i : tie.Need-add-i Inv-loop μ-loop
 add-i c = search needs
@@ -37,10 +47,25 @@ loop-less : tie.Need-loop-less Inv-loop μ-loop
 loop-less c = search needs
 
 loop-again : tie.Need-loop-again Inv-loop μ-loop
-loop-again c = (search needs, any-more (λ (j : ℕ). eqb (entrySyntax (c .before .before .before .before .before .before .args .table .now) j) (c .before .before .before .before .before .before .args .syntax)) _ (c .before .before .before .before .loop .inv .1) (rw (← (c .before .before .row-of .ensures), ← (c .before .byte-at .ensures)) (ne-eqb _ _ (c .if1 .left))))
+loop-again c =
+    let c₁ = c .before in
+    let c₂ = c₁ .before in
+    let c₃ = c₂ .before .before in
+    let start = c₃ .before .before in (
+      search needs,
+      any-more (λ (j : ℕ). eqb (entrySyntax (start .args .table .now) j) (start .args .syntax)) _ (c₃ .loop .inv .1)
+          (rw (← (c₂ .row-of .ensures), ← (c₁ .byte-at .ensures)) (ne-eqb _ _ (c .if1 .left))),
+    )
 
 returns-2 : tie.Need-returns-2 Inv-loop μ-loop
-returns-2 c = sym (first-absent (λ (j : ℕ). eqb (entrySyntax (c .before .before .before .args .table .now) j) (c .before .before .before .args .syntax)) entryCount (any-end (λ (j : ℕ). eqb (entrySyntax (c .before .before .before .args .table .now) j) (c .before .before .before .args .syntax)) _ entryCount (c .before .loop .inv .0) (search needs) (c .before .loop .inv .1)))
+returns-2 c =
+    let c₁ = c .before in
+    let start = c₁ .before .before in
+    let table = start .args .table .now in
+    let syntax = start .args .syntax in
+    sym
+    (first-absent (λ (j : ℕ). eqb (entrySyntax table j) syntax) entryCount
+    (any-end (λ (j : ℕ). eqb (entrySyntax table j) syntax) _ entryCount (c₁ .loop .inv .0) (search needs) (c₁ .loop .inv .1)))
 
 pub first-entry-spec : {M : Type 1} → statement M
 first-entry-spec =

@@ -1,4 +1,0 @@
--- A change: what reading it comes to, and what it carries.
-pub mod Reading
-pub mod Carried
-pub mod ChangeLaws

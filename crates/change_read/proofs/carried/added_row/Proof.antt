@@ -1,0 +1,21 @@
+use Rattle.prelude.specs.Part.{part}
+use mathlib.Core.Path.{ap, _∙_}
+use Prim.Native.Nat.{ℕ}
+use native.Mathlib.Omega.{arith}
+use borrow.Author.Needs.{needs}
+use Rattle.change_read.proofs.carried.added_row.Statement.{statement}
+use Rattle.change_read.proofs.carried.added_row.Tie as tie
+
+row-width-requires : tie.Need-row-width-requires
+row-width-requires c κs = search needs
+
+part-of-requires : tie.Need-part-of-requires
+part-of-requires c κs = search needs
+
+returns : tie.Need-returns
+returns c =
+    let c₁ = c .before in let start = c₁ .before .before in c .part-of .ensures ∙ ap (λ (n : ℕ). part 0 n (start .args .row .now))
+    (c₁ .row-width .ensures)
+
+pub added-row-spec : {M : Type 1} → statement M
+added-row-spec = tie.close (tie.spec row-width-requires part-of-requires returns)

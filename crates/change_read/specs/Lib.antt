@@ -1,0 +1,5 @@
+-- A change: what reading it comes to, and what it carries.
+pub mod Reading
+pub mod Carried
+pub mod ChangeLaws
+pub mod AdditionLaws

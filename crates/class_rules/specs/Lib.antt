@@ -1,9 +1,0 @@
--- Rules of a class row: what it names is live, earlier and of the right category; its chain; its naming attribute.
-pub mod Named
-pub mod NamedLaws
-pub mod Category
-pub mod CategoryLaws
-pub mod Chain
-pub mod ChainLaws
-pub mod StayLaws
-pub mod SameLaws

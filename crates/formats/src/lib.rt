@@ -1,4 +1,0 @@
-// The formats of rows and changes as tables of rules. A rule is one field: its tag, whether it must be there, the shape of its value, and the place
-// of its cell in the row. The cells of a row stand side by side in the order of the table.
-pub mod shape;
-pub mod table;

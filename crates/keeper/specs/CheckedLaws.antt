@@ -1,0 +1,58 @@
+-- What a call knows once its stores were checked: the answer, or that they are in shape and the rest of its answers decides.
+use mathlib.Core.List.{List, _++_, _∷_}
+use mathlib.Core.Path.{_≡_, refl, sym, ap, _∙_}
+use Rattle.schema.specs.declared.number.TableId.the-variants.{Attributes, Classes}
+use Rattle.schema.specs.Store.{Stores}
+use Rattle.schema.specs.declared.answer.Answer.{Answer}
+use Rattle.schema.specs.Answers.{passed}
+use Rattle.tables.specs.Shaped.{Shaped}
+use Rattle.graph.specs.Graph.{Readable}
+use Rattle.sheet_read.specs.Reading.{rows}
+use Rattle.sheet_write.specs.Writing.{Writable}
+use Rattle.tables_shape.specs.ShapeLaws.{says-formed, formed-shaped, formed-readable}
+use Rattle.keeper.specs.Answering.{firstAnswer, NoneRefuses, shapeAnswers, InShape}
+use Rattle.keeper.specs.AnsweringLaws.{first-refused, first-passed, zero-iff-pass, append-passed, append-refused, shape-passed}
+
+-- the same number
+number-is : {a b : Answer} → a ≡ b → b .number ≡ 0 → a .number ≡ 0
+number-is e z = ap (λ (x : Answer). x .number) e ∙ z
+
+-- ---- an answer that was found before the others
+
+module _ {a r : Answer} (is : r ≡ a) (answers : List Answer) (last : Answer) where
+  pub found-refused : ¬ (r .number ≡ 0) → r ≡ firstAnswer (a ∷ answers) last
+  found-refused d = is ∙ sym (first-refused a answers last (λ z. d (number-is is z)))
+
+  pub found-passed : r .number ≡ 0 → firstAnswer (a ∷ answers) last ≡ firstAnswer answers last
+  found-passed z = first-passed a answers last (number-is (sym is) z)
+
+-- ---- the stores
+
+-- what the check of the stores has given
+module _ (s : Stores) {r : Answer} (is : r ≡ firstAnswer (shapeAnswers s) passed) where
+  pub shape-refused : (rest : List Answer) (last : Answer) → ¬ (r .number ≡ 0) → r ≡ firstAnswer (shapeAnswers s ++ rest) last
+  shape-refused rest last d = is ∙ sym (append-refused (shapeAnswers s) rest passed last refl (λ z. d (number-is is z)))
+
+  module _ (z : r .number ≡ 0) where
+    none-refused : NoneRefuses (shapeAnswers s)
+    none-refused = zero-iff-pass (shapeAnswers s) passed refl .0 (number-is (sym is) z)
+
+    pub in-shape : InShape s
+    in-shape = shape-passed s none-refused
+
+    pub shape-onward : (rest : List Answer) (last : Answer) → firstAnswer (shapeAnswers s ++ rest) last ≡ firstAnswer rest last
+    shape-onward rest last = append-passed (shapeAnswers s) rest last none-refused
+
+    pub shaped-stores : Shaped (s .attributes) (s .classes)
+    shaped-stores = formed-shaped (s .attributes) (s .classes) (in-shape .long .attributes) (in-shape .long .classes) (in-shape .formed)
+
+    pub readable-classes : Readable (s .classes)
+    readable-classes = formed-readable (s .attributes) (s .classes) (in-shape .long .attributes) (in-shape .long .classes) (in-shape .formed)
+
+-- stores in shape can be written
+pub writable : (s : Stores) → InShape s → Writable Attributes (s .attributes) × Writable Classes (s .classes)
+writable s h =
+    let f = says-formed (s .attributes) (s .classes) (h .long .attributes) (h .long .classes) .holds (h .formed) in (
+      record { long = h .long .attributes; few = f .attributes .few; rows = f .attributes .rows },
+      record { long = h .long .classes; few = f .classes .few; rows = f .classes .rows },
+    )

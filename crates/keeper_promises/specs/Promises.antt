@@ -1,0 +1,163 @@
+-- What the calls promise, demand by demand, as types alone. The proofs stand in the other files: `demand1` and `demand2` (PromisesLaws) are members
+-- of the two
+-- records. `load`, `audit`, `depth` and `write` are the definitions that the contracts of the calls equate with answer and final bytes, for every input.
+use mathlib.Core.Bool.{true}
+use mathlib.Core.List.{List}
+use mathlib.Core.Logic.{_⊎_, _↔_}
+use mathlib.Core.Path.{_≡_}
+use Prim.Native.Nat.{ℕ, _≤_, _<_}
+use lib.ListN.{drop, length}
+use Rattle.prelude.specs.Part.{Bytes, part, splice}
+use Rattle.schema.specs.declared.number.TableId.{TableId}
+use Rattle.schema.specs.declared.number.TableId.the-variants.{Attributes, Classes}
+use Rattle.schema.specs.Answers.{passed, done, refused, unreadable, full, shortOutput}
+use Rattle.schema.specs.Layout.{storeLength, closureLength}
+use Rattle.schema.specs.Numbers.{classLimit}
+use Rattle.schema.specs.Store.{LongEnough, Stores, stores, result, schemaOf, closureAt, table}
+use Rattle.tables.specs.Filled.{emptyStores}
+use Rattle.graph.specs.Graph.{closureRow}
+use Rattle.graph.specs.Depth.{EarlierChain}
+use Rattle.sheet_read.specs.declared.read.SheetRead.the-variants.{Bad, Full, Read}
+use Rattle.sheet_read.specs.Reading.{readSheet, schemaFrom}
+use Rattle.rules.specs.declared.row.Added.the-variants.{Nothing}
+use Rattle.rules.specs.Rules.{schemaRules, breaks}
+use Rattle.rules.specs.Judge.{FirstBroken}
+use Rattle.rules.specs.Meets.{Meets}
+use Rattle.tables_shape.specs.Shape.{StoresFormed}
+use Rattle.sheet_round_trip.specs.Exact.{ExactSheet}
+use Rattle.keeper.specs.Load.{emptied, filled, load}
+use Rattle.keeper.specs.Audit.{audit}
+use Rattle.keeper.specs.Depth.{depth}
+use Rattle.keeper.specs.Write.{sheetOf, write, written}
+use Rattle.schema.specs.Refusals as refusal
+
+-- ---- the words
+
+-- "1 a lent store is shorter than its length"
+abbrev pub SomeShort : Stores → Type 0
+SomeShort s = (length (s .attributes) < storeLength Attributes) ⊎ ((length (s .classes) < storeLength Classes) ⊎ (length (s .closure) < closureLength))
+
+-- "*Shape*: counts within limits, every field one that the reader could have stored, unused rows zero"
+abbrev pub Shape : Stores → Type 0
+Shape s = StoresFormed (s .attributes) (s .classes)
+
+-- "kept sets equal to those worked out afresh, zero for unused rows"
+abbrev pub Fresh : Stores → Type 0
+Fresh s = (c : ℕ) → c < classLimit → closureAt (s .closure) c ≡ closureRow (schemaOf s .classes) c
+
+-- "*In order*: shape, rules 12 to 29, and kept sets equal to those worked out afresh, zero for unused rows."
+pub record InOrder (s : Stores) : Type 0 where
+  pub long : LongEnough s
+  pub shape : Shape s
+  pub rules : Meets (schemaOf s)
+  pub fresh : Fresh s
+
+-- a sheet that a load accepts: it reads, and the rows that it gives meet every rule
+pub record Acceptable (sheet : List ℕ) : Type 0 where
+  pub reads : readSheet sheet .answer ≡ Read
+  pub rules : Meets (schemaFrom (readSheet sheet .rows))
+
+-- both have their lengths, and the bytes up to these are the same (docs/DECISIONS.md, R36: only the first bytes of a longer store count)
+pub record Alike (s t : Stores) : Type 0 where
+  pub left : LongEnough s
+  pub right : LongEnough t
+  pub attributes : part 0 (storeLength Attributes) (s .attributes) ≡ part 0 (storeLength Attributes) (t .attributes)
+  pub classes : part 0 (storeLength Classes) (s .classes) ≡ part 0 (storeLength Classes) (t .classes)
+  pub closure : part 0 closureLength (s .closure) ≡ part 0 closureLength (t .closure)
+
+-- the bytes past the lengths are the same: "bytes past [the lengths] are never touched"
+pub record SamePast (s t : Stores) : Type 0 where
+  pub attributes : drop (storeLength Attributes) (s .attributes) ≡ drop (storeLength Attributes) (t .attributes)
+  pub classes : drop (storeLength Classes) (s .classes) ≡ drop (storeLength Classes) (t .classes)
+  pub closure : drop closureLength (s .closure) ≡ drop closureLength (t .closure)
+
+-- the tables' stores hold bytes, as all memory does
+pub record OfBytes (s : Stores) : Type 0 where
+  pub attributes : Bytes (s .attributes)
+  pub classes : Bytes (s .classes)
+
+-- the bytes of some stores, put into others that have their lengths. What stands past the lengths stays
+unfoldable pub moved : Stores → Stores → Stores
+moved s t =
+    stores (splice 0 (part 0 (storeLength Attributes) (s .attributes)) (t .attributes)) (splice 0 (part 0 (storeLength Classes) (s .classes)) (t .classes))
+    (splice 0 (part 0 closureLength (s .closure)) (t .closure))
+
+-- ---- demand 1: "Any bytes may come in as sheet, change or tables. No call wraps, reads astray or runs on, and none relies on its caller." That is
+-- in the contracts:
+-- no call has a `requires`, and each has its equation for every input. "a refused load leaves them empty, or untouched if one was too short":
+
+pub record Demand1 : Type 0 where
+  -- a store is too short: nothing is touched
+  pub load-one : (sheet : List ℕ) (s : Stores) → SomeShort s → load sheet s ≡ result (refused refusal.shortStore) s
+  -- refused by any other number, every store byte is zero
+  pub load-empty : (sheet : List ℕ) (s : Stores) → LongEnough s → ¬ (load sheet s .answer .number ≡ 0) → load sheet s .left ≡ emptied s
+  -- "bytes past [the lengths] are never touched", accepted or not
+  pub load-past : (sheet : List ℕ) (s : Stores) → Bytes sheet → LongEnough s → SamePast (load sheet s .left) s
+  -- "Load never looks at what stood in the stores": the answer and the bytes that it leaves are those that it gives with empty stores of exactly
+  -- their lengths
+  pub load-alone : (sheet : List ℕ) (s : Stores) → Bytes sheet → LongEnough s
+      → load sheet s ≡ result (load sheet emptyStores .answer) (moved (load sheet emptyStores .left) s)
+  -- no call looks past the lengths
+  pub audit-alike : (s t : Stores) → Alike s t → audit s ≡ audit t
+  pub depth-alike : (s t : Stores) → Alike s t → (c : ℕ) → depth s c ≡ depth t c
+  pub write-alike : (s t : Stores) → Alike s t → (out : List ℕ) → write s out ≡ write t out
+  -- "Refused .. writes .. alter nothing"
+  pub write-kept : (s : Stores) (out : List ℕ) → ¬ (write s out .answer .number ≡ 0) → write s out .output ≡ out
+
+-- ---- demand 2: "Otherwise the smallest number whose condition holds is returned. An accepted schema written as a sheet and loaded again is the same
+-- schema."
+
+pub record Demand2 : Type 0 where
+  -- load: 0 exactly if the stores are long enough, the sheet reads and its rows meet every rule
+  pub load-zero : (sheet : List ℕ) (s : Stores) → (load sheet s .answer .number ≡ 0) ↔ (LongEnough s × Acceptable sheet)
+  -- then the stores hold exactly the rows of the sheet, and the closure that these give
+  pub load-done : (sheet : List ℕ) (s : Stores) → LongEnough s → Acceptable sheet → load sheet s ≡ result passed (filled (readSheet sheet .rows) s)
+  -- and are in order, and audit says so
+  pub load-order : (sheet : List ℕ) (s : Stores) → Bytes sheet → LongEnough s → Acceptable sheet → InOrder (load sheet s .left)
+  pub load-audits : (sheet : List ℕ) (s : Stores) → Bytes sheet → LongEnough s → Acceptable sheet → audit (load sheet s .left) ≡ passed
+  -- "4 sheet or change unreadable; place is the byte offset", "6 no free row; at load .. with table and limit"
+  pub load-unreadable : (sheet : List ℕ) (s : Stores) → LongEnough s → (at : ℕ) → readSheet sheet .answer ≡ Bad at → load sheet s
+      ≡ result (unreadable at) (emptied s)
+  pub load-full : (sheet : List ℕ) (s : Stores) → LongEnough s → (t : TableId) → readSheet sheet .answer ≡ Full t → load sheet s ≡ result (full t) (emptied s)
+  -- the sheet reads, and some row breaks a rule: the first that is broken, "the table and lowest row that break the rule found, attributes first"
+  pub load-rule : (sheet : List ℕ) (s : Stores) → LongEnough s → readSheet sheet .answer ≡ Read → ¬ Meets (schemaFrom (readSheet sheet .rows))
+      → FirstBroken (schemaFrom (readSheet sheet .rows)) (schemaRules Nothing) (load sheet s .answer)
+  -- it is the smallest: no row of the sheet breaks a rule of a smaller number
+  pub load-least : (sheet : List ℕ) (s : Stores) → LongEnough s → readSheet sheet .answer ≡ Read → (n : ℕ) (t : TableId) (k : ℕ)
+      → k < table t (schemaFrom (readSheet sheet .rows)) .count → breaks Nothing (schemaFrom (readSheet sheet .rows)) n t k ≡ true
+      → load sheet s .answer .number ≤ n
+  -- audit: 0 exactly if the stores are in order, and then no table and no place is named
+  pub audit-zero : (s : Stores) → (audit s .number ≡ 0) ↔ InOrder s
+  pub audit-done : (s : Stores) → InOrder s → audit s ≡ passed
+  pub audit-one : (s : Stores) → SomeShort s → audit s ≡ refused refusal.shortStore
+  pub audit-two : (s : Stores) → LongEnough s → ¬ Shape s → audit s ≡ refused refusal.brokenShape
+  pub audit-rule : (s : Stores) → LongEnough s → Shape s → ¬ Meets (schemaOf s) → FirstBroken (schemaOf s) (schemaRules Nothing) (audit s)
+  pub audit-least : (s : Stores) → LongEnough s → Shape s → ¬ Meets (schemaOf s) → (n : ℕ) (t : TableId) (k : ℕ) → k < table t (schemaOf s) .count
+      → breaks Nothing (schemaOf s) n t k ≡ true → audit s .number ≤ n
+  -- "3 .. Audit: only kept sets are wrong"
+  pub audit-three : (s : Stores) → LongEnough s → Shape s → Meets (schemaOf s) → ¬ Fresh s → audit s ≡ refused refusal.notInOrder
+  -- write: "0 and the length"; the output too short: nothing is written, and the place is the length needed
+  pub write-one : (s : Stores) (out : List ℕ) → SomeShort s → write s out ≡ written (refused refusal.shortStore) out
+  pub write-two : (s : Stores) (out : List ℕ) → LongEnough s → ¬ Shape s → write s out ≡ written (refused refusal.brokenShape) out
+  pub write-done : (s : Stores) (out : List ℕ) → LongEnough s → Shape s → length (sheetOf s) ≤ length out
+      → write s out ≡ written (done (length (sheetOf s))) (splice 0 (sheetOf s) out)
+  pub write-needs : (s : Stores) (out : List ℕ) → LongEnough s → Shape s → length out < length (sheetOf s) → write s out
+      ≡ written (shortOutput (length (sheetOf s))) out
+  -- depth: the steps of the chain up to row 0, and 18 where there is none over earlier classes
+  pub depth-one : (s : Stores) (c : ℕ) → SomeShort s → depth s c ≡ refused refusal.shortStore
+  pub depth-two : (s : Stores) (c : ℕ) → LongEnough s → ¬ Shape s → depth s c ≡ refused refusal.brokenShape
+  pub depth-five : (s : Stores) (c : ℕ) → LongEnough s → Shape s → schemaOf s .classes .count ≤ c → depth s c ≡ refused refusal.noSuchRow
+  pub depth-steps : (s : Stores) (c k : ℕ) → LongEnough s → Shape s → c < schemaOf s .classes .count → EarlierChain (schemaOf s .classes) c k
+      → depth s c ≡ done k
+  pub depth-late : (s : Stores) (c : ℕ) → LongEnough s → Shape s → c < schemaOf s .classes .count → ((k : ℕ) → ¬ EarlierChain (schemaOf s .classes) c k)
+      → depth s c ≡ refused refusal.classNotLive
+  -- "Tables, sheet, tables gives the same bytes if in order": written into any output with room, and loaded into any stores
+  pub write-load : (s t : Stores) (out : List ℕ) → InOrder s → OfBytes s → LongEnough t → length (sheetOf s) ≤ length out
+      → load (part 0 (write s out .answer .place) (write s out .output)) t ≡ result passed (moved s t)
+  -- "An accepted schema written as a sheet and loaded again is the same schema": whatever stores it was loaded into at first, and at last
+  pub load-write-load : (sheet : List ℕ) (s t : Stores) (out : List ℕ) → Bytes sheet → OfBytes s → LongEnough s → Acceptable sheet → LongEnough t
+      → length (sheetOf (load sheet s .left)) ≤ length out
+      → load (part 0 (write (load sheet s .left) out .answer .place) (write (load sheet s .left) out .output)) t
+      ≡ result passed (moved (load sheet s .left) t)
+  -- "sheet, tables, sheet does if accepted and 08 stands exactly where oMSyntax is 127"
+  pub load-write : (sheet : List ℕ) (s : Stores) → Bytes sheet → LongEnough s → Acceptable sheet → ExactSheet sheet → sheetOf (load sheet s .left) ≡ sheet

@@ -1,0 +1,51 @@
+-- The promises, kept.
+use Rattle.keeper_promises.specs.Promises.{Demand1, Demand2}
+use Rattle.keeper_promises.specs.AlikeLaws as alike
+use Rattle.keeper_promises.specs.CallLaws as calls
+use Rattle.keeper_promises.specs.FrontLaws as front
+use Rattle.keeper_promises.specs.LoadLaws as loads
+use Rattle.keeper_promises.specs.OrderLaws as order
+use Rattle.keeper_promises.specs.RoundTripLaws as trips
+
+pub demand1 : Demand1
+demand1 = record {
+  load-one = loads.load-one;
+  load-empty = loads.load-empty;
+  load-past = λ sheet s bytes. front.load-past sheet bytes s;
+  load-alone = λ sheet s bytes. front.load-alone sheet bytes s;
+  audit-alike = alike.audit-alike;
+  depth-alike = alike.depth-alike;
+  write-alike = alike.write-alike;
+  write-kept = calls.write-kept;
+}
+
+pub demand2 : Demand2
+demand2 = record {
+  load-zero = loads.load-zero;
+  load-done = loads.load-done;
+  load-order = loads.load-order;
+  load-audits = loads.load-audits;
+  load-unreadable = loads.load-unreadable;
+  load-full = loads.load-full;
+  load-rule = loads.load-rule;
+  load-least = loads.load-least;
+  audit-zero = order.audit-zero;
+  audit-done = order.audit-done;
+  audit-one = order.audit-one;
+  audit-two = order.audit-two;
+  audit-rule = order.audit-rule;
+  audit-least = order.audit-least;
+  audit-three = order.audit-three;
+  write-one = calls.write-one;
+  write-two = calls.write-two;
+  write-done = calls.write-done;
+  write-needs = calls.write-needs;
+  depth-one = calls.depth-one;
+  depth-two = calls.depth-two;
+  depth-five = calls.depth-five;
+  depth-steps = λ s c k long shape. calls.depth-steps s c long shape k;
+  depth-late = calls.depth-late;
+  write-load = trips.write-load;
+  load-write-load = trips.load-write-load;
+  load-write = trips.load-write;
+}

@@ -1,6 +1,0 @@
--- Laws that the proofs of this crate cite.
-pub mod Each
-pub mod Lines
-pub mod Room
-pub mod Loaded
-pub mod Vectors

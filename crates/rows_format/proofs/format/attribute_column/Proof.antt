@@ -1,0 +1,138 @@
+use mathlib.Core.Path.{_∙_, sym}
+use Prim.Native.Nat.{zero-le}
+use lib.ListN.{List·getD-eq-default}
+use Rattle.rows_format.specs.Formats.{attributeColumns, noColumn}
+use Rattle.rows_format.proofs.Arms.{past}
+use borrow.Author.Needs.{needs}
+use Rattle.rows_format.proofs.format.attribute_column.Statement.{statement}
+use Rattle.rows_format.proofs.format.attribute_column.Tie as tie
+
+bytes-requires : tie.Need-bytes-requires
+bytes-requires c κs = search needs
+
+required-requires : tie.Need-required-requires
+required-requires c κs = search needs
+
+bytes-requires-2 : tie.Need-bytes-requires-2
+bytes-requires-2 c κs = search needs
+
+required-requires-2 : tie.Need-required-requires-2
+required-requires-2 c κs = search needs
+
+optional-requires : tie.Need-optional-requires
+optional-requires c κs = search needs
+
+bytes-requires-3 : tie.Need-bytes-requires-3
+bytes-requires-3 c κs = search needs
+
+marked-requires : tie.Need-marked-requires
+marked-requires c κs = search needs
+
+bytes-requires-4 : tie.Need-bytes-requires-4
+bytes-requires-4 c κs = search needs
+
+marked-requires-2 : tie.Need-marked-requires-2
+marked-requires-2 c κs = search needs
+
+bytes-requires-5 : tie.Need-bytes-requires-5
+bytes-requires-5 c κs = search needs
+
+marked-requires-3 : tie.Need-marked-requires-3
+marked-requires-3 c κs = search needs
+
+optional-requires-2 : tie.Need-optional-requires-2
+optional-requires-2 c κs = search needs
+
+optional-requires-3 : tie.Need-optional-requires-3
+optional-requires-3 c κs = search needs
+
+no-column-requires : tie.Need-no-column-requires
+no-column-requires c κs = search needs
+
+returns : tie.Need-returns
+unfolding attributeColumns
+returns c =
+    let c₁ = c .before in
+    let c₂ = c₁ .before in
+    rw (c₂ .match .keys1) (rw (c₁ .bytes .ensures) at (c .required .ensures))
+
+returns-2 : tie.Need-returns-2
+unfolding attributeColumns
+returns-2 c =
+    let c₁ = c .before in
+    let c₂ = c₁ .before in
+    rw (c₂ .match .keys2) (rw (c₁ .bytes2 .ensures) at (c .required2 .ensures))
+
+returns-3 : tie.Need-returns-3
+unfolding attributeColumns
+returns-3 c = rw (c .before .match .keys3) (c .optional .ensures)
+
+returns-4 : tie.Need-returns-4
+unfolding attributeColumns
+returns-4 c =
+    let c₁ = c .before in
+    let c₂ = c₁ .before in
+    rw (c₂ .match .keys4) (rw (c₁ .bytes3 .ensures) at (c .marked .ensures))
+
+returns-5 : tie.Need-returns-5
+unfolding attributeColumns
+returns-5 c =
+    let c₁ = c .before in
+    let c₂ = c₁ .before in
+    rw (c₂ .match .keys5) (rw (c₁ .bytes4 .ensures) at (c .marked2 .ensures))
+
+returns-6 : tie.Need-returns-6
+unfolding attributeColumns
+returns-6 c =
+    let c₁ = c .before in
+    let c₂ = c₁ .before in
+    rw (c₂ .match .keys6) (rw (c₁ .bytes5 .ensures) at (c .marked3 .ensures))
+
+returns-7 : tie.Need-returns-7
+unfolding attributeColumns
+returns-7 c = rw (c .before .match .keys7) (c .optional2 .ensures)
+
+returns-8 : tie.Need-returns-8
+unfolding attributeColumns
+returns-8 c = rw (c .before .match .keys8) (c .optional3 .ensures)
+
+returns-9 : tie.Need-returns-9
+unfolding attributeColumns
+returns-9 c =
+    let c₁ = c .before in
+    let n = c₁ .match .rest in c .no-column .ensures ∙ sym
+    (List·getD-eq-default attributeColumns noColumn
+    (past 7 _
+    (past 6 _ (past 5 _
+    (past 4 _ (past 3 _ (past 2 _ (past 1 _ (past 0 _ zero-le (n .0 .0 .0 .0 .0 .0 .0 .1)) (n .0 .0 .0 .0 .0 .0 .1)) (n .0 .0 .0 .0 .0 .1))
+    (n .0 .0 .0 .0 .1)) (n .0 .0 .0 .1))
+    (n .0 .0 .1)) (n .0 .1))
+    (n .1)))
+
+pub attribute-column-spec : {M : Type 1} → statement M
+attribute-column-spec =
+    tie.close
+    (tie.spec
+    bytes-requires
+    required-requires
+    bytes-requires-2
+    required-requires-2
+    optional-requires
+    bytes-requires-3
+    marked-requires
+    bytes-requires-4
+    marked-requires-2
+    bytes-requires-5
+    marked-requires-3
+    optional-requires-2
+    optional-requires-3
+    no-column-requires
+    returns
+    returns-2
+    returns-3
+    returns-4
+    returns-5
+    returns-6
+    returns-7
+    returns-8
+    returns-9)

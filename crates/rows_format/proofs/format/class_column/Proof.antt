@@ -1,0 +1,124 @@
+use mathlib.Core.Path.{_∙_, sym}
+use Prim.Native.Nat.{zero-le}
+use lib.ListN.{List·getD-eq-default}
+use Rattle.rows_format.specs.Formats.{classColumns, noColumn}
+use Rattle.rows_format.proofs.Arms.{past}
+use borrow.Author.Needs.{needs}
+use Rattle.rows_format.proofs.format.class_column.Statement.{statement}
+use Rattle.rows_format.proofs.format.class_column.Tie as tie
+
+required-requires : tie.Need-required-requires
+required-requires c κs = search needs
+
+required-requires-2 : tie.Need-required-requires-2
+required-requires-2 c κs = search needs
+
+marked-requires : tie.Need-marked-requires
+marked-requires c κs = search needs
+
+attribute-set-requires : tie.Need-attribute-set-requires
+attribute-set-requires c κs = search needs
+
+attribute-set-requires-2 : tie.Need-attribute-set-requires-2
+attribute-set-requires-2 c κs = search needs
+
+attribute-set-requires-3 : tie.Need-attribute-set-requires-3
+attribute-set-requires-3 c κs = search needs
+
+class-set-requires : tie.Need-class-set-requires
+class-set-requires c κs = search needs
+
+class-set-requires-2 : tie.Need-class-set-requires-2
+class-set-requires-2 c κs = search needs
+
+class-set-requires-3 : tie.Need-class-set-requires-3
+class-set-requires-3 c κs = search needs
+
+class-set-requires-4 : tie.Need-class-set-requires-4
+class-set-requires-4 c κs = search needs
+
+no-column-requires : tie.Need-no-column-requires
+no-column-requires c κs = search needs
+
+returns : tie.Need-returns
+unfolding classColumns
+returns c = rw (c .before .match .keys1) (c .required .ensures)
+
+returns-2 : tie.Need-returns-2
+unfolding classColumns
+returns-2 c = rw (c .before .match .keys2) (c .required2 .ensures)
+
+returns-3 : tie.Need-returns-3
+unfolding classColumns
+returns-3 c = rw (c .before .match .keys3) (c .marked .ensures)
+
+returns-4 : tie.Need-returns-4
+unfolding classColumns
+returns-4 c = rw (c .before .match .keys4) (c .attribute-set .ensures)
+
+returns-5 : tie.Need-returns-5
+unfolding classColumns
+returns-5 c = rw (c .before .match .keys5) (c .attribute-set2 .ensures)
+
+returns-6 : tie.Need-returns-6
+unfolding classColumns
+returns-6 c = rw (c .before .match .keys6) (c .attribute-set3 .ensures)
+
+returns-7 : tie.Need-returns-7
+unfolding classColumns
+returns-7 c = rw (c .before .match .keys7) (c .class-set .ensures)
+
+returns-8 : tie.Need-returns-8
+unfolding classColumns
+returns-8 c = rw (c .before .match .keys8) (c .class-set2 .ensures)
+
+returns-9 : tie.Need-returns-9
+unfolding classColumns
+returns-9 c = rw (c .before .match .keys9) (c .class-set3 .ensures)
+
+returns-10 : tie.Need-returns-10
+unfolding classColumns
+returns-10 c = rw (c .before .match .keys10) (c .class-set4 .ensures)
+
+returns-11 : tie.Need-returns-11
+unfolding classColumns
+returns-11 c =
+    let c₁ = c .before in
+    let n = c₁ .match .rest in c .no-column .ensures ∙ sym
+    (List·getD-eq-default classColumns noColumn
+    (past 9 _
+    (past 8 _ (past 7 _
+    (past 6 _ (past 5 _
+    (past 4 _ (past 3 _
+    (past 2 _ (past 1 _ (past 0 _ zero-le (n .0 .0 .0 .0 .0 .0 .0 .0 .0 .1)) (n .0 .0 .0 .0 .0 .0 .0 .0 .1)) (n .0 .0 .0 .0 .0 .0 .0 .1))
+    (n .0 .0 .0 .0 .0 .0 .1)) (n .0 .0 .0 .0 .0 .1))
+    (n .0 .0 .0 .0 .1)) (n .0 .0 .0 .1))
+    (n .0 .0 .1)) (n .0 .1))
+    (n .1)))
+
+pub class-column-spec : {M : Type 1} → statement M
+class-column-spec =
+    tie.close
+    (tie.spec
+    required-requires
+    required-requires-2
+    marked-requires
+    attribute-set-requires
+    attribute-set-requires-2
+    attribute-set-requires-3
+    class-set-requires
+    class-set-requires-2
+    class-set-requires-3
+    class-set-requires-4
+    no-column-requires
+    returns
+    returns-2
+    returns-3
+    returns-4
+    returns-5
+    returns-6
+    returns-7
+    returns-8
+    returns-9
+    returns-10
+    returns-11)

@@ -1,0 +1,72 @@
+use Rattle.rows_format.specs.Formats.{columnsOf, rangeColumns, nameColumns, targetColumns, entryColumns, mayBeDefunct, neverDefunct}
+use native.Mathlib.Omega.{arith}
+use borrow.Author.Needs.{needs}
+use Rattle.rows_format.proofs.format.column_count.Statement.{statement}
+use Rattle.rows_format.proofs.format.column_count.Tie as tie
+
+enum-known-format : tie.Need-enum-known-format
+enum-known-format c = search needs
+
+row-columns-requires : tie.Need-row-columns-requires
+row-columns-requires c κs = search needs
+
+enum-known-format-2 : tie.Need-enum-known-format-2
+enum-known-format-2 c = search needs
+
+row-columns-requires-2 : tie.Need-row-columns-requires-2
+row-columns-requires-2 c κs = search needs
+
+enum-told : tie.Need-enum-told
+enum-told c = search needs
+
+enum-told-2 : tie.Need-enum-told-2
+enum-told-2 c = search needs
+
+enum-told-3 : tie.Need-enum-told-3
+enum-told-3 c = search needs
+
+enum-told-4 : tie.Need-enum-told-4
+enum-told-4 c = search needs
+
+returns : tie.Need-returns
+unfolding columnsOf
+returns c = rw (c .before .before .format .given .1) (c .row-columns .ensures mayBeDefunct)
+
+returns-2 : tie.Need-returns-2
+unfolding columnsOf
+returns-2 c = rw (c .before .before .format2 .given .1) (c .row-columns2 .ensures neverDefunct)
+
+returns-3 : tie.Need-returns-3
+unfolding columnsOf rangeColumns
+returns-3 c = rw (c .enum-told .given .1)
+
+returns-4 : tie.Need-returns-4
+unfolding columnsOf nameColumns
+returns-4 c = rw (c .enum-told2 .given .1)
+
+returns-5 : tie.Need-returns-5
+unfolding columnsOf targetColumns
+returns-5 c = rw (c .enum-told3 .given .1)
+
+returns-6 : tie.Need-returns-6
+unfolding columnsOf entryColumns
+returns-6 c = rw (c .enum-told4 .given .1)
+
+pub column-count-spec : {M : Type 1} → statement M
+column-count-spec =
+    tie.close
+    (tie.spec
+    enum-known-format
+    row-columns-requires
+    enum-known-format-2
+    row-columns-requires-2
+    enum-told
+    enum-told-2
+    enum-told-3
+    enum-told-4
+    returns
+    returns-2
+    returns-3
+    returns-4
+    returns-5
+    returns-6)

@@ -1,0 +1,73 @@
+use mathlib.Core.Path.{_∙_, sym}
+use Prim.Native.Nat.{zero-le}
+use lib.ListN.{List·getD-eq-default}
+use Rattle.rows_format.specs.Formats.{rangeColumns, noColumn}
+use Rattle.rows_format.proofs.Arms.{past}
+use borrow.Author.Needs.{needs}
+use Rattle.rows_format.proofs.format.range_column.Statement.{statement}
+use Rattle.rows_format.proofs.format.range_column.Tie as tie
+
+bytes-requires : tie.Need-bytes-requires
+bytes-requires c κs = search needs
+
+required-requires : tie.Need-required-requires
+required-requires c κs = search needs
+
+bytes-requires-2 : tie.Need-bytes-requires-2
+bytes-requires-2 c κs = search needs
+
+marked-requires : tie.Need-marked-requires
+marked-requires c κs = search needs
+
+bytes-requires-3 : tie.Need-bytes-requires-3
+bytes-requires-3 c κs = search needs
+
+marked-requires-2 : tie.Need-marked-requires-2
+marked-requires-2 c κs = search needs
+
+no-column-requires : tie.Need-no-column-requires
+no-column-requires c κs = search needs
+
+returns : tie.Need-returns
+unfolding rangeColumns
+returns c =
+    let c₁ = c .before in
+    let c₂ = c₁ .before in
+    rw (c₂ .match .keys1) (rw (c₁ .bytes .ensures) at (c .required .ensures))
+
+returns-2 : tie.Need-returns-2
+unfolding rangeColumns
+returns-2 c =
+    let c₁ = c .before in
+    let c₂ = c₁ .before in
+    rw (c₂ .match .keys2) (rw (c₁ .bytes2 .ensures) at (c .marked .ensures))
+
+returns-3 : tie.Need-returns-3
+unfolding rangeColumns
+returns-3 c =
+    let c₁ = c .before in
+    let c₂ = c₁ .before in
+    rw (c₂ .match .keys3) (rw (c₁ .bytes3 .ensures) at (c .marked2 .ensures))
+
+returns-4 : tie.Need-returns-4
+unfolding rangeColumns
+returns-4 c =
+    let c₁ = c .before in
+    let n = c₁ .match .rest in c .no-column .ensures ∙ sym
+    (List·getD-eq-default rangeColumns noColumn (past 2 _ (past 1 _ (past 0 _ zero-le (n .0 .0 .1)) (n .0 .1)) (n .1)))
+
+pub range-column-spec : {M : Type 1} → statement M
+range-column-spec =
+    tie.close
+    (tie.spec
+    bytes-requires
+    required-requires
+    bytes-requires-2
+    marked-requires
+    bytes-requires-3
+    marked-requires-2
+    no-column-requires
+    returns
+    returns-2
+    returns-3
+    returns-4)

@@ -1,0 +1,32 @@
+use mathlib.Core.Path.{_∙_, sym}
+use Prim.Native.Nat.{zero-le}
+use lib.ListN.{List·getD-eq-default}
+use Rattle.rows_format.specs.Formats.{targetColumns, noColumn}
+use Rattle.rows_format.proofs.Arms.{past}
+use borrow.Author.Needs.{needs}
+use Rattle.rows_format.proofs.format.target_column.Statement.{statement}
+use Rattle.rows_format.proofs.format.target_column.Tie as tie
+
+bytes-requires : tie.Need-bytes-requires
+bytes-requires c κs = search needs
+
+required-requires : tie.Need-required-requires
+required-requires c κs = search needs
+
+no-column-requires : tie.Need-no-column-requires
+no-column-requires c κs = search needs
+
+returns : tie.Need-returns
+unfolding targetColumns
+returns c =
+    let c₁ = c .before in
+    let c₂ = c₁ .before in
+    rw (c₂ .match .keys1) (rw (c₁ .bytes .ensures) at (c .required .ensures))
+
+returns-2 : tie.Need-returns-2
+unfolding targetColumns
+returns-2 c = let n = c .before .match .rest in c .no-column .ensures ∙ sym (List·getD-eq-default targetColumns noColumn (past 0 _ zero-le (n .1)))
+
+pub target-column-spec : {M : Type 1} → statement M
+target-column-spec =
+    tie.close (tie.spec bytes-requires required-requires no-column-requires returns returns-2)

@@ -1,0 +1,151 @@
+use mathlib.Core.Path.{ap}
+use native.Mathlib.Omega.{arith}
+use borrow.Author.Needs.{needs}
+use borrow.Author.Tests.{lt-leb, le-leb}
+use Rattle.rows_format.specs.Encodings.{holds, room}
+use Rattle.rows_read.proofs.wellformed.holds.Statement.{statement}
+use Rattle.rows_read.proofs.wellformed.holds.Tie as tie
+
+enum-known-encoding : tie.Need-enum-known-encoding
+enum-known-encoding c = search needs
+
+passes-requires : tie.Need-passes-requires
+passes-requires c κs = search needs
+
+enum-known-encoding-2 : tie.Need-enum-known-encoding-2
+enum-known-encoding-2 c = search needs
+
+first-byte-requires : tie.Need-first-byte-requires
+first-byte-requires c κs = search needs
+
+cast-result : tie.Need-cast-result
+cast-result c = search needs
+
+enum-known-encoding-3 : tie.Need-enum-known-encoding-3
+enum-known-encoding-3 c = search needs
+
+first-byte-requires-2 : tie.Need-first-byte-requires-2
+first-byte-requires-2 c κs = search needs
+
+cast-n : tie.Need-cast-n
+cast-n c = search needs
+
+returns : tie.Need-returns
+unfolding holds
+returns c =
+    let c₁ = c .before in
+    let c₂ = c₁ .before .before in
+    rw (c₂ .encoding3 .given .1, ← (c₁ .first-byte2 .ensures), lt-leb _ _ (c .if1 .taken))
+
+add-is-zero-from : tie.Need-add-is-zero-from
+add-is-zero-from c = search needs
+
+is-zero-from-requires : tie.Need-is-zero-from-requires
+unfolding room
+is-zero-from-requires c κs =
+    let c₁ = c .before .before .before .before in
+    let start = c₁ .before .before .before in
+    omega (arith, ap room (c₁ .encoding3 .given .1), start .pre .1)
+
+enum-known-encoding-4 : tie.Need-enum-known-encoding-4
+enum-known-encoding-4 c = search needs
+
+first-byte-requires-3 : tie.Need-first-byte-requires-3
+first-byte-requires-3 c κs = search needs
+
+cast-n-2 : tie.Need-cast-n-2
+cast-n-2 c = search needs
+
+mul-is-zero-from : tie.Need-mul-is-zero-from
+mul-is-zero-from c = search needs
+
+add-is-zero-from-2 : tie.Need-add-is-zero-from-2
+add-is-zero-from-2 c = search needs
+
+is-zero-from-requires-2 : tie.Need-is-zero-from-requires-2
+unfolding room
+is-zero-from-requires-2 c κs =
+    let c₁ = c .before .before .before in
+    let start = c₁ .before .before .before in
+    omega (arith, ap room (c₁ .encoding4 .given .1), start .pre .1)
+
+enum-told : tie.Need-enum-told
+enum-told c = search needs
+
+is-empty-requires : tie.Need-is-empty-requires
+is-empty-requires c κs = search needs
+
+returns-2 : tie.Need-returns-2
+unfolding holds
+returns-2 c = rw (c .before .before .encoding .given .1) (c .passes .ensures)
+
+returns-3 : tie.Need-returns-3
+unfolding holds
+returns-3 c = rw (c .before .before .encoding2 .given .1, c .first-byte .ensures)
+
+returns-4 : tie.Need-returns-4
+unfolding holds
+returns-4 c =
+    let c₁ = c .before in
+    let c₂ = c₁ .before in
+    let c₃ = c₂ .before in
+    let c₄ = c₃ .before .before in
+    rw (c₄ .encoding3 .given .1, ← (c₃ .first-byte2 .ensures), le-leb _ _ (c₂ .if1 .left), le-leb _ _ (c₁ .if2 .taken)) (c .is-zero-from .ensures)
+
+returns-5 : tie.Need-returns-5
+unfolding holds
+returns-5 c =
+    let c₁ = c .before in
+    let c₂ = c₁ .before in
+    let c₃ = c₂ .before .before in
+    rw (c₃ .encoding3 .given .1, ← (c₂ .first-byte2 .ensures), le-leb _ _ (c₁ .if1 .left), lt-leb _ _ (c .if2 .left))
+
+returns-6 : tie.Need-returns-6
+unfolding holds
+returns-6 c =
+    let c₁ = c .before in
+    let c₂ = c₁ .before in
+    let c₃ = c₂ .before .before in
+    rw (c₃ .encoding4 .given .1, ← (c₂ .first-byte3 .ensures), le-leb _ _ (c₁ .if3 .taken)) (c .is-zero-from2 .ensures)
+
+returns-7 : tie.Need-returns-7
+unfolding holds
+returns-7 c =
+    let c₁ = c .before in
+    let c₂ = c₁ .before .before in
+    rw (c₂ .encoding4 .given .1, ← (c₁ .first-byte3 .ensures), lt-leb _ _ (c .if3 .left))
+
+returns-8 : tie.Need-returns-8
+unfolding holds
+returns-8 c = rw (c .before .enum-told .given .1, c .is-empty .ensures)
+
+pub holds-spec : {M : Type 1} → statement M
+holds-spec =
+    tie.close
+    (tie.spec
+    enum-known-encoding
+    passes-requires
+    enum-known-encoding-2
+    first-byte-requires
+    cast-result
+    enum-known-encoding-3
+    first-byte-requires-2
+    cast-n
+    returns
+    add-is-zero-from
+    is-zero-from-requires
+    enum-known-encoding-4
+    first-byte-requires-3
+    cast-n-2
+    mul-is-zero-from
+    add-is-zero-from-2
+    is-zero-from-requires-2
+    enum-told
+    is-empty-requires
+    returns-2
+    returns-3
+    returns-4
+    returns-5
+    returns-6
+    returns-7
+    returns-8)

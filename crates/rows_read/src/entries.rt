@@ -1,0 +1,45 @@
+// Set entries: numbers of two bytes each, strictly rising.
+use prelude::number::read_u16;
+use prelude::part::clear;
+use sets::insert;
+ghost use mathlib.Core.Bool.{true};
+ghost use mathlib.Core.Path.{_≡_};
+ghost use Prim.Native.Nat.{_*_, _%_};
+ghost use lib.ListN.{length};
+ghost use Rattle.sets.specs.Sets.{setOf};
+ghost use Rattle.rows_format.specs.Entries.{entries, risesBelow, among};
+
+// Whether whole entries rise strictly and are below a limit.
+pub fn rises(v: &[u8], limit: usize) -> bool
+    requires { ⌜ length (now v) % 2 ≡ 0 ⌝ }
+    ensures { λ r. ⌜ r ≡ risesBelow limit 0 (entries (now (v .entry))) ⌝ }
+{
+    let mut low = 0;
+    let mut i = 0;
+    while i < v.len() {
+        let n = read_u16(v, i) as usize;
+        if n < low {
+            return false;
+        }
+        if limit <= n {
+            return false;
+        }
+        low = n + 1;
+        i += 2;
+    }
+    true
+}
+
+// The cell becomes the set of the entries.
+pub fn store_entries(v: &[u8], cell: &mut [u8])
+    requires { ⌜ (length (now v) % 2 ≡ 0) × (risesBelow (length (now cell) * 8) 0 (entries (now v)) ≡ true) ⌝ }
+    ensures { λ _. ⌜ now (cell .exit) ≡ setOf (length (now (cell .entry))) (among (entries (now (v .entry)))) ⌝ }
+{
+    clear(cell);
+    let mut i = 0;
+    while i < v.len() {
+        let n = read_u16(v, i) as usize;
+        insert(cell, n);
+        i += 2;
+    }
+}

@@ -1,0 +1,19 @@
+use native.Mathlib.Omega.{arith}
+use borrow.Author.Needs.{needs}
+use Rattle.schema.proofs.layout.store_length.Statement.{statement}
+use Rattle.schema.proofs.layout.store_length.Tie as tie
+
+enum-told : tie.Need-enum-told
+enum-told c = search needs
+
+enum-told-2 : tie.Need-enum-told-2
+enum-told-2 c = search needs
+
+returns : tie.Need-returns
+returns c = rw (c .enum-told .given .1)
+
+returns-2 : tie.Need-returns-2
+returns-2 c = rw (c .enum-told2 .given .1)
+
+pub store-length-spec : {M : Type 1} → statement M
+store-length-spec = tie.close (tie.spec enum-told enum-told-2 returns returns-2)

@@ -1,0 +1,125 @@
+use Rattle.sheet_read.specs.Held.{roomIn}
+use mathlib.Core.Path.{_≡_, sym, ap, _∙_}
+use Prim.Native.Nat.{ℕ}
+use lib.ListN.{length}
+use Rattle.wire.specs.WireLaws.{field-is}
+use Rattle.sheet_read.specs.Reading.{step, sheetTag, taggedStep, stepAt}
+use Rattle.sheet_read.proofs.Steps.{as-step, same-step, step-full, step-whole, step-cut, free-room, no-field}
+use native.Mathlib.Omega.{arith}
+use borrow.Author.Needs.{needs}
+use Rattle.sheet_read.proofs.read.take_field.Statement.{statement}
+use Rattle.sheet_read.proofs.read.take_field.Tie as tie
+
+byte-at-requires : tie.Need-byte-at-requires
+byte-at-requires c κs = search needs
+
+sheet-tag-requires : tie.Need-sheet-tag-requires
+sheet-tag-requires c κs = search needs
+
+room-in-requires : tie.Need-room-in-requires
+room-in-requires c κs = search needs
+
+enum-told : tie.Need-enum-told
+enum-told c = search needs
+
+enum-told-2 : tie.Need-enum-told-2
+enum-told-2 c = search needs
+
+room-turn-requires : tie.Need-room-turn-requires
+room-turn-requires c κs = search needs
+
+same-length : tie.Need-same-length
+same-length c = search needs
+
+same-length-2 : tie.Need-same-length-2
+same-length-2 c = search needs
+
+returns : tie.Need-returns
+returns c =
+    let c₁ = c .before in let c₂ = c₁ .before .before in let c₃ = c₂ .before .before .before in let c₄ = c₃ .before in let start =
+    c₄ .before .before .before .before in let s = start .args .s .now in let at = start .args .at in let phase = start .args .phase in let missing =
+    start .args .missing in as-step (stepAt s at phase missing) _ (start .args .attributes .now) (start .args .classes .now)
+    (λ x a c′ h. ap (λ turn. step turn x) (c .room-turn .ensures) ∙ step-full s at phase missing h _
+    (c₃ .sheet-tag .ensures ∙ ap sheetTag (c₄ .byte-at .ensures)) _ (c₂ .room-in .ensures)
+    (λ q. (let e = c₁ .enum-told2 .given .1 in let no : _≡_ {A = ℕ} 0 1 = cc in omega arith)))
+
+field-at-requires : tie.Need-field-at-requires
+field-at-requires c κs = search needs
+
+enum-known-tag : tie.Need-enum-known-tag
+enum-known-tag c = search needs
+
+same-length-3 : tie.Need-same-length-3
+same-length-3 c = search needs
+
+same-length-4 : tie.Need-same-length-4
+same-length-4 c = search needs
+
+returns-2 : tie.Need-returns-2
+returns-2 c =
+    let c₁ = c .before in let c₂ = c₁ .before in let c₃ = c₂ .before .before in let c₄ = c₃ .before .before .before in let c₅ = c₄ .before in let
+    start = c₅ .before .before .before .before in let s = start .args .s .now in let at = start .args .at in let phase = start .args .phase in let
+    missing = start .args .missing in as-step (stepAt s at phase missing) _ (start .args .attributes .now) (start .args .classes .now)
+    (λ x a c′ h. step-cut s at phase missing h _ (c₄ .sheet-tag .ensures ∙ ap sheetTag (c₅ .byte-at .ensures)) _ (c₃ .room-in .ensures)
+    (c₂ .enum-told .given .1) _ (c₁ .field-at .ensures) (no-field _ (c .match2 .keys2)))
+
+sheet-tag-requires-2 : tie.Need-sheet-tag-requires-2
+sheet-tag-requires-2 c κs = search needs
+
+take-tagged-requires : tie.Need-take-tagged-requires
+take-tagged-requires c κs =
+    let c₁ = c .before .before in let c₂ = c₁ .before .before in let c₃ = c₂ .before .before in let c₄ = c₃ .before in let c₅ = c₄ .before .before in
+    let c₆ = c₅ .before .before .before in let c₇ = c₆ .before in let start = c₇ .before .before .before .before in let s = start .args .s .now in let
+    attributes = start .args .attributes .now in let classes = start .args .classes .now in let w = field-is s (start .args .at) (length s) _ _ _
+    (sym (c₃ .field-at .ensures) ∙ c₂ .tag .given .1) in (
+      (omega (arith, w .start-is, w .stop-is), w .within),
+      (
+        start .pre .1 .lent,
+        free-room _ attributes classes (start .pre .1 .few)
+            (ap (λ g. roomIn g attributes classes)
+            (c₁ .sheet-tag2 .ensures ∙ ap sheetTag (w .tag-is ∙ sym (c₇ .byte-at .ensures)) ∙ sym (c₆ .sheet-tag .ensures)) ∙ sym (c₅ .room-in .ensures) ∙
+            c₄ .enum-told .given .1),
+      ),
+    )
+
+same-length-5 : tie.Need-same-length-5
+same-length-5 c = search needs
+
+same-length-6 : tie.Need-same-length-6
+same-length-6 c = search needs
+
+returns-3 : tie.Need-returns-3
+returns-3 c =
+    let c₁ = c .before .before .before .before in let c₂ = c₁ .before .before .before in let c₃ = c₂ .before .before in let c₄ = c₃ .before .before in
+    let c₅ = c₄ .before in let c₆ = c₅ .before .before in let c₇ = c₆ .before .before .before in let c₈ = c₇ .before in let start =
+    c₈ .before .before .before .before in let s = start .args .s .now in let at = start .args .at in let phase = start .args .phase in let missing =
+    start .args .missing in let x′ = c₃ .tag .given .0 .1 .1 .0 in same-step
+    (taggedStep (c₂ .sheet-tag2 .result) s at phase missing (c₃ .tag .given .0 .1 .0) x′) (stepAt s at phase missing)
+    (λ x a c′ h. ap (λ tag. taggedStep tag s at phase missing (c₃ .tag .given .0 .1 .0) x′ x) (c₂ .sheet-tag2 .ensures) ∙ step-whole s at phase
+    missing h _ (c₇ .sheet-tag .ensures ∙ ap sheetTag (c₈ .byte-at .ensures)) _ (c₆ .room-in .ensures) (c₅ .enum-told .given .1) _ _ _ _
+    (c₄ .field-at .ensures) (c₃ .tag .given .1))
+    (c₁ .take-tagged .ensures)
+
+pub take-field-spec : {M : Type 1} → statement M
+take-field-spec =
+    tie.close
+    (tie.spec
+    byte-at-requires
+    sheet-tag-requires
+    room-in-requires
+    enum-told
+    enum-told-2
+    room-turn-requires
+    same-length
+    same-length-2
+    returns
+    field-at-requires
+    enum-known-tag
+    same-length-3
+    same-length-4
+    returns-2
+    sheet-tag-requires-2
+    take-tagged-requires
+    same-length-5
+    same-length-6
+    returns-3)

@@ -1,0 +1,8 @@
+-- The round trips: rows written as a sheet and read again, and a sheet read and written again.
+pub mod Exact
+pub mod ExactLaws
+pub mod RowLaws
+pub mod WrittenLaws
+pub mod AcceptedLaws
+pub mod HeldLaws
+pub mod SheetLaws

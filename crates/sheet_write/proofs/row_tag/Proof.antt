@@ -1,0 +1,21 @@
+use borrow.Author.Needs.{needs}
+use Rattle.sheet_write.specs.Writing.{rowTag}
+use Rattle.sheet_write.proofs.row_tag.Statement.{statement}
+use Rattle.sheet_write.proofs.row_tag.Tie as tie
+
+enum-told : tie.Need-enum-told
+enum-told c = search needs
+
+enum-told-2 : tie.Need-enum-told-2
+enum-told-2 c = search needs
+
+returns : tie.Need-returns
+unfolding rowTag
+returns c = cc
+
+returns-2 : tie.Need-returns-2
+unfolding rowTag
+returns-2 c = cc
+
+pub row-tag-spec : {M : Type 1} → statement M
+row-tag-spec = tie.close (tie.spec enum-told enum-told-2 returns returns-2)

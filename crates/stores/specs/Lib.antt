@@ -1,3 +1,0 @@
--- Stores as the rows that they hold.
-pub mod Filled
-pub mod FilledLaws

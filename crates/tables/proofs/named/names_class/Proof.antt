@@ -1,0 +1,46 @@
+use borrow.Author.Needs.{needs}
+use borrow.Author.Tests.{eq-eqb, ne-eqb}
+use Rattle.tables.specs.Named.{names}
+use Rattle.tables.proofs.named.names_class.Statement.{statement}
+use Rattle.tables.proofs.named.names_class.Tie as tie
+
+superclass-number-requires : tie.Need-superclass-number-requires
+superclass-number-requires c κs = search needs
+
+returns : tie.Need-returns
+unfolding names
+returns c = rw (← (c .before .before .superclass-number .ensures), eq-eqb _ _ (c .if1 .taken))
+
+is-listed-requires : tie.Need-is-listed-requires
+is-listed-requires c κs = search needs
+
+returns-2 : tie.Need-returns-2
+unfolding names
+returns-2 c =
+    let c₁ = c .before in
+    let c₂ = c₁ .before in
+    let c₃ = c₂ .before .before in
+    rw (← (c₃ .superclass-number .ensures), ne-eqb _ _ (c₂ .if1 .left), ← (c₁ .is-listed .ensures), c .if2 .taken)
+
+is-listed-requires-2 : tie.Need-is-listed-requires-2
+is-listed-requires-2 c κs = search needs
+
+returns-3 : tie.Need-returns-3
+unfolding names
+returns-3 c =
+    let c₁ = c .before in
+    let c₂ = c₁ .before in
+    let c₃ = c₂ .before in
+    let c₄ = c₃ .before .before in
+    rw (← (c₄ .superclass-number .ensures), ne-eqb _ _ (c₃ .if1 .left), ← (c₂ .is-listed .ensures), c₁ .if2 .left) (c .is-listed2 .ensures)
+
+pub names-class-spec : {M : Type 1} → statement M
+names-class-spec =
+    tie.close
+    (tie.spec
+    superclass-number-requires
+    returns
+    is-listed-requires
+    returns-2
+    is-listed-requires-2
+    returns-3)
