@@ -8,6 +8,8 @@ use native.Mathlib.Omega.{arith}
 use lib.Dec.{eqb, leb}
 use lib.ListN.{length}
 use borrow.Author.Tests.{eq-eqb, ne-eqb}
+use Rattle.prelude.specs.Unlike.{Unlike, among}
+use Rattle.prelude.specs.UnlikeLaws.{unlike-key}
 use denote.Enum.Declared.{tagOf}
 use types.Run.{OneOf}
 use Rattle.wire.specs.declared.FieldRead.{FieldRead}
@@ -27,24 +29,16 @@ use Rattle.rows_read.specs.declared.read.RowRead.the-variants as rows
 
 -- ---- no tag of a change
 
-pub no-change : (tag : ℕ) → ¬ (tag ≡ 64) → ¬ (tag ≡ 65) → ¬ (tag ≡ 66) → ¬ (tag ≡ 67) → ¬ (tag ≡ 68) → ¬ (tag ≡ 69) → ¬ (tag ≡ 70) → ¬ (tag ≡ 71)
-    → ¬ (tag ≡ 72)
-    → ¬ (tag ≡ 73) → ¬ (tag ≡ 74) → Unknown ≡ changeOf tag
-unfolding changeOf
-no-change tag a b c d e f g h i j k = rw (
-  ne-eqb tag 64 a,
-  ne-eqb tag 65 b,
-  ne-eqb tag 66 c,
-  ne-eqb tag 67 d,
-  ne-eqb tag 68 e,
-  ne-eqb tag 69 f,
-  ne-eqb
-      tag 70 g,
-  ne-eqb tag 71 h,
-  ne-eqb tag 72 i,
-  ne-eqb tag 73 j,
-  ne-eqb tag 74 k,
-)
+abbrev changeTags : List ℕ
+changeTags = 74 ∷ 73 ∷ 72 ∷ 71 ∷ 70 ∷ 69 ∷ 68 ∷ 67 ∷ 66 ∷ 65 ∷ 64 ∷ []
+
+pub no-change : (tag : ℕ) → Unlike tag changeTags → Unknown ≡ changeOf tag
+unfolding changeOf among
+no-change tag h =
+    rw (no 64 refl, no 65 refl, no 66 refl, no 67 refl, no 68 refl, no 69 refl, no 70 refl, no 71 refl, no 72 refl, no 73 refl, no 74 refl)
+  where
+    no : (x : ℕ) → among changeTags x ≡ true → eqb tag x ≡ false
+    no = unlike-key tag changeTags h
 
 -- ---- a value
 

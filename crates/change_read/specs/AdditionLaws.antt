@@ -19,8 +19,8 @@ use Rattle.schema.specs.Row.{isDefunct}
 use Rattle.schema.specs.AttributeRow.{syntaxOf, objectClassLength}
 use Rattle.rows_format.specs.declared.column.Column.{Column}
 use Rattle.rows_format.specs.declared.format.Format.the-variants.{Row, NewRow}
-use Rattle.rows_format.specs.Columns.{columnWidth, cellAt, wellFormedBy}
-use Rattle.rows_format.specs.ColumnsLaws.{laid, laid-cons, laid-le}
+use Rattle.rows_format.specs.Columns.{columnWidth, cellAt, wellFormedBy, laid}
+use Rattle.rows_format.specs.ColumnsLaws.{laid-cons, laid-le}
 use Rattle.rows_format.specs.Formats.{ownColumns, columnsOf, formatWidth}
 use Rattle.rows_format.specs.FormatsLaws.{format-laid}
 use Rattle.rows_read.specs.ObjectClass.{objectClassWidth, isObject, objectClassCell, settled, isSettled, finished, finishedRow}

@@ -15,4 +15,4 @@ pub mod ClosureLaws
 pub mod FreshLaws
 pub mod SameLaws
 pub mod FrontLaws
-pub mod Pieces
+pub mod PiecesLaws

@@ -63,11 +63,12 @@ module _ (s : Stores) where
   passes-order : NoneRefuses (shapeAnswers s ++ deeper) → InOrder s
   passes-order h =
       let i = shape-passed s (h .0, (h .1 .0, tt)) in
+      let rest = h .1 .1 in
       record {
         long = i .long;
         shape = says-formed (s .attributes) (s .classes) (i .long .attributes) (i .long .classes) .holds (i .formed);
-        rules = judged-meets s (h .1 .1 .0);
-        fresh = says-fresh (schemaOf s .classes) (s .closure) .holds (not-false _ (if-passed _ (refused refusal.notInOrder) (omega arith) (h .1 .1 .1 .0)));
+        rules = judged-meets s (rest .0);
+        fresh = says-fresh (schemaOf s .classes) (s .closure) .holds (not-false _ (if-passed _ (refused refusal.notInOrder) (omega arith) (rest .1 .0)));
       }
 
   pub audit-zero : (audit s .number ≡ 0) ↔ InOrder s

@@ -15,5 +15,7 @@ pub mod BigEndian
 pub mod BigEndianLaws
 pub mod FrontLaws
 pub mod BytesLaws
+pub mod Unlike
+pub mod UnlikeLaws
 pub mod Written
 pub mod WrittenLaws

@@ -162,7 +162,8 @@ fn play_step(
         × (longest ≤ length (now output)) ⌝ }
     ensures { λ r. ⌜ (r ≡ lengthsAfter step lengths)
         × (stores (now (attributes .exit)) (now (classes .exit)) (now (closure .exit))
-        ≡ playStep step (now (script .entry)) lengths (stores (now (attributes .entry)) (now (classes .entry)) (now (closure .entry))) (now (output .entry)) .left)
+        ≡ playStep step (now (script .entry)) lengths (stores (now (attributes .entry)) (now (classes .entry)) (now (closure .entry)))
+        (now (output .entry)) .left)
         × (now (output .exit)
         ≡ playStep step (now (script .entry)) lengths (stores (now (attributes .entry)) (now (classes .entry)) (now (closure .entry)))
         (now (output .entry)) .output) ⌝ }

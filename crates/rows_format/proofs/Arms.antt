@@ -8,10 +8,6 @@ use lib.Seq.{getD-append-add}
 use Rattle.rows_format.specs.declared.column.Column.{Column}
 use Rattle.rows_format.specs.Formats.{commonColumns, noColumn}
 
--- one arm passed
-pub past : (k i : ℕ) → k ≤ i → (i ≡ k → ⊥) → suc k ≤ i
-past k i h n = omega arith
-
 -- a row's table: its first five columns, and then the others
 pub common-long : (d : Column) (i : ℕ) → i < 5 → i < length (commonColumns d)
 unfolding commonColumns

@@ -10,11 +10,12 @@ use Rattle.prelude.specs.SaysLaws.{says-le}
 use Rattle.prelude.specs.Part.{padded, Bytes}
 use Rattle.prelude.specs.BigEndian.{bigEndian}
 use Rattle.sets.specs.SetsLaws.{set-bytes}
-use Rattle.rows_format.specs.Entries.{entries, among}
-use Rattle.rows_format.specs.Encodings.{image}
-use Rattle.rows_format.specs.EncodingsLaws.{sound, Accepts}
-use Rattle.rows_format.specs.Columns.{lead, takes, cellOf}
-use Rattle.rows_format.specs.ColumnsLaws.{Sound, takes-accepts}
+use Rattle.prelude.specs.Unlike.{among}
+use Rattle.rows_format.specs.Entries.{entries}
+use Rattle.rows_format.specs.Encodings.{image, sound}
+use Rattle.rows_format.specs.EncodingsLaws.{Accepts}
+use Rattle.rows_format.specs.Columns.{lead, takes, cellOf, Sound}
+use Rattle.rows_format.specs.ColumnsLaws.{takes-accepts}
 use Rattle.rows_format.specs.declared.column.Encoding.{Encoding}
 use Rattle.rows_format.specs.declared.column.Encoding.the-variants.{Plain, Number, Counted, Arcs, Entries}
 use Rattle.rows_format.specs.declared.column.Presence.{Presence}

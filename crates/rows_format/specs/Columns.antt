@@ -1,12 +1,14 @@
 -- Columns: one field each, and the cell of a row that holds it. A row is read, written and checked by a table of columns.
 use mathlib.Core.Bool.{Bool, true, false, not, cond, _&&_}
 use mathlib.Core.List.{List, [], _∷_, _++_}
-use Prim.Native.Nat.{ℕ, _+_}
+use mathlib.Core.Path.{_≡_}
+use Prim.Native.Nat.{ℕ, _+_, _≤_}
 use lib.Dec.{eqb}
 use lib.ListN.{getD, drop}
 use Rattle.prelude.specs.Part.{part, isZero}
 use Rattle.wire.specs.Wire.{fieldBytes}
-use Rattle.rows_format.specs.Encodings.{accepts, image, room, stored, holds}
+use Rattle.rows_format.specs.Encodings.{accepts, image, room, stored, holds, sound, skippable}
+use Rattle.rows_format.specs.declared.column.Encoding.{Encoding}
 use Rattle.rows_format.specs.declared.column.Presence.{Presence}
 use Rattle.rows_format.specs.declared.column.Presence.the-variants.{Required, Optional, Marked, Never}
 use Rattle.rows_format.specs.declared.column.Column.{Column}
@@ -83,3 +85,30 @@ fieldOf r row = cond (hasValue (r .presence) (cellAt r row)) (fieldBytes (r .tag
 unfoldable pub writeBy : List Column → List ℕ → List ℕ
 writeBy [] row = []
 writeBy (r ∷ rs) row = fieldOf r row ++ writeBy rs row
+
+-- ---- sound columns, and tables of them
+
+-- an encoding may be optional with no mark only if no value of it is stored as zeros
+unfoldable pub clear : Presence → Encoding → Bool
+clear Required encoding = true
+clear Optional encoding = skippable encoding
+clear Marked encoding = true
+clear Never encoding = true
+
+-- what every column of the tables has
+unfoldable pub soundColumn : Column → Bool
+soundColumn r = sound (r .encoding) && clear (r .presence) (r .encoding)
+
+pub record Sound (r : Column) : Type 0 where
+  pub encoding : sound (r .encoding) ≡ true
+  pub absent : clear (r .presence) (r .encoding) ≡ true
+
+-- the columns are sound, and their cells stand side by side from o up to n
+unfoldable pub laid : List Column → ℕ → ℕ → Bool
+laid [] o n = eqb o n
+laid (r ∷ rs) o n = eqb (r .at) o && (soundColumn r && laid rs (o + columnWidth r) n)
+
+-- a column whose cell lies within a row of n bytes
+pub record Fits (n : ℕ) (r : Column) : Type 0 where
+  pub within : r .at + columnWidth r ≤ n
+  pub sound : Sound r

@@ -13,33 +13,18 @@ use Rattle.prelude.specs.SaysLaws.{says-and, says-eq, says-false, says-test}
 use Rattle.prelude.specs.Part.{part, splice, zeros, Bytes}
 use Rattle.prelude.specs.PartLaws.{zeros-at, zeros-zero, zero-zeros}
 use Rattle.prelude.specs.SpliceLaws.{part-splice-before, part-splice-same, part-splice-after}
-use Rattle.rows_format.specs.Encodings.{accepts, image, room, stored}
-use Rattle.rows_format.specs.EncodingsLaws.{sound, room-small, Accepts, says-accepts, Holds, says-holds, image-length, stored-image}
-use Rattle.rows_format.specs.EncodingsLaws.{image-holds, accepts-stored, image-stored, stored-short, stored-bytes, skippable, image-nonzero}
+use Rattle.rows_format.specs.Encodings.{accepts, image, room, stored, sound, skippable}
+use Rattle.rows_format.specs.EncodingsLaws.{room-small, Accepts, says-accepts, Holds, says-holds, image-length, stored-image}
+use Rattle.rows_format.specs.EncodingsLaws.{image-holds, accepts-stored, image-stored, stored-short, stored-bytes, image-nonzero}
 use Rattle.wire.specs.Wire.{fieldBytes}
 use Rattle.rows_format.specs.Columns.{lead, mark, required, possible, columnWidth, takes, cellOf, cellAt, hasValue, valueOf, wellFormedCell}
-use Rattle.rows_format.specs.Columns.{wellFormedBy, fieldOf}
+use Rattle.rows_format.specs.Columns.{wellFormedBy, fieldOf, clear, soundColumn, Sound, laid, Fits}
 use Rattle.rows_format.specs.declared.column.Encoding.{Encoding}
 use Rattle.rows_format.specs.declared.column.Presence.{Presence}
 use Rattle.rows_format.specs.declared.column.Presence.the-variants.{Required, Optional, Marked, Never}
 use Rattle.rows_format.specs.declared.column.Column.{Column}
 
 -- ---- a column
-
--- a encoding may be optional with no mark only if no value of it is stored as zeros
-unfoldable pub clear : Presence → Encoding → Bool
-clear Required encoding = true
-clear Optional encoding = skippable encoding
-clear Marked encoding = true
-clear Never encoding = true
-
--- what every column of the tables has
-unfoldable pub soundColumn : Column → Bool
-soundColumn r = sound (r .encoding) && clear (r .presence) (r .encoding)
-
-pub record Sound (r : Column) : Type 0 where
-  pub encoding : sound (r .encoding) ≡ true
-  pub absent : clear (r .presence) (r .encoding) ≡ true
 
 pub sound-column : (r : Column) → soundColumn r ≡ true → Sound r
 unfolding soundColumn
@@ -190,11 +175,6 @@ blank-cell r cell l f h = (zero-zeros (columnWidth r) cell l (rw h at f), no-val
 
 -- ---- a table
 
--- the columns are sound, and their cells stand side by side from o up to n
-unfoldable pub laid : List Column → ℕ → ℕ → Bool
-laid [] o n = eqb o n
-laid (r ∷ rs) o n = eqb (r .at) o && (soundColumn r && laid rs (o + columnWidth r) n)
-
 pub record Laid (r : Column) (rs : List Column) (o n : ℕ) : Type 0 where
   pub place : r .at ≡ o
   pub sound : Sound r
@@ -214,11 +194,7 @@ pub laid-le : (columns : List Column) (o n : ℕ) → laid columns o n ≡ true 
 laid-le [] o n h = omega (arith, laid-end o n h)
 laid-le (r ∷ rs) o n h = omega (arith, laid-le rs (o + columnWidth r) n (laid-cons r rs o n h .rest))
 
--- column i of it: its cell lies within the row
-pub record Fits (n : ℕ) (r : Column) : Type 0 where
-  pub within : r .at + columnWidth r ≤ n
-  pub sound : Sound r
-
+-- column i of it
 pub laid-at : (columns : List Column) (none : Column) (o n i : ℕ) → laid columns o n ≡ true → i < length columns → Fits n (getD columns i none)
 laid-at [] none o n i h l = absurd (omega arith)
 laid-at (r ∷ rs) none o n zero h l =

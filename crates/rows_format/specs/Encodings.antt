@@ -1,6 +1,6 @@
 -- The encodings of fields. Of each: which values it accepts, the bytes that a value is stored as, how many these are, the value that stored bytes
 -- stand for, and which bytes can be stored.
-use mathlib.Core.Bool.{Bool, true, not, _&&_, _||_}
+use mathlib.Core.Bool.{Bool, true, false, not, _&&_, _||_}
 use mathlib.Core.List.{List, [], _∷_}
 use Prim.Native.Nat.{ℕ, _+_, _*_, _/_, _%_}
 use lib.Dec.{leb, ltb, eqb}
@@ -8,7 +8,8 @@ use lib.ListN.{length, getD, drop}
 use Rattle.prelude.specs.Part.{part, padded, isZero}
 use Rattle.prelude.specs.BigEndian.{bigEndian, bigEndianBytes}
 use Rattle.sets.specs.Sets.{setOf, isEmpty, membersFrom}
-use Rattle.rows_format.specs.Entries.{entries, entryBytes, risesBelow, among}
+use Rattle.prelude.specs.Unlike.{among}
+use Rattle.rows_format.specs.Entries.{entries, entryBytes, risesBelow}
 use Rattle.rows_format.specs.declared.column.Test.{Test}
 use Rattle.rows_format.specs.declared.column.Test.the-variants.{Any, Below, NotZero, OpenList}
 use Rattle.rows_format.specs.declared.column.Encoding.{Encoding}
@@ -22,7 +23,7 @@ passes (Below limit) v = ltb (getD v 0 0) limit
 passes NotZero v = not (isZero v)
 passes OpenList v = eqb (getD v 0 0) 21 || (eqb (getD v 0 0) 23 || eqb (getD v 0 0) 25)
 
--- v is a value that a field of the shape may have: "a length not the stated one, above its limit or not of whole entries is unreadable"
+-- v is a value that a field of the encoding may have: "a length not the stated one, above its limit or not of whole entries is unreadable"
 unfoldable pub accepts : Encoding → List ℕ → Bool
 accepts (Plain len test) v = eqb (length v) len && passes test v
 accepts (Number limit) v = eqb (length v) 2 && ltb (bigEndian 2 0 v) limit
@@ -61,3 +62,22 @@ holds (Number limit) cell = ltb (getD cell 0 0) limit
 holds (Counted least most) cell = leb least (getD cell 0 0) && (leb (getD cell 0 0) most && isZero (drop (getD cell 0 0 + 1) cell))
 holds (Arcs most) cell = leb (getD cell 0 0) most && isZero (drop (getD cell 0 0 * 4 + 1) cell)
 holds (Entries bytes) cell = not (isEmpty cell)
+
+-- the numbers of an encoding are small enough for its cell: a count and a stored number fit a byte, an entry fits two
+unfoldable pub sound : Encoding → Bool
+sound (Plain len test) = leb len 254
+sound (Number limit) = leb limit 256
+sound (Counted least most) = leb most 253
+sound (Arcs most) = leb most 63
+sound (Entries bytes) = leb bytes 254
+
+-- no value is stored as zeros: a field of such an encoding may be absent with no mark
+unfoldable pub skippable : Encoding → Bool
+skippable (Plain len Any) = false
+skippable (Plain len (Below limit)) = false
+skippable (Plain len NotZero) = true
+skippable (Plain len OpenList) = false
+skippable (Number limit) = false
+skippable (Counted least most) = ltb 0 least
+skippable (Arcs most) = false
+skippable (Entries bytes) = true

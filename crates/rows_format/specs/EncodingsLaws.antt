@@ -18,21 +18,14 @@ use Rattle.prelude.specs.BigEndian.{bigEndian, bigEndianBytes}
 use Rattle.prelude.specs.BigEndianLaws.{bytes-length, number-of-bytes, bytes-of-number}
 use Rattle.sets.specs.Sets.{setOf, bit, isEmpty, membersFrom}
 use Rattle.sets.specs.SetsLaws.{set-length, says-empty, bit-zeros}
-use Rattle.rows_format.specs.Entries.{entries, entryBytes, among}
+use Rattle.prelude.specs.Unlike.{among}
+use Rattle.rows_format.specs.Entries.{entries, entryBytes}
 use Rattle.rows_format.specs.EntriesLaws.{RisesBelow, says-rises, entry-length, entry-bytes, entries-of-bytes, bytes-of-entries, members-of-set}
 use Rattle.rows_format.specs.EntriesLaws.{set-of-members, members-rise, members-few, some-member, some-entry}
-use Rattle.rows_format.specs.Encodings.{passes, accepts, image, room, stored, holds}
+use Rattle.rows_format.specs.Encodings.{passes, accepts, image, room, stored, holds, sound, skippable}
 use Rattle.rows_format.specs.declared.column.Test.the-variants.{Any, Below, NotZero, OpenList}
 use Rattle.rows_format.specs.declared.column.Encoding.{Encoding}
 use Rattle.rows_format.specs.declared.column.Encoding.the-variants.{Plain, Number, Counted, Arcs, Entries}
-
--- the numbers of a encoding are small enough for its cell: a count and a stored number fit a byte, an entry fits two
-unfoldable pub sound : Encoding → Bool
-sound (Plain len test) = leb len 254
-sound (Number limit) = leb limit 256
-sound (Counted least most) = leb most 253
-sound (Arcs most) = leb most 63
-sound (Entries bytes) = leb bytes 254
 
 pub room-small : (encoding : Encoding) → sound encoding ≡ true → room encoding ≤ 254
 unfolding sound room
@@ -42,7 +35,7 @@ room-small (Counted least most) h = omega (arith, says-le most 253 .holds h)
 room-small (Arcs most) h = omega (arith, says-le most 63 .holds h)
 room-small (Entries bytes) h = says-le bytes 254 .holds h
 
--- ---- what a encoding accepts, as statements
+-- ---- what an encoding accepts, as statements
 
 abbrev pub Accepts : Encoding → List ℕ → Type 0
 Accepts (Plain len test) v = (length v ≡ len) × (passes test v ≡ true)
@@ -202,17 +195,7 @@ module _ (cell : List ℕ) (b : Bytes cell) where
   stored-bytes (Arcs most) = part-bytes 1 (getD cell 0 0 * 4) cell b
   stored-bytes (Entries bytes) = entry-bytes (membersFrom 0 cell)
 
--- ---- encodings whose values are never stored as zeros: their fields may be absent with no mark
-
-unfoldable pub skippable : Encoding → Bool
-skippable (Plain len Any) = false
-skippable (Plain len (Below limit)) = false
-skippable (Plain len NotZero) = true
-skippable (Plain len OpenList) = false
-skippable (Number limit) = false
-skippable (Counted least most) = ltb 0 least
-skippable (Arcs most) = false
-skippable (Entries bytes) = true
+-- ---- values that are never stored as zeros
 
 pub image-nonzero : (encoding : Encoding) (v : List ℕ) → skippable encoding ≡ true → Accepts encoding v → isZero (image encoding v) ≡ false
 unfolding skippable image passes

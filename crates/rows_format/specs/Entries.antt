@@ -20,8 +20,3 @@ entryBytes (x ∷ xs) = bigEndianBytes 2 x ++ entryBytes xs
 unfoldable pub risesBelow : ℕ → ℕ → List ℕ → Bool
 risesBelow limit low [] = true
 risesBelow limit low (x ∷ xs) = leb low x && (ltb x limit && risesBelow limit (suc x) xs)
-
--- k is one of the numbers
-unfoldable pub among : List ℕ → ℕ → Bool
-among [] k = false
-among (x ∷ xs) k = eqb k x || among xs k

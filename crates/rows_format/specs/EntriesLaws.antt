@@ -17,7 +17,8 @@ use Rattle.sets.specs.Sets.{flag, bit, member, setOf, listBelow, from, membersF
 use Rattle.sets.specs.SetsLaws.{set-length, bit-set, says-member, member-true, is-set, bit-past, bit-cases, says-empty}
 use Rattle.sets.specs.ListLaws.{list-has, list-rises, list-count, list-none, list-next, from-before, from-past}
 use Rattle.sets.specs.CountLaws.{count-cong, count-le}
-use Rattle.rows_format.specs.Entries.{entries, entryBytes, risesBelow, among}
+use Rattle.prelude.specs.Unlike.{among}
+use Rattle.rows_format.specs.Entries.{entries, entryBytes, risesBelow}
 
 -- ---- numbers and bytes
 

@@ -6,10 +6,9 @@ use Prim.Native.Nat.{ℕ, _≤_, _<_}
 use native.Mathlib.Omega.{arith}
 use lib.Dec.{eqb}
 use lib.ListN.{length, getD}
-use Rattle.rows_format.specs.Encodings.{room}
-use Rattle.rows_format.specs.EncodingsLaws.{sound, skippable}
-use Rattle.rows_format.specs.Columns.{mark, columnWidth}
-use Rattle.rows_format.specs.ColumnsLaws.{clear, soundColumn, laid, Fits, laid-at}
+use Rattle.rows_format.specs.Encodings.{room, sound, skippable}
+use Rattle.rows_format.specs.Columns.{mark, columnWidth, clear, soundColumn, laid, Fits}
+use Rattle.rows_format.specs.ColumnsLaws.{laid-at}
 use Rattle.rows_format.specs.Formats.{commonColumns, attributeColumns, classColumns, rangeColumns, nameColumns, targetColumns, entryColumns}
 use Rattle.rows_format.specs.Formats.{ownColumns, columnsOf, formatWidth, noColumn}
 use Rattle.rows_format.specs.declared.column.Column.{Column}

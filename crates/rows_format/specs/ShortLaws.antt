@@ -15,8 +15,8 @@ use Rattle.rows_format.specs.declared.column.Column.{Column}
 use Rattle.schema.specs.declared.number.TableId.the-variants.{Attributes, Classes}
 use Rattle.rows_format.specs.declared.format.Format.{Format}
 use Rattle.rows_format.specs.declared.format.Format.the-variants.{Row, NewRow, Range, Name, Target, Entry}
-use Rattle.rows_format.specs.Columns.{mark, columnWidth, cellAt, hasValue, valueOf, fieldOf, writeBy}
-use Rattle.rows_format.specs.ColumnsLaws.{field-none, field-some, laid, laid-cons, laid-le}
+use Rattle.rows_format.specs.Columns.{mark, columnWidth, cellAt, hasValue, valueOf, fieldOf, writeBy, laid}
+use Rattle.rows_format.specs.ColumnsLaws.{field-none, field-some, laid-cons, laid-le}
 use Rattle.rows_format.specs.Formats.{columnsOf, formatWidth}
 use Rattle.rows_format.specs.FormatsLaws.{format-laid, format-few}
 

@@ -15,7 +15,8 @@ use Rattle.prelude.specs.PartLaws.{zeros-length, zeros-at}
 use Rattle.prelude.specs.BigEndian.{bigEndian}
 use Rattle.sets.specs.Sets.{flag, bit, setOf, withMember}
 use Rattle.sets.specs.SetsLaws.{flag-lt, bit-lt, set-bytes, with-length, bit-with, bit-with-other, bit-zeros, is-set}
-use Rattle.rows_format.specs.Entries.{entries, risesBelow, among}
+use Rattle.prelude.specs.Unlike.{among}
+use Rattle.rows_format.specs.Entries.{entries, risesBelow}
 use Rattle.rows_format.specs.EntriesLaws.{entries-cons, entries-none, says-rises}
 
 -- ---- do they rise?

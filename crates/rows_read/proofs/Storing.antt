@@ -17,10 +17,11 @@ use Rattle.rows_format.specs.declared.column.Column.{Column}
 use Rattle.rows_format.specs.declared.column.Test.{Test}
 use Rattle.rows_format.specs.declared.column.Encoding.{Encoding}
 use Rattle.rows_format.specs.declared.column.Encoding.the-variants.{Plain, Number, Counted, Arcs, Entries}
-use Rattle.rows_format.specs.Entries.{entries, risesBelow, among}
+use Rattle.prelude.specs.Unlike.{among}
+use Rattle.rows_format.specs.Entries.{entries, risesBelow}
 use Rattle.rows_format.specs.EntriesLaws.{says-rises}
-use Rattle.rows_format.specs.Encodings.{accepts, image, room}
-use Rattle.rows_format.specs.EncodingsLaws.{sound, Accepts, says-accepts}
+use Rattle.rows_format.specs.Encodings.{accepts, image, room, sound}
+use Rattle.rows_format.specs.EncodingsLaws.{Accepts, says-accepts}
 use Rattle.rows_format.specs.Columns.{lead, mark, cellOf}
 
 -- a count stored, and then the rest of the cell as it came back

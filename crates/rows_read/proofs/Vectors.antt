@@ -13,7 +13,8 @@ use Rattle.schema.specs.Layout.{objectClassAt, mandatoryAt, openAuxiliaryAt}
 use Rattle.schema.specs.declared.number.TableId.the-variants.{Attributes, Classes}
 use Rattle.rows_format.specs.declared.format.Format.{Format}
 use Rattle.rows_format.specs.declared.format.Format.the-variants.{Range, Name, Target, Entry, NewRow, Row}
-use Rattle.rows_format.specs.Entries.{entries, risesBelow, among}
+use Rattle.prelude.specs.Unlike.{among}
+use Rattle.rows_format.specs.Entries.{entries, risesBelow}
 use Rattle.rows_format.specs.Encodings.{passes, accepts, image, room}
 use Rattle.rows_format.specs.Columns.{lead, mark, required, possible, columnWidth, takes, cellOf}
 use Rattle.rows_format.specs.Formats.{commonColumns, attributeColumns, classColumns, rangeColumns, nameColumns, targetColumns, entryColumns}

@@ -25,8 +25,8 @@ use Rattle.rows_format.specs.declared.column.Column.{Column}
 use Rattle.rows_format.specs.declared.format.Format.{Format}
 use Rattle.rows_format.specs.declared.format.Format.the-variants.{Range, Name, Target, Entry, NewRow, Row}
 use Rattle.rows_format.specs.Encodings.{image}
-use Rattle.rows_format.specs.Columns.{columnWidth, cellOf}
-use Rattle.rows_format.specs.ColumnsLaws.{Sound, laid, laid-cons}
+use Rattle.rows_format.specs.Columns.{columnWidth, cellOf, Sound, laid}
+use Rattle.rows_format.specs.ColumnsLaws.{laid-cons}
 use Rattle.rows_format.specs.Formats.{columnsOf, formatWidth}
 use Rattle.rows_format.specs.FormatsLaws.{format-laid}
 use Rattle.rows_format.specs.BytesLaws.{cell-bytes}

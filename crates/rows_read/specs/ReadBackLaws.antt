@@ -15,8 +15,8 @@ use Rattle.prelude.specs.SpliceLaws.{splice-length, splice-before, part-splice-
 use Rattle.wire.specs.Wire.{fieldAt}
 use Rattle.wire.specs.WireLaws.{field-back}
 use Rattle.rows_format.specs.declared.column.Column.{Column}
-use Rattle.rows_format.specs.Columns.{required, columnWidth, cellOf, cellAt, hasValue, valueOf, wellFormedCell, wellFormedBy, writeBy}
-use Rattle.rows_format.specs.ColumnsLaws.{Laid, laid, laid-cons, laid-le, takes-accepts, cell-length, taken-cell, absent-value, absent-formed}
+use Rattle.rows_format.specs.Columns.{required, columnWidth, cellOf, cellAt, hasValue, valueOf, wellFormedCell, wellFormedBy, writeBy, laid}
+use Rattle.rows_format.specs.ColumnsLaws.{Laid, laid-cons, laid-le, takes-accepts, cell-length, taken-cell, absent-value, absent-formed}
 use Rattle.rows_format.specs.ColumnsLaws.{formed-both, field-none, field-some}
 use Rattle.rows_read.specs.declared.field.Turn.{Turn}
 use Rattle.rows_read.specs.declared.field.Turn.the-variants.{Taken, Passed, Refused}

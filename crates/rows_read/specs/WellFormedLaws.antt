@@ -24,10 +24,11 @@ use Rattle.rows_format.specs.declared.column.Encoding.the-variants.{Counted}
 use Rattle.rows_format.specs.declared.column.Presence.the-variants.{Optional}
 use Rattle.rows_format.specs.declared.format.Format.{Format}
 use Rattle.rows_format.specs.declared.format.Format.the-variants.{Row}
-use Rattle.rows_format.specs.Encodings.{image, room, passes}
-use Rattle.rows_format.specs.EncodingsLaws.{sound, skippable, says-accepts, says-holds}
-use Rattle.rows_format.specs.Columns.{lead, mark, required, possible, columnWidth, takes, cellOf, cellAt, hasValue, wellFormedCell, wellFormedBy}
-use Rattle.rows_format.specs.ColumnsLaws.{formed-at, cell-replaced, absent-formed, taken-formed, sound-column, soundColumn, clear}
+use Rattle.rows_format.specs.Encodings.{image, room, passes, sound, skippable}
+use Rattle.rows_format.specs.EncodingsLaws.{says-accepts, says-holds}
+use Rattle.rows_format.specs.Columns.{lead, mark, required, possible, columnWidth, takes}
+use Rattle.rows_format.specs.Columns.{cellOf, cellAt, hasValue, wellFormedCell, wellFormedBy, soundColumn, clear}
+use Rattle.rows_format.specs.ColumnsLaws.{formed-at, cell-replaced, absent-formed, taken-formed, sound-column}
 use Rattle.rows_format.specs.Formats.{column, commonColumns, attributeColumns, ownColumns, columnsOf, formatWidth, noColumn}
 use Rattle.rows_format.specs.FormatsLaws.{format-laid}
 use Rattle.rows_read.specs.ObjectClass.{objectClassWidth, objectClassCell, settled, isSettled, finishedRow}

@@ -17,8 +17,8 @@ use Rattle.prelude.specs.SpliceLaws.{splice-length}
 use Rattle.wire.specs.Wire.{fieldAt, fieldBytes}
 use Rattle.wire.specs.WireLaws.{field-end, field-length, field-read, value-read}
 use Rattle.rows_format.specs.declared.column.Column.{Column}
-use Rattle.rows_format.specs.Columns.{columnWidth, cellAt, hasValue, valueOf, wellFormedCell, wellFormedBy, fieldOf, writeBy}
-use Rattle.rows_format.specs.ColumnsLaws.{Laid, laid, laid-cons, laid-end, laid-le, value-cell, blank-cell, formed-cons, field-none, field-some}
+use Rattle.rows_format.specs.Columns.{columnWidth, cellAt, hasValue, valueOf, wellFormedCell, wellFormedBy, fieldOf, writeBy, laid}
+use Rattle.rows_format.specs.ColumnsLaws.{Laid, laid-cons, laid-end, laid-le, value-cell, blank-cell, formed-cons, field-none, field-some}
 use Rattle.rows_format.specs.FormatsLaws.{without, distinct}
 use Rattle.rows_read.specs.declared.field.Turn.the-variants.{Taken, Passed}
 use Rattle.rows_read.specs.declared.read.RowRead.the-variants.{Read}

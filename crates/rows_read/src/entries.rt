@@ -7,7 +7,8 @@ ghost use mathlib.Core.Path.{_≡_};
 ghost use Prim.Native.Nat.{_*_, _%_};
 ghost use lib.ListN.{length};
 ghost use Rattle.sets.specs.Sets.{setOf};
-ghost use Rattle.rows_format.specs.Entries.{entries, risesBelow, among};
+ghost use Rattle.prelude.specs.Unlike.{among};
+ghost use Rattle.rows_format.specs.Entries.{entries, risesBelow};
 
 // Whether whole entries rise strictly and are below a limit.
 pub fn rises(v: &[u8], limit: usize) -> bool

@@ -17,8 +17,7 @@ ghost use Prim.Native.Nat.{_≤_};
 ghost use lib.ListN.{length};
 ghost use Rattle.prelude.specs.Part.{splice, zeros};
 ghost use Rattle.wire.specs.Wire.{fieldAt};
-ghost use Rattle.rows_format.specs.Columns.{required, columnWidth, takes, cellOf};
-ghost use Rattle.rows_format.specs.ColumnsLaws.{Sound, Fits};
+ghost use Rattle.rows_format.specs.Columns.{required, columnWidth, takes, cellOf, Sound, Fits};
 ghost use Rattle.rows_read.specs.Reading.{turnOf, tookOf, rowOf};
 
 // What a column makes of the field in front.

@@ -13,8 +13,7 @@ ghost use Prim.Native.Nat.{_+_, _-_, _≤_};
 ghost use lib.Dec.{eqb};
 ghost use lib.ListN.{length, getD};
 ghost use Rattle.prelude.specs.Part.{padded};
-ghost use Rattle.rows_format.specs.Encodings.{passes, accepts, image, room};
-ghost use Rattle.rows_format.specs.EncodingsLaws.{sound};
+ghost use Rattle.rows_format.specs.Encodings.{passes, accepts, image, room, sound};
 
 // The first byte, and 0 where there is none.
 pub fn first_byte(v: &[u8]) -> u8

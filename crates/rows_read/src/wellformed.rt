@@ -20,10 +20,8 @@ ghost use Prim.Native.Nat.{_≤_};
 ghost use lib.ListN.{length, drop};
 ghost use Rattle.prelude.specs.Part.{isZero};
 ghost use Rattle.schema.specs.Layout.{rowWidth};
-ghost use Rattle.rows_format.specs.Encodings.{room, holds};
-ghost use Rattle.rows_format.specs.EncodingsLaws.{sound};
-ghost use Rattle.rows_format.specs.Columns.{columnWidth, hasValue, wellFormedCell, wellFormedBy};
-ghost use Rattle.rows_format.specs.ColumnsLaws.{Sound};
+ghost use Rattle.rows_format.specs.Encodings.{room, holds, sound};
+ghost use Rattle.rows_format.specs.Columns.{columnWidth, hasValue, wellFormedCell, wellFormedBy, Sound};
 ghost use Rattle.rows_format.specs.Formats.{columnsOf, formatWidth};
 ghost use Rattle.rows_read.specs.WellFormed.{isFinished, wellFormed};
 

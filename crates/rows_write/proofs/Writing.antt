@@ -21,10 +21,10 @@ use Rattle.rows_format.specs.declared.column.Encoding.the-variants.{Plain, Numb
 use Rattle.rows_format.specs.declared.column.Column.{Column}
 use Rattle.rows_format.specs.Entries.{entryBytes}
 use Rattle.rows_format.specs.EntriesLaws.{entry-length, members-count}
-use Rattle.rows_format.specs.Encodings.{stored, room, holds}
-use Rattle.rows_format.specs.EncodingsLaws.{sound, Holds, says-holds, stored-short}
-use Rattle.rows_format.specs.Columns.{mark, columnWidth, cellAt, hasValue, valueOf, wellFormedCell, wellFormedBy, fieldOf}
-use Rattle.rows_format.specs.ColumnsLaws.{Sound, Fits, formed-at, field-none, field-some, width-small}
+use Rattle.rows_format.specs.Encodings.{stored, room, holds, sound}
+use Rattle.rows_format.specs.EncodingsLaws.{Holds, says-holds, stored-short}
+use Rattle.rows_format.specs.Columns.{mark, columnWidth, cellAt, hasValue, valueOf, wellFormedCell, wellFormedBy, fieldOf, Sound, Fits}
+use Rattle.rows_format.specs.ColumnsLaws.{formed-at, field-none, field-some, width-small}
 use Rattle.rows_read.proofs.Checking.{rest-of, cell-cut}
 
 -- ---- a cell that holds a value of a encoding

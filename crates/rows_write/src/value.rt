@@ -11,8 +11,7 @@ ghost use mathlib.Core.Path.{_≡_};
 ghost use Prim.Native.Nat.{_+_, _≤_};
 ghost use lib.ListN.{length};
 ghost use Rattle.prelude.specs.Part.{splice};
-ghost use Rattle.rows_format.specs.Encodings.{stored, room, holds};
-ghost use Rattle.rows_format.specs.EncodingsLaws.{sound};
+ghost use Rattle.rows_format.specs.Encodings.{stored, room, holds, sound};
 
 // How long the value is that a cell stands for.
 pub fn value_length(encoding: Encoding, cell: &[u8]) -> usize

@@ -18,10 +18,8 @@ ghost use Prim.Native.Nat.{_+_, _≤_};
 ghost use lib.ListN.{length};
 ghost use Rattle.prelude.specs.Part.{splice};
 ghost use Rattle.wire.specs.Wire.{fieldBytes};
-ghost use Rattle.rows_format.specs.Encodings.{stored, room, holds};
-ghost use Rattle.rows_format.specs.EncodingsLaws.{sound};
-ghost use Rattle.rows_format.specs.Columns.{cellAt, wellFormedCell, wellFormedBy, fieldOf, writeBy};
-ghost use Rattle.rows_format.specs.ColumnsLaws.{Fits};
+ghost use Rattle.rows_format.specs.Encodings.{stored, room, holds, sound};
+ghost use Rattle.rows_format.specs.Columns.{cellAt, wellFormedCell, wellFormedBy, fieldOf, writeBy, Fits};
 ghost use Rattle.rows_format.specs.Formats.{columnsOf, formatWidth};
 
 // Writes a field whose value a cell stands for, and gives the place after it.

@@ -91,11 +91,6 @@ rulesOf rs (n ∷ ns) = numbered rs n ∷ rulesOf rs ns
 abbrev pub breaks : Added → Schema → ℕ → TableId → ℕ → Bool
 breaks added m n t k = numbered (schemaRules added) n .breaks m t k
 
--- n is none of some keys, as the last arm of a match tells it: the keys from the last to the first
-abbrev pub Unlike : ℕ → List ℕ → Type 0
-Unlike n [] = Unit {0}
-Unlike n (x ∷ xs) = Unlike n xs × ¬ (n ≡ x)
-
 -- the rules that bind rows of both tables, or compare rows by a key: from the last to the first
 abbrev pub commonNumbers : List ℕ
 commonNumbers =

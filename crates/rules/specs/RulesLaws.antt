@@ -11,7 +11,9 @@ use lib.Seq.{drop-cons}
 use Rattle.prelude.specs.SaysLaws.{says-eq, says-split, says-false, neither}
 use Rattle.prelude.specs.First.{Case, _when_, firstOf}
 use Rattle.prelude.specs.FirstLaws.{first-hit, first-miss, first-none}
-use Rattle.rules.specs.Rules.{Unlike, Rule, noRule, numbered, rulesOf, casesOf, Each}
+use Rattle.prelude.specs.Unlike.{Unlike, among}
+use Rattle.prelude.specs.UnlikeLaws.{unlike-among}
+use Rattle.rules.specs.Rules.{Rule, noRule, numbered, rulesOf, casesOf, Each}
 
 -- ---- a rule by its number
 
@@ -28,15 +30,6 @@ each-numbered P [] h n none = none
 each-numbered P (r ∷ rs) h n none = ⊎-elim (λ q. rw (q .0) (h .0)) (λ q. rw (q .0) (each-numbered P rs (h .1) n none)) (says-split (says-eq (r .number) n))
 
 -- ---- rules that are told by their numbers' keys
-
-unfoldable pub among : List ℕ → ℕ → Bool
-among [] n = false
-among (x ∷ xs) n = eqb n x || among xs n
-
-unlike-among : (n : ℕ) (keys : List ℕ) → Unlike n keys → among keys n ≡ false
-unfolding among
-unlike-among n [] h = refl
-unlike-among n (x ∷ xs) h = ap₂ (λ (a b : Bool). a || b) (says-false (says-eq n x) (h .1)) (unlike-among n xs (h .0))
 
 -- a test picks a rule whose number is a key neither of a match nor of the match around it
 unfoldable pub strays : List ℕ → List ℕ → (Rule → Bool) → List Rule → Bool

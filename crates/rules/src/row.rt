@@ -51,7 +51,8 @@ ghost use Rattle.schema.specs.declared.number.TableId.the-variants.{Attributes,
 ghost use Rattle.schema.specs.Store.{table, tableIn, schemaIn};
 ghost use Rattle.tables.specs.Shaped.{TableShaped, Shaped};
 ghost use Rattle.rules_class.specs.Live.{classWrong};
-ghost use Rattle.rules.specs.Rules.{barred, commonNumbers, Unlike, schemaRules, rulesOf, breaks, rowCases};
+ghost use Rattle.prelude.specs.Unlike.{Unlike};
+ghost use Rattle.rules.specs.Rules.{barred, commonNumbers, schemaRules, rulesOf, breaks, rowCases};
 
 // The class that was added, if any: no list of it may hold its own number.
 pub enum Added {

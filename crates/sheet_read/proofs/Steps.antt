@@ -37,8 +37,8 @@ use Rattle.sheet_read.specs.declared.read.Turn.the-variants.{On, Stop}
 use Rattle.sheet_read.specs.declared.read.Room.{Room}
 use Rattle.sheet_read.specs.declared.read.SheetRead.the-variants.{Bad}
 use Rattle.sheet_read.specs.declared.read.Phase.the-variants.{InRows}
-use Rattle.sheet_read.specs.Reading.{Rows, fieldStep, headingOpen, headingTurn, isHeading, isRead, plus, position, roomAt, roomStep, rowsIn}
-use Rattle.sheet_read.specs.Reading.{rowsWith, sheetTag, step, stepAt, taggedStep, rowOut, rowStep, rowTurn, Step, rowsOpen}
+use Rattle.sheet_read.specs.Reading.{Rows, fieldStep, headingOpen, takeHeading, isHeading, isRead, plus, position, roomAt, roomStep, rowsIn}
+use Rattle.sheet_read.specs.Reading.{rowsWith, sheetTag, step, takeField, takeTagged, rowOut, takeTableRow, rowTurn, Step, rowsOpen}
 use Rattle.sheet_read.specs.ReadingLaws.{more-fit, row-out-wide}
 use Rattle.wire.specs.declared.FieldRead.the-variants as fields
 use Rattle.wire.proofs.FieldRead
@@ -131,16 +131,16 @@ held-with t {x} {a} {c} {attributes} {classes} h o wide l = go (o .answer) refl
 -- ---- the heading
 
 module _ (s : List ℕ) (at start stop : ℕ) (phase : Phase) (n : ℕ) (is : n ≡ position phase) where
-  pub heading-late : ¬ (n ≡ 0) → Stop (Bad at) ≡ headingTurn s at start stop phase
-  unfolding headingTurn headingOpen
+  pub heading-late : ¬ (n ≡ 0) → Stop (Bad at) ≡ takeHeading s at start stop phase
+  unfolding takeHeading headingOpen
   heading-late d = rw (says-false (says-eq (position phase) 0) (λ e. d (is ∙ e)))
 
-  pub heading-yes : n ≡ 0 → isHeading s start stop ≡ true → On stop (InRows Attributes) false ≡ headingTurn s at start stop phase
-  unfolding headingTurn headingOpen
+  pub heading-yes : n ≡ 0 → isHeading s start stop ≡ true → On stop (InRows Attributes) false ≡ takeHeading s at start stop phase
+  unfolding takeHeading headingOpen
   heading-yes e f = rw (says-true (says-eq (position phase) 0) (sym is ∙ e), f)
 
-  pub heading-no : n ≡ 0 → isHeading s start stop ≡ false → Stop (Bad at) ≡ headingTurn s at start stop phase
-  unfolding headingTurn headingOpen
+  pub heading-no : n ≡ 0 → isHeading s start stop ≡ false → Stop (Bad at) ≡ takeHeading s at start stop phase
+  unfolding takeHeading headingOpen
   heading-no e f = rw (says-true (says-eq (position phase) 0) (sym is ∙ e), f)
 
 -- ---- a field of the sheet
@@ -152,8 +152,8 @@ module _ (s : List ℕ) (at : ℕ) (phase : Phase) (missing : Bool) {x : Rows} {
   room-found = ap (λ (g : SheetTag). roomAt g x) (sym is) ∙ sym (room-same h tag) ∙ sym found
 
   -- no room: reading stops
-  pub step-full : ¬ (r ≡ room.Free) → step (roomTurn r) x ≡ stepAt s at phase missing x
-  unfolding stepAt
+  pub step-full : ¬ (r ≡ room.Free) → step (roomTurn r) x ≡ takeField s at phase missing x
+  unfolding takeField
   step-full d = go r d ∙ ap (λ (q : Room). roomStep q x (fieldStep (fieldAt s at (length s)) s at phase missing x)) (sym room-found)
     where
       go : (q : Room) → ¬ (q ≡ room.Free) → step (roomTurn q) x ≡ roomStep q x (fieldStep (fieldAt s at (length s)) s at phase missing x)
@@ -161,17 +161,17 @@ module _ (s : List ℕ) (at : ℕ) (phase : Phase) (missing : Bool) {x : Rows} {
       go room.Free d = absurd (d refl)
 
   -- room: it goes by the field
-  pub step-field : r ≡ room.Free → fieldStep (fieldAt s at (length s)) s at phase missing x ≡ stepAt s at phase missing x
-  unfolding stepAt roomStep
+  pub step-field : r ≡ room.Free → fieldStep (fieldAt s at (length s)) s at phase missing x ≡ takeField s at phase missing x
+  unfolding takeField roomStep
   step-field e = rw (room-found, e)
 
   pub step-whole : r ≡ room.Free → (f : FieldRead) (b start stop : ℕ) → f ≡ fieldAt s at (length s) → f ≡ fields.Field b start stop
-      → taggedStep (sheetTag b) s at phase missing start stop x ≡ stepAt s at phase missing x
+      → takeTagged (sheetTag b) s at phase missing start stop x ≡ takeField s at phase missing x
   unfolding fieldStep
   step-whole e f b start stop p q = ap (λ (g : FieldRead). fieldStep g s at phase missing x) (sym q ∙ p) ∙ step-field e
 
   pub step-cut : r ≡ room.Free → (f : FieldRead) → f ≡ fieldAt s at (length s) → ((b start stop : ℕ) → ¬ (f ≡ fields.Field b start stop))
-      → step (Stop (Bad at)) x ≡ stepAt s at phase missing x
+      → step (Stop (Bad at)) x ≡ takeField s at phase missing x
   step-cut e f p none = cut f none ∙ ap (λ (g : FieldRead). fieldStep g s at phase missing x) p ∙ step-field e
     where
       cut : (g : FieldRead) → ((b start stop : ℕ) → ¬ (g ≡ fields.Field b start stop)) → step (Stop (Bad at)) x ≡ fieldStep g s at phase missing x
@@ -212,8 +212,8 @@ pub took-row : (t : TableId) (s : List ℕ) (start stop : ℕ) (missing : Bool) 
     → (turn : Turn) → turn ≡ rowTurn t stop missing (rowOut t s start stop .answer) → {attributes′ classes′ : List ℕ}
     → attributes′ ≡ newAttributes t (storeWith t (rowOut t s start stop) attributes) attributes → classes′
     ≡ newClasses t (storeWith t (rowOut t s start stop) classes) classes
-    → Steps (rowStep t s start stop missing) attributes classes turn attributes′ classes′
-unfolding rowStep
+    → Steps (takeTableRow t s start stop missing) attributes classes turn attributes′ classes′
+unfolding takeTableRow
 took-row t s start stop missing bytes within room turn e p q x a c h =
     record { went = e; held = rw (p, q) (held-with t h (rowOut t s start stop) (row-out-wide s bytes t start stop within) room) }
 
@@ -302,18 +302,18 @@ same-step f g e h x a c k = rw (← e x a c k) (h x a c k)
 -- ---- by the tag
 
 module _ (s : List ℕ) (at : ℕ) (phase : Phase) (missing : Bool) (start stop : ℕ) (tag : SheetTag) (x : Rows) where
-  pub tagged-heading : tag ≡ Heading → step (headingTurn s at start stop phase) x ≡ taggedStep tag s at phase missing start stop x
-  unfolding taggedStep
+  pub tagged-heading : tag ≡ Heading → step (takeHeading s at start stop phase) x ≡ takeTagged tag s at phase missing start stop x
+  unfolding takeTagged
   tagged-heading e = rw e
 
-  pub tagged-row : (t : TableId) → tag ≡ Row t → rowsOpen phase t ≡ true → rowStep t s start stop missing x ≡ taggedStep tag s at phase missing start stop x
-  unfolding taggedStep
+  pub tagged-row : (t : TableId) → tag ≡ Row t → rowsOpen phase t ≡ true → takeTableRow t s start stop missing x ≡ takeTagged tag s at phase missing start stop x
+  unfolding takeTagged
   tagged-row t e o = rw (e, o)
 
-  pub tagged-late : (t : TableId) → tag ≡ Row t → rowsOpen phase t ≡ false → step (Stop (Bad at)) x ≡ taggedStep tag s at phase missing start stop x
-  unfolding taggedStep
+  pub tagged-late : (t : TableId) → tag ≡ Row t → rowsOpen phase t ≡ false → step (Stop (Bad at)) x ≡ takeTagged tag s at phase missing start stop x
+  unfolding takeTagged
   tagged-late t e o = rw (e, o)
 
-  pub tagged-unknown : tag ≡ Unknown → step (Stop (Bad at)) x ≡ taggedStep tag s at phase missing start stop x
-  unfolding taggedStep
+  pub tagged-unknown : tag ≡ Unknown → step (Stop (Bad at)) x ≡ takeTagged tag s at phase missing start stop x
+  unfolding takeTagged
   tagged-unknown e = rw e

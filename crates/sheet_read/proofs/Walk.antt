@@ -20,7 +20,7 @@ use Rattle.sheet_read.specs.declared.read.Turn.{Turn}
 use Rattle.sheet_read.specs.declared.read.Turn.the-variants.{On, Stop}
 use Rattle.sheet_read.specs.declared.read.SheetRead.{SheetRead}
 use Rattle.sheet_read.specs.declared.read.SheetRead.the-variants.{Read, Bad}
-use Rattle.sheet_read.specs.Reading.{stopped, Rows, SheetOut, noRows, readSheet, sheetOut, stepAt}
+use Rattle.sheet_read.specs.Reading.{stopped, Rows, SheetOut, noRows, readSheet, sheetOut, takeField}
 use Rattle.sheet_read.specs.Held.{Stepped, Held, Left, Lent, Steps, Fitting}
 use Rattle.sheet_read.specs.TurnLaws.{Stands, stands-start, stands-end, stands-stop, stands-forward, stands-on}
 use Rattle.sheet_read.specs.ReadingLaws.{no-rows-sound, sheet-sound}
@@ -69,14 +69,14 @@ module _ {s a c attributes classes : List ℕ} {at : ℕ} {phase : Phase} {missi
       (sym (stands-end (r .stands) l ∙ ap (λ (z : Bool). sheetOut (cond z (Bad at) Read) (r .rows)) e)) refl
 
   -- one field more
-  module _ (l : at < length s) (t : Turn) (b d : List ℕ) (stepped : Steps (stepAt s at phase missing) attributes classes t b d) where
-    y : Stepped (stepAt s at phase missing (r .rows)) a c t b d
+  module _ (l : at < length s) (t : Turn) (b d : List ℕ) (stepped : Steps (takeField s at phase missing) attributes classes t b d) where
+    y : Stepped (takeField s at phase missing (r .rows)) a c t b d
     y = stepped (r .rows) a c (r .held)
 
     pub reading-stop : (read : SheetRead) → t ≡ Stop read → Left (readSheet s) a c (stopped t) b d
     unfolding stopped
     reading-stop read e =
-        let stop : readSheet s ≡ sheetOut read (stepAt s at phase missing (r .rows) .rows) = stands-stop (r .stands) l _ refl read (sym (y .went) ∙ e) in
+        let stop : readSheet s ≡ sheetOut read (takeField s at phase missing (r .rows) .rows) = stands-stop (r .stands) l _ refl read (sym (y .went) ∙ e) in
         record {
           answer = ap stopped e ∙ sym (ap (λ (z : SheetOut). z .answer) stop);
           attributes = y .held .attributesAre ∙ ap (λ (z : SheetOut). splice 0 (filledStore Attributes (z .rows .attributes)) a) (sym stop);
@@ -91,7 +91,7 @@ module _ {s a c attributes classes : List ℕ} {at : ℕ} {phase : Phase} {missi
     reading-on next later lacking e p q =
         record {
           lent = record { attributes = omega (arith, r .lent .attributes); classes = omega (arith, r .lent .classes) };
-          rows = stepAt s at phase missing (r .rows) .rows;
+          rows = takeField s at phase missing (r .rows) .rows;
           held = y .held;
           stands = stands-on (r .stands) l _ refl next later lacking (sym (y .went) ∙ e);
         }

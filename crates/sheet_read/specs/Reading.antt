@@ -103,8 +103,8 @@ step turn x = record { turn = turn; rows = x }
 unfoldable pub isHeading : List ℕ → ℕ → ℕ → Bool
 isHeading s start stop = eqb (stop - start) 1 && eqb (getD s start 0) 1
 
-unfoldable pub headingTurn : List ℕ → ℕ → ℕ → ℕ → Phase → Turn
-headingTurn s at start stop phase = cond (headingOpen phase && isHeading s start stop) (On stop (InRows Attributes) false) (Stop (Bad at))
+unfoldable pub takeHeading : List ℕ → ℕ → ℕ → ℕ → Phase → Turn
+takeHeading s at start stop phase = cond (headingOpen phase && isHeading s start stop) (On stop (InRows Attributes) false) (Stop (Bad at))
 
 -- the value s[start..stop) as a row, and whether it was read
 abbrev pub rowOut : TableId → List ℕ → ℕ → ℕ → Out
@@ -122,19 +122,19 @@ rowTurn t stop missing (row.Bad at) = Stop (Bad at)
 unfoldable pub rowsWith : TableId → Out → Rows → Rows
 rowsWith t o x = cond (isRead (o .answer)) (plus t (o .row) x) x
 
-unfoldable pub rowStep : TableId → List ℕ → ℕ → ℕ → Bool → Rows → Step
-rowStep t s start stop missing x = step (rowTurn t stop missing (rowOut t s start stop .answer)) (rowsWith t (rowOut t s start stop) x)
+unfoldable pub takeTableRow : TableId → List ℕ → ℕ → ℕ → Bool → Rows → Step
+takeTableRow t s start stop missing x = step (rowTurn t stop missing (rowOut t s start stop .answer)) (rowsWith t (rowOut t s start stop) x)
 
 -- a whole field, by what its tag stands for. What may not come is told at its tag, and is not looked into
-unfoldable pub taggedStep : SheetTag → List ℕ → ℕ → Phase → Bool → ℕ → ℕ → Rows → Step
-taggedStep Heading s at phase missing start stop x = step (headingTurn s at start stop phase) x
-taggedStep (Row t) s at phase missing start stop x =
-    cond (rowsOpen phase t) (rowStep t s start stop missing x) (step (Stop (Bad at)) x)
-taggedStep Unknown s at phase missing start stop x = step (Stop (Bad at)) x
+unfoldable pub takeTagged : SheetTag → List ℕ → ℕ → Phase → Bool → ℕ → ℕ → Rows → Step
+takeTagged Heading s at phase missing start stop x = step (takeHeading s at start stop phase) x
+takeTagged (Row t) s at phase missing start stop x =
+    cond (rowsOpen phase t) (takeTableRow t s start stop missing x) (step (Stop (Bad at)) x)
+takeTagged Unknown s at phase missing start stop x = step (Stop (Bad at)) x
 
 -- the field in front; one that is cut is told at its tag
 unfoldable pub fieldStep : FieldRead → List ℕ → ℕ → Phase → Bool → Rows → Step
-fieldStep (fields.Field tag start stop) s at phase missing x = taggedStep (sheetTag tag) s at phase missing start stop x
+fieldStep (fields.Field tag start stop) s at phase missing x = takeTagged (sheetTag tag) s at phase missing start stop x
 fieldStep fields.End s at phase missing x = step (Stop (Bad at)) x
 fieldStep (fields.Bad place) s at phase missing x = step (Stop (Bad at)) x
 
@@ -142,8 +142,8 @@ unfoldable pub roomStep : Room → Rows → Step → Step
 roomStep (room.Full t) x else = step (Stop (Full t)) x
 roomStep room.Free x else = else
 
-unfoldable pub stepAt : List ℕ → ℕ → Phase → Bool → Rows → Step
-stepAt s at phase missing x = roomStep (roomAt (sheetTag (getD s at 0)) x) x (fieldStep (fieldAt s at (length s)) s at phase missing x)
+unfoldable pub takeField : List ℕ → ℕ → Phase → Bool → Rows → Step
+takeField s at phase missing x = roomStep (roomAt (sheetTag (getD s at 0)) x) x (fieldStep (fieldAt s at (length s)) s at phase missing x)
 
 -- ---- all fields
 
@@ -172,7 +172,7 @@ ended s at missing x = sheetOut (cond missing (Bad at) Read) x
 unfoldable pub readFrom : ℕ → List ℕ → ℕ → Phase → Bool → Rows → SheetOut
 readFrom zero s at phase missing x = cond (eqb at (length s)) (ended s at missing x) (sheetOut (Bad at) x)
 readFrom (suc n) s at phase missing x =
-    cond (eqb at (length s)) (ended s at missing x) (onward (readFrom n s) (stepAt s at phase missing x .turn) (stepAt s at phase missing x .rows))
+    cond (eqb at (length s)) (ended s at missing x) (onward (readFrom n s) (takeField s at phase missing x .turn) (takeField s at phase missing x .rows))
 
 -- a whole sheet
 unfoldable pub readSheet : List ℕ → SheetOut

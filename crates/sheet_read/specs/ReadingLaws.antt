@@ -32,7 +32,7 @@ use Rattle.sheet_read.specs.declared.read.Phase.the-variants.{Start}
 use Rattle.sheet_read.specs.declared.read.Turn.{Turn}
 use Rattle.sheet_read.specs.declared.read.Turn.the-variants.{On, Stop}
 use Rattle.sheet_read.specs.Reading.{onward, Rows, SheetOut, Step, ended, fieldStep, isRead, noRows, plus, readFrom, readSheet, roomAt}
-use Rattle.sheet_read.specs.Reading.{roomStep, rowOut, rowStep, rowsIn, rowsOpen, rowsWith, sheetTag, stepAt, taggedStep}
+use Rattle.sheet_read.specs.Reading.{roomStep, rowOut, takeTableRow, rowsIn, rowsOpen, rowsWith, sheetTag, takeField, takeTagged}
 use Rattle.sheet_read.specs.declared.read.Room.{Room}
 use Rattle.sheet_read.specs.Held.{Fitting}
 use Rattle.wire.specs.declared.FieldRead.the-variants as fields
@@ -61,8 +61,8 @@ module _ (s : List ℕ) (P : Rows → Type 0) where
 
   module _ (grows : Grows) where
     row-step-keeps : (t : TableId) (start stop : ℕ) (missing : Bool) (x : Rows) → stop ≤ length s → ¬ (length (rowsIn t x) ≡ limit t) → P x
-        → P (rowStep t s start stop missing x .rows)
-    unfolding rowStep rowsWith
+        → P (takeTableRow t s start stop missing x .rows)
+    unfolding takeTableRow rowsWith
     row-step-keeps t start stop missing x within free h = go (rowOut t s start stop .answer) refl
       where
         o : Out
@@ -73,8 +73,8 @@ module _ (s : List ℕ) (P : Rows → Type 0) where
         go (row.Bad at) e = h
 
     tagged-keeps : (tag : SheetTag) (at : ℕ) (phase : Phase) (missing : Bool) (start stop : ℕ) (x : Rows) → stop ≤ length s → roomAt tag x ≡ room.Free → P x
-        → P (taggedStep tag s at phase missing start stop x .rows)
-    unfolding taggedStep roomAt
+        → P (takeTagged tag s at phase missing start stop x .rows)
+    unfolding takeTagged roomAt
     tagged-keeps Heading at phase missing start stop x within free h = h
     tagged-keeps Unknown at phase missing start stop x within free h = h
     tagged-keeps (Row t) at phase missing start stop x within free h =
@@ -87,8 +87,8 @@ module _ (s : List ℕ) (P : Rows → Type 0) where
             let no : _≡_ {A = ℕ} 0 1 = cc in
             omega arith
 
-    step-keeps : (at : ℕ) (phase : Phase) (missing : Bool) (x : Rows) → P x → P (stepAt s at phase missing x .rows)
-    unfolding stepAt roomStep fieldStep
+    step-keeps : (at : ℕ) (phase : Phase) (missing : Bool) (x : Rows) → P x → P (takeField s at phase missing x .rows)
+    unfolding takeField roomStep fieldStep
     step-keeps at phase missing x h = go (roomAt (sheetTag (getD s at 0)) x) refl
       where
         field : roomAt (sheetTag (getD s at 0)) x ≡ room.Free → (f : FieldRead) → fieldAt s at (length s) ≡ f → P (fieldStep f s at phase missing x .rows)
@@ -107,7 +107,7 @@ module _ (s : List ℕ) (P : Rows → Type 0) where
     from-keeps zero at phase missing x h = choose (λ (o : SheetOut). P (o .rows)) (eqb at (length s)) (λ e. h) (λ d. h)
     from-keeps (suc n) at phase missing x h =
         choose (λ (o : SheetOut). P (o .rows)) (eqb at (length s)) (λ e. h)
-        (λ d. onward-keeps (readFrom n s) (from-keeps n) (stepAt s at phase missing x .turn) (step-keeps at phase missing x h))
+        (λ d. onward-keeps (readFrom n s) (from-keeps n) (takeField s at phase missing x .turn) (step-keeps at phase missing x h))
       where
         onward-keeps : (rest : ℕ → Phase → Bool → Rows → SheetOut)
             → ((at : ℕ) (phase : Phase) (missing : Bool) (x : Rows) → P x → P (rest at phase missing x .rows))

@@ -24,9 +24,9 @@ use Rattle.sheet_read.specs.declared.read.SheetTag.{SheetTag}
 use Rattle.sheet_read.specs.declared.read.SheetTag.the-variants.{Heading, Row, Unknown}
 use Rattle.sheet_read.specs.declared.read.SheetRead.{SheetRead}
 use Rattle.sheet_read.specs.declared.read.SheetRead.the-variants.{Read, Bad}
-use Rattle.sheet_read.specs.Reading.{onward, Rows, Step, step, ended, fieldStep, headingOpen, headingTurn, isHeading, noRows, plus, readFrom}
-use Rattle.sheet_read.specs.Reading.{readSheet, roomAt, roomStep, rowOut, rowStep, rowTurn, rowsIn, rowsOpen, rowsWith, sheetOut, sheetTag}
-use Rattle.sheet_read.specs.Reading.{stepAt, taggedStep}
+use Rattle.sheet_read.specs.Reading.{onward, Rows, Step, step, ended, fieldStep, headingOpen, takeHeading, isHeading, noRows, plus, readFrom}
+use Rattle.sheet_read.specs.Reading.{readSheet, roomAt, roomStep, rowOut, takeTableRow, rowTurn, rowsIn, rowsOpen, rowsWith, sheetOut, sheetTag}
+use Rattle.sheet_read.specs.Reading.{takeField, takeTagged}
 use Rattle.wire.specs.declared.FieldRead.the-variants as fields
 use Rattle.rows_read.specs.declared.read.RowRead.the-variants as row
 use Rattle.sheet_read.specs.declared.read.Room.the-variants as room
@@ -43,8 +43,8 @@ module _ (s : List ℕ) (at : ℕ) (phase : Phase) (missing : Bool) (x : Rows) w
   row-forward t stop on within row.Read = (on, within)
   row-forward t stop on within (row.Bad place) = tt
 
-  tagged-forward : (tag : SheetTag) (start stop : ℕ) → at < stop → stop ≤ length s → Forward s at (taggedStep tag s at phase missing start stop x .turn)
-  unfolding taggedStep rowStep headingTurn
+  tagged-forward : (tag : SheetTag) (start stop : ℕ) → at < stop → stop ≤ length s → Forward s at (takeTagged tag s at phase missing start stop x .turn)
+  unfolding takeTagged takeTableRow takeHeading
   tagged-forward Heading start stop on within = choose (Forward s at) (headingOpen phase && isHeading s start stop) (λ e. (on, within)) (λ e. tt)
   tagged-forward (Row t) start stop on within =
       choose (λ (y : Step). Forward s at (y .turn)) (rowsOpen phase t) (λ e. row-forward t stop on within (rowOut t s start stop .answer)) (λ e. tt)
@@ -58,8 +58,8 @@ module _ (s : List ℕ) (at : ℕ) (phase : Phase) (missing : Bool) (x : Rows) w
   field-forward fields.End e = tt
   field-forward (fields.Bad place) e = tt
 
-  pub step-forward : Forward s at (stepAt s at phase missing x .turn)
-  unfolding stepAt
+  pub step-forward : Forward s at (takeField s at phase missing x .turn)
+  unfolding takeField
   step-forward = go (roomAt (sheetTag (getD s at 0)) x)
     where
       go : (r : Room) → Forward s at (roomStep r x (fieldStep (fieldAt s at (length s)) s at phase missing x) .turn)
@@ -85,7 +85,7 @@ from-end zero s at phase missing x e = rw (eq-eqb at (length s) e)
 from-end (suc n) s at phase missing x e = rw (eq-eqb at (length s) e)
 
 from-step : (n : ℕ) (s : List ℕ) (at : ℕ) (phase : Phase) (missing : Bool) (x : Rows) → at < length s
-    → readFrom (suc n) s at phase missing x ≡ onward (readFrom n s) (stepAt s at phase missing x .turn) (stepAt s at phase missing x .rows)
+    → readFrom (suc n) s at phase missing x ≡ onward (readFrom n s) (takeField s at phase missing x .turn) (takeField s at phase missing x .rows)
 unfolding readFrom
 from-step n s at phase missing x l = rw (ne-eqb at (length s) (λ e. omega arith))
 
@@ -93,7 +93,7 @@ from-step n s at phase missing x l = rw (ne-eqb at (length s) (λ e. omega arith
 record Rest (s : List ℕ) (at : ℕ) (phase : Phase) (missing : Bool) (x : Rows) : Type 0 where
   fuel : ℕ
   enough : length s ≤ at + suc fuel
-  same : readSheet s ≡ onward (readFrom fuel s) (stepAt s at phase missing x .turn) (stepAt s at phase missing x .rows)
+  same : readSheet s ≡ onward (readFrom fuel s) (takeField s at phase missing x .turn) (takeField s at phase missing x .rows)
 
 module _ {s : List ℕ} {at : ℕ} {phase : Phase} {missing : Bool} {x : Rows} (r : Stands s at phase missing x) where
   -- the end of the sheet
@@ -107,7 +107,7 @@ module _ {s : List ℕ} {at : ℕ} {phase : Phase} {missing : Bool} {x : Rows} (
       go zero h e = absurd (omega arith)
       go (suc n) h e = record { fuel = n; enough = h; same = e ∙ from-step n s at phase missing x l }
 
-  module _ (l : at < length s) (y : Step) (is : stepAt s at phase missing x ≡ y) where
+  module _ (l : at < length s) (y : Step) (is : takeField s at phase missing x ≡ y) where
     turned : readSheet s ≡ onward (readFrom (rest l .fuel) s) (y .turn) (y .rows)
     turned = rest l .same ∙ ap (λ (z : Step). onward (readFrom (rest l .fuel) s) (z .turn) (z .rows)) is
 
@@ -137,20 +137,20 @@ module _ {s : List ℕ} {at : ℕ} {phase : Phase} {missing : Bool} {x : Rows} (
 module _ (s : List ℕ) (at : ℕ) (phase : Phase) (missing : Bool) (x : Rows) (tag start stop : ℕ)
     (there : fieldAt s at (length s) ≡ fields.Field tag start stop) where
   -- where there is room for what the tag announces
-  tagged-is : (which : SheetTag) → sheetTag tag ≡ which → roomAt which x ≡ room.Free → stepAt s at phase missing x
-      ≡ taggedStep which s at phase missing start stop x
-  unfolding stepAt roomStep fieldStep
+  tagged-is : (which : SheetTag) → sheetTag tag ≡ which → roomAt which x ≡ room.Free → takeField s at phase missing x
+      ≡ takeTagged which s at phase missing start stop x
+  unfolding takeField roomStep fieldStep
   tagged-is which known free =
       let w = field-is s at (length s) tag start stop there in
       rw (← (w .tag-is), there, known, free)
 
-  pub heading-turn : sheetTag tag ≡ Heading → headingOpen phase ≡ true → isHeading s start stop ≡ true → stepAt s at phase missing x
+  pub heading-turn : sheetTag tag ≡ Heading → headingOpen phase ≡ true → isHeading s start stop ≡ true → takeField s at phase missing x
       ≡ step (On stop (InRows Attributes) false) x
-  unfolding taggedStep headingTurn roomAt
+  unfolding takeTagged takeHeading roomAt
   heading-turn known free is = tagged-is Heading known refl ∙ rw (free, is)
 
   pub row-turn : (t : TableId) (new : List ℕ) → sheetTag tag ≡ Row t → rowsOpen phase t ≡ true → length (rowsIn t x) < limit t → rowOut t s start stop
       ≡ out row.Read new
-      → stepAt s at phase missing x ≡ step (On stop (InRows t) missing) (plus t new x)
-  unfolding taggedStep rowStep rowTurn rowsWith roomAt
+      → takeField s at phase missing x ≡ step (On stop (InRows t) missing) (plus t new x)
+  unfolding takeTagged takeTableRow rowTurn rowsWith roomAt
   row-turn t new known free few read = tagged-is (Row t) known (rw (ne-eqb (length (rowsIn t x)) (limit t) (λ e. omega arith))) ∙ rw (free, read)

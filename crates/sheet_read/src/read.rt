@@ -22,8 +22,8 @@ ghost use Rattle.schema.specs.Store.{countIn, storeOf};
 ghost use Rattle.schema.specs.Numbers.{limit};
 ghost use Rattle.schema.specs.Layout.{storeLength, classWidth};
 ghost use Rattle.sheet_read.specs.Held.{HasRoom, Left, Lent, Open, Steps, roomIn, roomTurn, storeWith};
-ghost use Rattle.sheet_read.specs.Reading.{headingTurn, isHeading, isRead, position, readSheet, rowOut, rowStep, rowTurn, rowsOpen, sheetTag};
-ghost use Rattle.sheet_read.specs.Reading.{stepAt, stopped, taggedStep};
+ghost use Rattle.sheet_read.specs.Reading.{takeHeading, isHeading, isRead, position, readSheet, rowOut, takeTableRow, rowTurn, rowsOpen, sheetTag};
+ghost use Rattle.sheet_read.specs.Reading.{takeField, stopped, takeTagged};
 
 // What reading a sheet comes to.
 pub enum SheetRead {
@@ -131,7 +131,7 @@ fn is_heading(s: &[u8], start: usize, stop: usize) -> bool
 // The heading, before all rows.
 fn take_heading(s: &[u8], at: usize, start: usize, stop: usize, phase: Phase) -> Turn
     requires { ⌜ (start ≤ stop) × (stop ≤ length (now s)) ⌝ }
-    ensures { λ r. ⌜ r ≡ headingTurn (now (s .entry)) at start stop phase ⌝ }
+    ensures { λ r. ⌜ r ≡ takeHeading (now (s .entry)) at start stop phase ⌝ }
 {
     if position(phase) == 0 {
         if is_heading(s, start, stop) {
@@ -253,7 +253,7 @@ fn take_table_row(
 ) -> Turn
     requires { ⌜ (start ≤ stop) × (stop ≤ length (now s)) ⌝ }
     requires { ⌜ Lent (now attributes) (now classes) × (countIn table (storeOf table (now attributes) (now classes)) < limit table) ⌝ }
-    ensures { λ r. ⌜ Steps (rowStep table (now (s .entry)) start stop missing) (now (attributes .entry)) (now (classes .entry)) r
+    ensures { λ r. ⌜ Steps (takeTableRow table (now (s .entry)) start stop missing) (now (attributes .entry)) (now (classes .entry)) r
         (now (attributes .exit)) (now (classes .exit)) ⌝ }
 {
     match table {
@@ -276,7 +276,7 @@ fn take_tagged(
 ) -> Turn
     requires { ⌜ (start ≤ stop) × (stop ≤ length (now s)) ⌝ }
     requires { ⌜ Lent (now attributes) (now classes) × HasRoom tag (now attributes) (now classes) ⌝ }
-    ensures { λ r. ⌜ Steps (taggedStep tag (now (s .entry)) at phase missing start stop) (now (attributes .entry)) (now (classes .entry)) r
+    ensures { λ r. ⌜ Steps (takeTagged tag (now (s .entry)) at phase missing start stop) (now (attributes .entry)) (now (classes .entry)) r
         (now (attributes .exit)) (now (classes .exit)) ⌝ }
 {
     match tag {
@@ -306,7 +306,7 @@ fn take_field(
     classes: &mut [u8],
 ) -> Turn
     requires { ⌜ (at < length (now s)) × Open (now attributes) (now classes) ⌝ }
-    ensures { λ r. ⌜ Steps (stepAt (now (s .entry)) at phase missing) (now (attributes .entry)) (now (classes .entry)) r (now (attributes .exit))
+    ensures { λ r. ⌜ Steps (takeField (now (s .entry)) at phase missing) (now (attributes .entry)) (now (classes .entry)) r (now (attributes .exit))
         (now (classes .exit)) ⌝ }
 {
     let room = room_in(sheet_tag(byte_at(s, at)), attributes, classes);

@@ -31,8 +31,8 @@ use Rattle.sheet_read.specs.declared.read.Phase.the-variants.{Start, InRows}
 use Rattle.sheet_read.specs.declared.read.Room.{Room}
 use Rattle.sheet_read.specs.declared.read.Turn.{Turn}
 use Rattle.sheet_read.specs.declared.read.Turn.the-variants.{On, Stop}
-use Rattle.sheet_read.specs.Reading.{Rows, noRows, plus, schemaFrom, sheetTag, position, headingOpen, rowsOpen, isHeading, headingTurn, isRead}
-use Rattle.sheet_read.specs.Reading.{rowOut, rowTurn, rowsWith, rowStep, Step, step, taggedStep, fieldStep, roomAt, roomStep, stepAt, SheetOut}
+use Rattle.sheet_read.specs.Reading.{Rows, noRows, plus, schemaFrom, sheetTag, position, headingOpen, rowsOpen, isHeading, takeHeading, isRead}
+use Rattle.sheet_read.specs.Reading.{rowOut, rowTurn, rowsWith, takeTableRow, Step, step, takeTagged, fieldStep, roomAt, roomStep, takeField, SheetOut}
 use Rattle.sheet_read.specs.Reading.{onward, ended, readFrom, readSheet}
 use Rattle.sheet_write.specs.Writing.{heading, rowTag, rowField, sheetBytes}
 use Rattle.sheet_round_trip.specs.Exact.{placeOf, rawRow, ExactSheet}
@@ -156,8 +156,8 @@ module _ (s : List ℕ) (bytes : Bytes s) where
 module _ (s : List ℕ) (bytes : Bytes s) (exact : ExactSheet s) (k : ℕ) (below : k < length s) (at : ℕ) (phase : Phase) (missing : Bool) (x : Rows)
     (b : Between s k at phase missing x) where
   module _ (tag start stop : ℕ) (f : fieldAt s at (length s) ≡ fields.Field tag start stop) where
-    heading-after : sheetTag tag ≡ Heading → Fine s (suc k) (step (headingTurn s at start stop phase) x)
-    unfolding headingTurn
+    heading-after : sheetTag tag ≡ Heading → Fine s (suc k) (step (takeHeading s at start stop phase) x)
+    unfolding takeHeading
     heading-after known =
         choose (λ (t : Turn). Fine s (suc k) (step t x)) (headingOpen phase && isHeading s start stop)
         (λ e. (let h = says-and (says-test (headingOpen phase)) (says-test (isHeading s start stop)) .holds e in
@@ -168,8 +168,8 @@ module _ (s : List ℕ) (bytes : Bytes s) (exact : ExactSheet s) (k : ℕ) (belo
         }))
         (λ e. bad-refused at)
 
-    row-after : (t : TableId) → sheetTag tag ≡ Row t → rowsOpen phase t ≡ true → Fine s (suc k) (rowStep t s start stop missing x)
-    unfolding rowStep rowsWith rowTurn rawRow
+    row-after : (t : TableId) → sheetTag tag ≡ Row t → rowsOpen phase t ≡ true → Fine s (suc k) (takeTableRow t s start stop missing x)
+    unfolding takeTableRow rowsWith rowTurn rawRow
     row-after t known o = go (rowOut t s start stop .answer) refl
       where
         y : Out
@@ -189,8 +189,8 @@ module _ (s : List ℕ) (bytes : Bytes s) (exact : ExactSheet s) (k : ℕ) (belo
                   known o value (b .state);
             }
 
-    tagged-after : (which : SheetTag) → sheetTag tag ≡ which → Fine s (suc k) (taggedStep which s at phase missing start stop x)
-    unfolding taggedStep
+    tagged-after : (which : SheetTag) → sheetTag tag ≡ which → Fine s (suc k) (takeTagged which s at phase missing start stop x)
+    unfolding takeTagged
     tagged-after Heading known = heading-after known
     tagged-after (Row t) known = choose (Fine s (suc k)) (rowsOpen phase t) (λ o. row-after t known o) (λ o. bad-refused at)
     tagged-after Unknown known = bad-refused at
@@ -201,8 +201,8 @@ module _ (s : List ℕ) (bytes : Bytes s) (exact : ExactSheet s) (k : ℕ) (belo
   field-after (fields.Bad place) e = bad-refused at
   field-after (fields.Field tag start stop) e = tagged-after tag start stop e (sheetTag tag) refl
 
-  step-after : Fine s (suc k) (stepAt s at phase missing x)
-  unfolding stepAt roomStep
+  step-after : Fine s (suc k) (takeField s at phase missing x)
+  unfolding takeField roomStep
   step-after = go (roomAt (sheetTag (getD s at 0)) x)
     where
       go : (r : Room) → Fine s (suc k) (roomStep r x (fieldStep (fieldAt s at (length s)) s at phase missing x))
@@ -229,8 +229,8 @@ module _ (s : List ℕ) (bytes : Bytes s) (exact : ExactSheet s) where
       choose (Same s) (eqb at (length s)) (λ e. end-same at phase missing x (b .state) (says-eq at (length s) .holds e)) (λ d q. absurd (bad-refused at q))
   from-same (suc n) k at phase missing x h b =
       choose (Same s) (eqb at (length s)) (λ e. end-same at phase missing x (b .state) (says-eq at (length s) .holds e))
-      (λ d. onward-same (readFrom n s) (λ at phase missing x. from-same n (suc k) at phase missing x (omega arith)) (stepAt s at phase missing x .turn)
-      (stepAt s at phase missing x .rows) (step-after s bytes exact k (omega arith) at phase missing x b))
+      (λ d. onward-same (readFrom n s) (λ at phase missing x. from-same n (suc k) at phase missing x (omega arith)) (takeField s at phase missing x .turn)
+      (takeField s at phase missing x .rows) (step-after s bytes exact k (omega arith) at phase missing x b))
     where
       onward-same : (rest : ℕ → Phase → Bool → Rows → SheetOut)
           → ((at : ℕ) (phase : Phase) (missing : Bool) (x : Rows) → Between s (suc k) at phase missing x → Same s (rest at phase missing x))

@@ -94,26 +94,28 @@ loop-again c =
     let c₃ = c₂ .before .before in
     let c₄ = c₃ .before .before in
     let start = c₄ .before .before .before .before .before .before .before .before .before .before .before .before .before .before .before .before in
-    let script = start .args .script .now in (
+    let script = start .args .script .now in
+    let kept = c₁ .play-step .kept .1 .1 in
+    let last = kept .1 .1 in (
       (subst (λ (x : Turn). Within script (c₄ .loop .at) x) (c₂ .turn .given .1) (c₃ .read-turn .ensures .1)) .1,
       subst (AtMost longest)
           (sym (c₁ .play-step .ensures .0))
           (after-at-most script (c₂ .turn .given .0 .0) (c₄ .loop .lengths)
           ((subst (λ (x : Turn). Within script (c₄ .loop .at) x) (c₂ .turn .given .1) (c₃ .read-turn .ensures .1)) .2) (c₄ .loop .inv .1)),
       record {
-        attributes = omega (arith, c₁ .play-step .kept .1 .1 .0, c₄ .loop .inv .2 .attributes);
+        attributes = omega (arith, kept .0, c₄ .loop .inv .2 .attributes);
         classes = omega
-            (arith, c₁ .play-step .kept .1 .1 .1 .0, c₄ .loop .inv .2 .classes);
+            (arith, kept .1 .0, c₄ .loop .inv .2 .classes);
         closure = omega
-            (arith, c₁ .play-step .kept .1 .1 .1 .1 .0, c₄ .loop .inv .2 .closure);
+            (arith, last .0, c₄ .loop .inv .2 .closure);
         output = omega
-            (arith, c₁ .play-step .kept .1 .1 .1 .1 .1 .0, c₄ .loop .inv .2 .output);
+            (arith, last .1 .0, c₄ .loop .inv .2 .output);
       },
       record {
-        attributes = c₁ .play-step .kept .1 .1 .0 ∙ c₄ .loop .inv .3 .attributes;
-        classes = c₁ .play-step .kept .1 .1 .1 .0 ∙ c₄ .loop .inv .3 .classes;
-        closure = c₁ .play-step .kept .1 .1 .1 .1 .0 ∙ c₄ .loop .inv .3 .closure;
-        output = c₁ .play-step .kept .1 .1 .1 .1 .1 .0 ∙
+        attributes = kept .0 ∙ c₄ .loop .inv .3 .attributes;
+        classes = kept .1 .0 ∙ c₄ .loop .inv .3 .classes;
+        closure = last .0 ∙ c₄ .loop .inv .3 .closure;
+        output = last .1 .0 ∙
             c₄ .loop .inv .3 .output;
       },
     )

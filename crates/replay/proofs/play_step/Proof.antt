@@ -29,16 +29,18 @@ say-requires : tie.Need-say-requires
 say-requires c κs =
     let c₁ = c .before .before .before .before in
     let c₂ = c₁ .before .before .before .before .before .before .before .before .before in
-    let start = c₂ .before .before .before .before .before .before .before .before .before .before in (
+    let start = c₂ .before .before .before .before .before .before .before .before .before .before in
+    let kept = c₂ .take-step .kept .1 .1 in
+    let last = kept .1 .1 in (
       let m : AtMost longest (c₁ .lengths-after .result) = subst (AtMost longest) (sym (c₁ .lengths-after .ensures))
           (after-at-most (start .args .script .now) (start .args .step) (start .args .lengths) (start .pre .0 .1) (start .pre .0 .0)) in record {
-            attributes = omega (arith, m .attributes, start .pre .1 .0, c₂ .take-step .kept .1 .1 .0);
+            attributes = omega (arith, m .attributes, start .pre .1 .0, kept .0);
             classes = omega
-                (arith, m .classes, start .pre .1 .1, c₂ .take-step .kept .1 .1 .1 .0);
+                (arith, m .classes, start .pre .1 .1, kept .1 .0);
             closure = omega
-                (arith, m .closure, start .pre .1 .2, c₂ .take-step .kept .1 .1 .1 .1 .0);
+                (arith, m .closure, start .pre .1 .2, last .0);
           },
-      (start .pre .0 .1, omega (arith, c₂ .take-step .kept .1 .1 .1 .1 .1 .0, start .pre .1 .3)),
+      (start .pre .0 .1, omega (arith, last .1 .0, start .pre .1 .3)),
     )
 
 same-length : tie.Need-same-length

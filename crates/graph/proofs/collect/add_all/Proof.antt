@@ -42,9 +42,10 @@ loop-again : tie.Need-loop-again Inv-loop μ-loop
 loop-again c =
     let c₁ = c .before .before in
     let c₂ = c₁ .before .before .before in
-    let start = c₂ .before .before .before .before in (
+    let start = c₂ .before .before .before .before in
+    let kept = c₁ .add-chosen .kept .1 .1 in (
       search needs,
-      c₁ .add-chosen .kept .1 .1 .1 .1 .0 ∙ c₂ .loop .inv .1,
+      kept .1 .1 .0 ∙ c₂ .loop .inv .1,
       add-more (tableIn Classes (start .args .classes .now))
           (member (start .args .chosen .bits)) (start .args .at) (c₂ .loop .k) (start .args .out .now) (c₂ .loop .out) _ (c₂ .loop .inv .2)
           (c₁ .add-chosen .ensures),

@@ -42,7 +42,7 @@ abbrev μ-visit : Measures 1 visit-kinds.ps ℕ
 μ-visit κs a = unvisitedCount (a .1 .1 .0 .bits) * 256
 
 abbrev μ-walk : Measures 1 walk-kinds.ps ℕ
-μ-walk κs a = unvisitedCount (a .1 .1 .1 .0 .bits) * 256 + (128 - a .1 .1 .0)
+μ-walk κs a = let from = a .1 .1 in unvisitedCount (from .1 .0 .bits) * 256 + (128 - from .0)
 
 abbrev visit-at : ℕ → In 1 visit-kinds.ps
 visit-at t = and 1 visit-kinds.ps (is 1 visit-kinds.ps μ-visit t) visit.Pre

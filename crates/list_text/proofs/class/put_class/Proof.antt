@@ -109,9 +109,8 @@ put-byte-requires c κs =
 
 kept-count-requires : tie.Need-kept-count-requires
 kept-count-requires c κs =
-    let start =
-    c .before .before .before .before .before .before .before .before .before .before .before .before .before .before .before .before .before .before .before .before .before
-    in
+    let c₁ = c .before .before .before .before .before .before .before .before .before .before .before in
+    let start = c₁ .before .before .before .before .before .before .before .before .before .before in
     (start .pre .0 .closureLong, start .pre .0 .below, omega arith)
 
 put-number-requires-2 : tie.Need-put-number-requires-2
@@ -148,9 +147,8 @@ put-number-requires-2 c κs =
 
 kept-count-requires-2 : tie.Need-kept-count-requires-2
 kept-count-requires-2 c κs =
-    let start =
-    c .before .before .before .before .before .before .before .before .before .before .before .before .before .before .before .before .before .before .before .before .before .before .before .before .before .before
-    in
+    let c₁ = c .before .before .before .before .before .before .before .before .before .before .before .before .before in
+    let start = c₁ .before .before .before .before .before .before .before .before .before .before .before .before .before in
     (start .pre .0 .closureLong, start .pre .0 .below, omega arith)
 
 put-number-requires-3 : tie.Need-put-number-requires-3

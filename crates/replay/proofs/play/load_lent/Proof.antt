@@ -47,10 +47,11 @@ returns : tie.Need-returns
 returns c =
     let c₁ = c .before .before .before .before .before .before in
     let start = c₁ .before .before .before .before .before .before .before .before in
+    let kept = c₁ .load .kept .1 in
     load-back (start .args .sheet .now) (start .args .lengths) _ (c₁ .load .result) _ _ _ (c₁ .load .ensures)
-    (c₁ .load .kept .1 .0 ∙ front-length (start .args .lengths .attributes) (start .args .attributes .now) (start .pre .attributes))
-    (c₁ .load .kept .1 .1 .0 ∙ front-length (start .args .lengths .classes) (start .args .classes .now) (start .pre .classes))
-    (c₁ .load .kept .1 .1 .1 .0 ∙ front-length (start .args .lengths .closure) (start .args .closure .now) (start .pre .closure))
+    (kept .0 ∙ front-length (start .args .lengths .attributes) (start .args .attributes .now) (start .pre .attributes))
+    (kept .1 .0 ∙ front-length (start .args .lengths .classes) (start .args .classes .now) (start .pre .classes))
+    (kept .1 .1 .0 ∙ front-length (start .args .lengths .closure) (start .args .closure .now) (start .pre .closure))
 
 pub load-lent-spec : {M : Type 1} → statement M
 load-lent-spec =

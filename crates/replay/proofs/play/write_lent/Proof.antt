@@ -39,10 +39,12 @@ returns c =
     let c₄ = c₃ .before in
     let c₅ = c₄ .before .before .before in
     let start = c₅ .before .before .before .before .before .before in
+    let last = c₁ .write .last .1 .1 in
+    let kept = c₁ .write .kept .1 .1 in
     write-back (start .args .lengths) (stores (start .args .attributes .now) (start .args .classes .now) (start .args .closure .now)) (start .args .n)
-    (start .args .output .now) (c₅ .lengthen .last .0) (c₁ .write .last .1 .1 .1 .0) (c₁ .write .result)
+    (start .args .output .now) (c₅ .lengthen .last .0) (last .1 .0) (c₁ .write .result)
     (stores (c₄ .part-of .result .now) (c₃ .part-of2 .result .now) (c₂ .part-of3 .result .now)) (start .pre .1) (c₅ .lengthen .ensures)
-    (rw (c₄ .part-of .ensures, c₃ .part-of2 .ensures, c₂ .part-of3 .ensures)) (c₁ .write .ensures) (c₁ .write .kept .1 .1 .1 .0)
+    (rw (c₄ .part-of .ensures, c₃ .part-of2 .ensures, c₂ .part-of3 .ensures)) (c₁ .write .ensures) (kept .1 .0)
 
 pub write-lent-spec : {M : Type 1} → statement M
 write-lent-spec =

@@ -1,8 +1,7 @@
 use mathlib.Core.Path.{_∙_, sym}
-use Prim.Native.Nat.{zero-le}
 use lib.ListN.{List·getD-eq-default}
 use Rattle.rows_format.specs.Formats.{attributeColumns, noColumn}
-use Rattle.rows_format.proofs.Arms.{past}
+use Rattle.prelude.specs.UnlikeLaws.{unlike-past}
 use borrow.Author.Needs.{needs}
 use Rattle.rows_format.proofs.format.attribute_column.Statement.{statement}
 use Rattle.rows_format.proofs.format.attribute_column.Tie as tie
@@ -100,14 +99,9 @@ returns-9 : tie.Need-returns-9
 unfolding attributeColumns
 returns-9 c =
     let c₁ = c .before in
-    let n = c₁ .match .rest in c .no-column .ensures ∙ sym
-    (List·getD-eq-default attributeColumns noColumn
-    (past 7 _
-    (past 6 _ (past 5 _
-    (past 4 _ (past 3 _ (past 2 _ (past 1 _ (past 0 _ zero-le (n .0 .0 .0 .0 .0 .0 .0 .1)) (n .0 .0 .0 .0 .0 .0 .1)) (n .0 .0 .0 .0 .0 .1))
-    (n .0 .0 .0 .0 .1)) (n .0 .0 .0 .1))
-    (n .0 .0 .1)) (n .0 .1))
-    (n .1)))
+    let n = c₁ .match .rest in
+    c .no-column .ensures ∙ sym
+    (List·getD-eq-default attributeColumns noColumn (unlike-past _ 8 n))
 
 pub attribute-column-spec : {M : Type 1} → statement M
 attribute-column-spec =

@@ -1,8 +1,7 @@
 use mathlib.Core.Path.{_∙_, sym}
-use Prim.Native.Nat.{zero-le}
 use lib.ListN.{List·getD-eq-default}
 use Rattle.rows_format.specs.Formats.{classColumns, noColumn}
-use Rattle.rows_format.proofs.Arms.{past}
+use Rattle.prelude.specs.UnlikeLaws.{unlike-past}
 use borrow.Author.Needs.{needs}
 use Rattle.rows_format.proofs.format.class_column.Statement.{statement}
 use Rattle.rows_format.proofs.format.class_column.Tie as tie
@@ -84,17 +83,9 @@ returns-11 : tie.Need-returns-11
 unfolding classColumns
 returns-11 c =
     let c₁ = c .before in
-    let n = c₁ .match .rest in c .no-column .ensures ∙ sym
-    (List·getD-eq-default classColumns noColumn
-    (past 9 _
-    (past 8 _ (past 7 _
-    (past 6 _ (past 5 _
-    (past 4 _ (past 3 _
-    (past 2 _ (past 1 _ (past 0 _ zero-le (n .0 .0 .0 .0 .0 .0 .0 .0 .0 .1)) (n .0 .0 .0 .0 .0 .0 .0 .0 .1)) (n .0 .0 .0 .0 .0 .0 .0 .1))
-    (n .0 .0 .0 .0 .0 .0 .1)) (n .0 .0 .0 .0 .0 .1))
-    (n .0 .0 .0 .0 .1)) (n .0 .0 .0 .1))
-    (n .0 .0 .1)) (n .0 .1))
-    (n .1)))
+    let n = c₁ .match .rest in
+    c .no-column .ensures ∙ sym
+    (List·getD-eq-default classColumns noColumn (unlike-past _ 10 n))
 
 pub class-column-spec : {M : Type 1} → statement M
 class-column-spec =

@@ -1,8 +1,7 @@
 use mathlib.Core.Path.{_∙_, sym}
-use Prim.Native.Nat.{zero-le}
 use lib.ListN.{List·getD-eq-default}
 use Rattle.rows_format.specs.Formats.{commonColumns, noColumn}
-use Rattle.rows_format.proofs.Arms.{past}
+use Rattle.prelude.specs.UnlikeLaws.{unlike-past}
 use borrow.Author.Needs.{needs}
 use Rattle.rows_format.proofs.format.common_column.Statement.{statement}
 use Rattle.rows_format.proofs.format.common_column.Tie as tie
@@ -59,9 +58,9 @@ unfolding commonColumns
 returns-6 c =
     let c₁ = c .before in
     let start = c₁ .before in
-    let n = c₁ .match .rest in c .no-column .ensures ∙ sym
-    (List·getD-eq-default (commonColumns (start .args .defunct)) noColumn
-    (past 4 _ (past 3 _ (past 2 _ (past 1 _ (past 0 _ zero-le (n .0 .0 .0 .0 .1)) (n .0 .0 .0 .1)) (n .0 .0 .1)) (n .0 .1)) (n .1)))
+    let n = c₁ .match .rest in
+    c .no-column .ensures ∙ sym
+    (List·getD-eq-default (commonColumns (start .args .defunct)) noColumn (unlike-past _ 5 n))
 
 pub common-column-spec : {M : Type 1} → statement M
 common-column-spec =

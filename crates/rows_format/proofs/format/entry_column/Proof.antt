@@ -1,8 +1,7 @@
 use mathlib.Core.Path.{_∙_, sym}
-use Prim.Native.Nat.{zero-le}
 use lib.ListN.{List·getD-eq-default}
 use Rattle.rows_format.specs.Formats.{entryColumns, noColumn}
-use Rattle.rows_format.proofs.Arms.{past}
+use Rattle.prelude.specs.UnlikeLaws.{unlike-past}
 use borrow.Author.Needs.{needs}
 use Rattle.rows_format.proofs.format.entry_column.Statement.{statement}
 use Rattle.rows_format.proofs.format.entry_column.Tie as tie
@@ -48,7 +47,7 @@ unfolding entryColumns
 returns-4 c =
     let c₁ = c .before in
     let n = c₁ .match .rest in c .no-column .ensures ∙ sym
-    (List·getD-eq-default entryColumns noColumn (past 2 _ (past 1 _ (past 0 _ zero-le (n .0 .0 .1)) (n .0 .1)) (n .1)))
+    (List·getD-eq-default entryColumns noColumn (unlike-past _ 3 n))
 
 pub entry-column-spec : {M : Type 1} → statement M
 entry-column-spec =

@@ -1,8 +1,7 @@
 use mathlib.Core.Path.{_∙_, sym}
-use Prim.Native.Nat.{zero-le}
 use lib.ListN.{List·getD-eq-default}
 use Rattle.rows_format.specs.Formats.{nameColumns, noColumn}
-use Rattle.rows_format.proofs.Arms.{past}
+use Rattle.prelude.specs.UnlikeLaws.{unlike-past}
 use borrow.Author.Needs.{needs}
 use Rattle.rows_format.proofs.format.name_column.Statement.{statement}
 use Rattle.rows_format.proofs.format.name_column.Tie as tie
@@ -34,7 +33,7 @@ returns-3 : tie.Need-returns-3
 unfolding nameColumns
 returns-3 c =
     let c₁ = c .before in
-    let n = c₁ .match .rest in c .no-column .ensures ∙ sym (List·getD-eq-default nameColumns noColumn (past 1 _ (past 0 _ zero-le (n .0 .1)) (n .1)))
+    let n = c₁ .match .rest in c .no-column .ensures ∙ sym (List·getD-eq-default nameColumns noColumn (unlike-past _ 2 n))
 
 pub name-column-spec : {M : Type 1} → statement M
 name-column-spec =

@@ -1,8 +1,7 @@
 use mathlib.Core.Path.{_∙_, sym}
-use Prim.Native.Nat.{zero-le}
 use lib.ListN.{List·getD-eq-default}
 use Rattle.rows_format.specs.Formats.{targetColumns, noColumn}
-use Rattle.rows_format.proofs.Arms.{past}
+use Rattle.prelude.specs.UnlikeLaws.{unlike-past}
 use borrow.Author.Needs.{needs}
 use Rattle.rows_format.proofs.format.target_column.Statement.{statement}
 use Rattle.rows_format.proofs.format.target_column.Tie as tie
@@ -25,7 +24,7 @@ returns c =
 
 returns-2 : tie.Need-returns-2
 unfolding targetColumns
-returns-2 c = let n = c .before .match .rest in c .no-column .ensures ∙ sym (List·getD-eq-default targetColumns noColumn (past 0 _ zero-le (n .1)))
+returns-2 c = let n = c .before .match .rest in c .no-column .ensures ∙ sym (List·getD-eq-default targetColumns noColumn (unlike-past _ 1 n))
 
 pub target-column-spec : {M : Type 1} → statement M
 target-column-spec =

@@ -57,7 +57,8 @@ same-length : tie.Need-same-length Inv-loop μ-loop
 same-length c =
     let c₁ = c .before .before .before .before in
     let c₂ = c₁ .before .before .before .before in
-    c₁ .take-field .kept .1 .1 .1 .1 .1 .0 ∙ c₂ .loop .inv .long
+    let kept = c₁ .take-field .kept .1 .1 .1 in
+    kept .1 .1 .0 ∙ c₂ .loop .inv .long
 
 returns : tie.Need-returns Inv-loop μ-loop
 returns c =
@@ -90,7 +91,7 @@ loop-again c =
       few = omega arith;
       within = took-within _ _ _ _ _ (c₂ .take-field .ensures .0) (c₁ .next .given .1) (c₅ .loop .inv .within);
       long =
-          c₂ .take-field .kept .1 .1 .1 .1 .1 .0 ∙ c₅ .loop .inv .long;
+          (let kept = c₂ .take-field .kept .1 .1 .1 in kept .1 .1 .0) ∙ c₅ .loop .inv .long;
       same = sym
           (read-next (columnsOf (start .args .format)) noColumn (start .args .s .now) (start .args .end) (c₅ .loop .i) (c₅ .loop .at) (c₅ .loop .missing)
           (c₅ .loop .row) (omega (arith, c₆ .column-count .ensures, c₄ .loop-test .taken)) (c₃ .column-of .ensures) (c₂ .take-field .ensures)

@@ -1,8 +1,7 @@
 use native.Mathlib.Omega.{arith}
 use borrow.Author.Needs.{needs}
 use borrow.Author.Tests.{eq-eqb, ne-eqb, lt-leb, le-leb, leb-true}
-use Rattle.rows_format.specs.Encodings.{accepts}
-use Rattle.rows_format.specs.EncodingsLaws.{sound}
+use Rattle.rows_format.specs.Encodings.{accepts, sound}
 use Rattle.rows_read.proofs.value.accepts.Statement.{statement}
 use Rattle.rows_read.proofs.value.accepts.Tie as tie
 

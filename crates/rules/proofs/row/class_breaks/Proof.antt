@@ -1,5 +1,6 @@
 use Rattle.rules.specs.Rules.{Rule, numbered, schemaRules, commonNumbers}
-use Rattle.rules.specs.RulesLaws.{among, strays, numbered-unlike}
+use Rattle.prelude.specs.Unlike.{among}
+use Rattle.rules.specs.RulesLaws.{strays, numbered-unlike}
 use Rattle.tables.specs.ShapedLaws.{shaped-wide}
 use Rattle.schema.specs.Store.{schemaIn}
 use Rattle.schema.specs.declared.number.TableId.the-variants.{Attributes, Classes}

@@ -49,9 +49,14 @@ part-push-row-start c = search needs
 
 part-push-row-end : tie.Need-part-push-row-end
 part-push-row-end c =
-    let c₁ = c .before .before .before .before .before .before in let c₂ = c₁ .before .before in let start = c₂ .before .before .before .before in let
-    scratch = start .args .scratch .now in front-room (start .args .table) (c₂ .row-width .result) scratch (c₂ .row-width .ensures) (start .pre .0 .2)
-    (c₁ .read-row .last .1 .1 .1 .1 .0) (c₁ .read-row .kept .1 .1 .1 .1 .0) (drop (c₂ .row-width .result - 0) scratch)
+    let c₁ = c .before .before .before .before .before .before in
+    let c₂ = c₁ .before .before in
+    let start = c₂ .before .before .before .before in
+    let scratch = start .args .scratch .now in
+    let last = c₁ .read-row .last .1 .1 in
+    let kept = c₁ .read-row .kept .1 .1 in
+    front-room (start .args .table) (c₂ .row-width .result) scratch (c₂ .row-width .ensures) (start .pre .0 .2) (last .1 .1 .0) (kept .1 .1 .0)
+    (drop (c₂ .row-width .result - 0) scratch)
 
 push-row-requires : tie.Need-push-row-requires
 push-row-requires c κs = search needs
@@ -66,11 +71,11 @@ returns : tie.Need-returns
 returns c =
     let c₁ = c .before .before in let c₂ = c₁ .before .before .before .before in let c₃ = c₂ .before in let c₄ = c₃ .before .before .before in let c₅
     = c₄ .before .before in let start′ = c₅ .before .before .before .before in let table = start′ .args .table in let scratch =
-    start′ .args .scratch .now in let x = c₄ .read-row .last .1 .1 .1 .1 .0 in read-in-yes table (start′ .args .s .now) (start′ .args .start)
+    start′ .args .scratch .now in let last = c₄ .read-row .last .1 .1 in let kept = c₄ .read-row .kept .1 .1 in let x = last .1 .1 .0 in read-in-yes table (start′ .args .s .now) (start′ .args .start)
     (start′ .args .stop) (c₅ .row-width .result) scratch (c₅ .row-width .ensures) (start′ .pre .0 .2) (c₄ .read-row .result) x
     (c₄ .read-row .ensures .0) (c₄ .read-row .ensures .1) _ (c₃ .is-read .ensures) (c₂ .if1 .taken) (start′ .args .store .now) _
     (c₁ .push-row .last .1 .0)
-    (front-back table (c₅ .row-width .result) scratch (c₅ .row-width .ensures) (start′ .pre .0 .2) x (c₄ .read-row .kept .1 .1 .1 .1 .0)
+    (front-back table (c₅ .row-width .result) scratch (c₅ .row-width .ensures) (start′ .pre .0 .2) x (kept .1 .1 .0)
     (drop (c₅ .row-width .result - 0) scratch))
     (c₁ .push-row .ensures)
 
@@ -81,7 +86,7 @@ returns-2 : tie.Need-returns-2
 returns-2 c =
     let c₁ = c .before in let c₂ = c₁ .before .before .before in let c₃ = c₂ .before .before in let start′ = c₃ .before .before .before .before in
     read-in-no (start′ .args .table) (start′ .args .s .now) (start′ .args .start) (start′ .args .stop) (c₃ .row-width .result)
-    (start′ .args .scratch .now) (c₃ .row-width .ensures) (start′ .pre .0 .2) (c₂ .read-row .result) (c₂ .read-row .last .1 .1 .1 .1 .0)
+    (start′ .args .scratch .now) (c₃ .row-width .ensures) (start′ .pre .0 .2) (c₂ .read-row .result) (let last = c₂ .read-row .last .1 .1 in last .1 .1 .0)
     (c₂ .read-row .ensures .0) (c₂ .read-row .ensures .1) _ (c₁ .is-read .ensures) (c .if1 .left) (start′ .args .store .now)
 
 pub read-into-spec : {M : Type 1} → statement M

@@ -60,13 +60,19 @@ stopped-requires c κs = search needs
 
 same-length : tie.Need-same-length Inv-loop μ-loop
 same-length c =
-    let c₁ = c .before .before .before .before .before .before .before in let c₂ = c₁ .before .before .before .before in let c₃ =
-    c₂ .before .before .before .before .before .before .before .before in c₁ .take-field .kept .1 .1 .1 .1 .0 ∙ c₂ .loop .inv .1 ∙ c₃ .empty .kept .0
+    let c₁ = c .before .before .before .before .before .before .before in
+    let c₂ = c₁ .before .before .before .before in
+    let c₃ = c₂ .before .before .before .before .before .before .before .before in
+    let kept = c₁ .take-field .kept .1 .1 in
+    kept .1 .1 .0 ∙ c₂ .loop .inv .1 ∙ c₃ .empty .kept .0
 
 same-length-2 : tie.Need-same-length-2 Inv-loop μ-loop
 same-length-2 c =
-    let c₁ = c .before .before .before .before .before .before .before in let c₂ = c₁ .before .before .before .before in let c₃ =
-    c₂ .before .before .before in c₁ .take-field .kept .1 .1 .1 .1 .1 .0 ∙ c₂ .loop .inv .2 ∙ c₃ .empty2 .kept .0
+    let c₁ = c .before .before .before .before .before .before .before in
+    let c₂ = c₁ .before .before .before .before in
+    let c₃ = c₂ .before .before .before in
+    let kept = c₁ .take-field .kept .1 .1 .1 in
+    kept .1 .1 .0 ∙ c₂ .loop .inv .2 ∙ c₃ .empty2 .kept .0
 
 returns : tie.Need-returns Inv-loop μ-loop
 returns c =
@@ -86,11 +92,12 @@ loop-less c =
 
 loop-again : tie.Need-loop-again Inv-loop μ-loop
 loop-again c =
-    let c₁ = c .before in let c₂ = c₁ .before .before .before .before .before .before in let c₃ = c₂ .before .before .before in let c₄ = c₃ .before in (
+    let c₁ = c .before in let c₂ = c₁ .before .before .before .before .before .before in let c₃ = c₂ .before .before .before in let c₄ = c₃ .before in
+    let kept = c₂ .take-field .kept .1 .1 .1 in (
       reading-on (c₄ .loop .inv .0) (c₃ .loop-test .taken) _ _ _ (c₂ .take-field .ensures) _ _ _ (c₁ .turn .given .1)
-          (c₂ .take-field .kept .1 .1 .1 .1 .0) (c₂ .take-field .kept .1 .1 .1 .1 .1 .0),
-      c₂ .take-field .kept .1 .1 .1 .1 .0 ∙ c₄ .loop .inv .1,
-      c₂ .take-field .kept .1 .1 .1 .1 .1 .0 ∙ c₄ .loop .inv .2,
+          (kept .1 .0) (kept .1 .1 .0),
+      kept .1 .0 ∙ c₄ .loop .inv .1,
+      kept .1 .1 .0 ∙ c₄ .loop .inv .2,
     )
 
 same-length-3 : tie.Need-same-length-3 Inv-loop μ-loop

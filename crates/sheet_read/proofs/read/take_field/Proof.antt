@@ -3,7 +3,7 @@ use mathlib.Core.Path.{_≡_, sym, ap, _∙_}
 use Prim.Native.Nat.{ℕ}
 use lib.ListN.{length}
 use Rattle.wire.specs.WireLaws.{field-is}
-use Rattle.sheet_read.specs.Reading.{step, sheetTag, taggedStep, stepAt}
+use Rattle.sheet_read.specs.Reading.{step, sheetTag, takeTagged, takeField}
 use Rattle.sheet_read.proofs.Steps.{as-step, same-step, step-full, step-whole, step-cut, free-room, no-field}
 use native.Mathlib.Omega.{arith}
 use borrow.Author.Needs.{needs}
@@ -38,7 +38,7 @@ returns : tie.Need-returns
 returns c =
     let c₁ = c .before in let c₂ = c₁ .before .before in let c₃ = c₂ .before .before .before in let c₄ = c₃ .before in let start =
     c₄ .before .before .before .before in let s = start .args .s .now in let at = start .args .at in let phase = start .args .phase in let missing =
-    start .args .missing in as-step (stepAt s at phase missing) _ (start .args .attributes .now) (start .args .classes .now)
+    start .args .missing in as-step (takeField s at phase missing) _ (start .args .attributes .now) (start .args .classes .now)
     (λ x a c′ h. ap (λ turn. step turn x) (c .room-turn .ensures) ∙ step-full s at phase missing h _
     (c₃ .sheet-tag .ensures ∙ ap sheetTag (c₄ .byte-at .ensures)) _ (c₂ .room-in .ensures)
     (λ q. (let e = c₁ .enum-told2 .given .1 in let no : _≡_ {A = ℕ} 0 1 = cc in omega arith)))
@@ -59,7 +59,7 @@ returns-2 : tie.Need-returns-2
 returns-2 c =
     let c₁ = c .before in let c₂ = c₁ .before in let c₃ = c₂ .before .before in let c₄ = c₃ .before .before .before in let c₅ = c₄ .before in let
     start = c₅ .before .before .before .before in let s = start .args .s .now in let at = start .args .at in let phase = start .args .phase in let
-    missing = start .args .missing in as-step (stepAt s at phase missing) _ (start .args .attributes .now) (start .args .classes .now)
+    missing = start .args .missing in as-step (takeField s at phase missing) _ (start .args .attributes .now) (start .args .classes .now)
     (λ x a c′ h. step-cut s at phase missing h _ (c₄ .sheet-tag .ensures ∙ ap sheetTag (c₅ .byte-at .ensures)) _ (c₃ .room-in .ensures)
     (c₂ .enum-told .given .1) _ (c₁ .field-at .ensures) (no-field _ (c .match2 .keys2)))
 
@@ -93,9 +93,9 @@ returns-3 c =
     let c₁ = c .before .before .before .before in let c₂ = c₁ .before .before .before in let c₃ = c₂ .before .before in let c₄ = c₃ .before .before in
     let c₅ = c₄ .before in let c₆ = c₅ .before .before in let c₇ = c₆ .before .before .before in let c₈ = c₇ .before in let start =
     c₈ .before .before .before .before in let s = start .args .s .now in let at = start .args .at in let phase = start .args .phase in let missing =
-    start .args .missing in let x′ = c₃ .tag .given .0 .1 .1 .0 in same-step
-    (taggedStep (c₂ .sheet-tag2 .result) s at phase missing (c₃ .tag .given .0 .1 .0) x′) (stepAt s at phase missing)
-    (λ x a c′ h. ap (λ tag. taggedStep tag s at phase missing (c₃ .tag .given .0 .1 .0) x′ x) (c₂ .sheet-tag2 .ensures) ∙ step-whole s at phase
+    start .args .missing in let told = c₃ .tag .given .0 .1 in let x′ = told .1 .0 in same-step
+    (takeTagged (c₂ .sheet-tag2 .result) s at phase missing (c₃ .tag .given .0 .1 .0) x′) (takeField s at phase missing)
+    (λ x a c′ h. ap (λ tag. takeTagged tag s at phase missing (c₃ .tag .given .0 .1 .0) x′ x) (c₂ .sheet-tag2 .ensures) ∙ step-whole s at phase
     missing h _ (c₇ .sheet-tag .ensures ∙ ap sheetTag (c₈ .byte-at .ensures)) _ (c₆ .room-in .ensures) (c₅ .enum-told .given .1) _ _ _ _
     (c₄ .field-at .ensures) (c₃ .tag .given .1))
     (c₁ .take-tagged .ensures)

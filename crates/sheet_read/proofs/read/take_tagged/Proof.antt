@@ -1,5 +1,5 @@
 use mathlib.Core.Path.{sym, ap, _∙_}
-use Rattle.sheet_read.specs.Reading.{Rows, step, rowStep, taggedStep}
+use Rattle.sheet_read.specs.Reading.{Rows, step, takeTableRow, takeTagged}
 use Rattle.sheet_read.proofs.Steps.{as-step, same-step, tagged-heading, tagged-row, tagged-late, tagged-unknown}
 use native.Mathlib.Omega.{arith}
 use borrow.Author.Needs.{needs}
@@ -30,7 +30,7 @@ returns : tie.Need-returns
 returns c =
     let c₁ = c .before in let start′ = c₁ .before .before .before .before .before in let tag = start′ .args .tag in let s = start′ .args .s .now in
     let at = start′ .args .at in let phase = start′ .args .phase in let missing = start′ .args .missing in let start = start′ .args .start in let stop
-    = start′ .args .stop in as-step (taggedStep tag s at phase missing start stop) _ (start′ .args .attributes .now) (start′ .args .classes .now)
+    = start′ .args .stop in as-step (takeTagged tag s at phase missing start stop) _ (start′ .args .attributes .now) (start′ .args .classes .now)
     (λ x a c′ h. ap (λ turn. step turn x) (c .take-heading .ensures) ∙ tagged-heading s at phase missing start stop tag x (c₁ .enum-told .given .1))
 
 same-length : tie.Need-same-length
@@ -44,7 +44,7 @@ returns-2 c =
     let c₁ = c .before .before .before .before in let c₂ = c₁ .before .before .before in let c₃ = c₂ .before in let c₄ = c₃ .before .before in let
     start′ = c₄ .before .before .before .before .before in let s = start′ .args .s .now in let start = start′ .args .start in let stop =
     start′ .args .stop in let missing = start′ .args .missing in let tag = start′ .args .tag in let at = start′ .args .at in let phase =
-    start′ .args .phase in same-step (rowStep (c₄ .tag .given .0 .0) s start stop missing) (taggedStep tag s at phase missing start stop)
+    start′ .args .phase in same-step (takeTableRow (c₄ .tag .given .0 .0) s start stop missing) (takeTagged tag s at phase missing start stop)
     (λ x a c′ h. tagged-row s at phase missing start stop tag x (c₄ .tag .given .0 .0) (c₄ .tag .given .1)
     (sym (c₃ .rows-open .ensures) ∙ c₂ .if1 .taken))
     (c₁ .take-table-row .ensures)
@@ -53,7 +53,7 @@ returns-3 : tie.Need-returns-3
 returns-3 c =
     let c₁ = c .before in let c₂ = c₁ .before .before in let start′ = c₂ .before .before .before .before .before in let tag = start′ .args .tag in let
     s = start′ .args .s .now in let at = start′ .args .at in let phase = start′ .args .phase in let missing = start′ .args .missing in let start =
-    start′ .args .start in let stop = start′ .args .stop in as-step (taggedStep tag s at phase missing start stop) _ (start′ .args .attributes .now)
+    start′ .args .start in let stop = start′ .args .stop in as-step (takeTagged tag s at phase missing start stop) _ (start′ .args .attributes .now)
     (start′ .args .classes .now)
     (λ x a c′ h. tagged-late s at phase missing start stop tag x (c₂ .tag .given .0 .0) (c₂ .tag .given .1)
     (sym (c₁ .rows-open .ensures) ∙ c .if1 .left))
@@ -63,7 +63,7 @@ returns-4 c =
     let c₁ = c .before .before .before .before .before in
     let start′ = c₁ in let tag = start′ .args .tag in let s = start′ .args .s .now in let at = start′ .args .at in let phase = start′ .args .phase in
     let missing = start′ .args .missing in let start = start′ .args .start in let stop = start′ .args .stop in as-step
-    (taggedStep tag s at phase missing start stop) _ (start′ .args .attributes .now) (start′ .args .classes .now)
+    (takeTagged tag s at phase missing start stop) _ (start′ .args .attributes .now) (start′ .args .classes .now)
     (λ x a c′ h. tagged-unknown s at phase missing start stop tag x (c .enum-told2 .given .1))
 
 pub take-tagged-spec : {M : Type 1} → statement M
