@@ -306,7 +306,8 @@ module _ (s : List ℕ) (at : ℕ) (phase : Phase) (missing : Bool) (start stop 
   unfolding takeTagged
   tagged-heading e = rw e
 
-  pub tagged-row : (t : TableId) → tag ≡ Row t → rowsOpen phase t ≡ true → takeTableRow t s start stop missing x ≡ takeTagged tag s at phase missing start stop x
+  pub tagged-row : (t : TableId) → tag ≡ Row t → rowsOpen phase t ≡ true
+      → takeTableRow t s start stop missing x ≡ takeTagged tag s at phase missing start stop x
   unfolding takeTagged
   tagged-row t e o = rw (e, o)
 

@@ -22,7 +22,9 @@ has-key-requires c κs = search needs
 
 returns : tie.Need-returns Inv-loop μ-loop
 returns c =
-    let c₁ = c .before in let start = c₁ .before .before .before in sym
+    let c₁ = c .before in
+    let start = c₁ .before .before .before in
+    sym
     (rival-none (start .args .key) (start .args .table) (start .args .store .now) (start .args .id) (start .args .own .now)
     (sym (c₁ .has-key .ensures) ∙ not-true _ (c .if1 .taken)))
 
@@ -37,16 +39,31 @@ row-id-requires c κs = search needs
 
 is-rival-requires : tie.Need-is-rival-requires Inv-loop μ-loop
 is-rival-requires c κs =
-    let c₁ = c .before in let c₂ = c₁ .before in let c₃ = c₂ .before in let start = c₃ .before .before .before .before .before in rival-asked
+    let c₁ = c .before in
+    let c₂ = c₁ .before in
+    let c₃ = c₂ .before in
+    let start = c₃ .before .before .before .before .before in
+    rival-asked
     (start .args .key) (start .args .table) (start .args .store .now) (start .args .id) (start .args .own .now) (c₂ .loop .j) (c .row-id .ensures)
     (start .pre .0) (start .pre .1) (omega (arith, c₁ .loop-test .taken, c₃ .row-count .ensures))
 
 returns-2 : tie.Need-returns-2 Inv-loop μ-loop
 unfolding rivalIn
 returns-2 c =
-    let c₁ = c .before in let c₂ = c₁ .before in let c₃ = c₂ .before in let c₄ = c₃ .before in let c₅ = c₄ .before in let c₆ = c₅ .before in let c₇ =
-    c₆ .before in let start = c₇ .before .before .before in let key = start .args .key in let table = start .args .table in let store =
-    start .args .store .now in let id = start .args .id in let own = start .args .own .now in rw
+    let c₁ = c .before in
+    let c₂ = c₁ .before in
+    let c₃ = c₂ .before in
+    let c₄ = c₃ .before in
+    let c₅ = c₄ .before in
+    let c₆ = c₅ .before in
+    let c₇ = c₆ .before in
+    let start = c₇ .before .before .before in
+    let key = start .args .key in
+    let table = start .args .table in
+    let store = start .args .store .now in
+    let id = start .args .id in
+    let own = start .args .own .now in
+    rw
     (sym (c₇ .has-key .ensures) ∙ not-false _ (c₆ .if1 .left))
     (sym
     (any-here (rivalAt key table store id own) (c₄ .loop .j) _ (omega (arith, c₅ .row-count .ensures, c₃ .loop-test .taken))
@@ -60,9 +77,16 @@ loop-less c = search needs
 
 loop-again : tie.Need-loop-again Inv-loop μ-loop
 loop-again c =
-    let c₁ = c .before in let c₂ = c₁ .before in let c₃ = c₂ .before in let c₄ = c₃ .before in let start =
-    c₄ .before .before .before .before .before .before in let key = start .args .key in let table = start .args .table in let store =
-    start .args .store .now in let id = start .args .id in let own = start .args .own .now in (
+    let c₁ = c .before in
+    let c₂ = c₁ .before in
+    let c₃ = c₂ .before in
+    let c₄ = c₃ .before in
+    let start = c₄ .before .before .before .before .before .before in
+    let key = start .args .key in
+    let table = start .args .table in
+    let store = start .args .store .now in
+    let id = start .args .id in
+    let own = start .args .own .now in (
       omega (arith, c₃ .loop-test .taken),
       any-more (rivalAt key table store id own) (c₄ .loop .j) (c₄ .loop .inv .1)
           (sym (c₁ .is-rival .ensures ∙ rival-at key table store id own (c₄ .loop .j) (c₂ .row-id .ensures)) ∙ c .if2 .left),
@@ -71,7 +95,12 @@ loop-again c =
 returns-3 : tie.Need-returns-3 Inv-loop μ-loop
 unfolding rivalIn
 returns-3 c =
-    let c₁ = c .before in let c₂ = c₁ .before in let c₃ = c₂ .before in let c₄ = c₃ .before in let start = c₄ .before .before .before in rw
+    let c₁ = c .before in
+    let c₂ = c₁ .before in
+    let c₃ = c₂ .before in
+    let c₄ = c₃ .before in
+    let start = c₄ .before .before .before in
+    rw
     (sym (c₄ .has-key .ensures) ∙ not-false _ (c₃ .if1 .left))
     (sym
     (any-end (rivalAt (start .args .key) (start .args .table) (start .args .store .now) (start .args .id) (start .args .own .now)) (c₁ .loop .j) _

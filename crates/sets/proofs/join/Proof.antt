@@ -40,7 +40,10 @@ loop-again c =
     let c₁ = c .before in
     let c₂ = c₁ .before .before in
     let start = c₂ .before in
-    let l = c₂ .loop in let a = start .args .a .now in let b = start .args .b .now in let n : length (union a b) ≡ length a = union-length a b in let
+    let l = c₂ .loop in
+    let a = start .args .a .now in
+    let b = start .args .b .now in
+    let n : length (union a b) ≡ length a = union-length a b in let
     h : l .i < length a = omega arith in let later : getD (l .a) (l .i) 0 ≡ getD a (l .i) 0 = fill-later (union a b) a (l .i) (l .i) (l .a) n
     (omega arith) (l .inv) in let small : getD a (l .i) 0 < 256 = rw later at (c₁ .slice-known .given (l .i) .fits) in fill-more _ _ (l .i) _ _ n h
     (ap (λ (x : ℕ). bitOr x (getD b (l .i) 0)) later ∙ union-byte a b (l .i) h small (c .shared-slice-known .given (l .i) .fits)) (l .inv)

@@ -10,7 +10,8 @@ row-length-requires c κs = let start = c .before in row-columns (start .args .t
 
 add-result : tie.Need-add-result
 add-result c =
-    let start = c .before .before in omega (arith, c .row-length .ensures, written-short (Row (start .args .table)) (start .args .row .now))
+    let start = c .before .before in
+    omega (arith, c .row-length .ensures, written-short (Row (start .args .table)) (start .args .row .now))
 
 returns : tie.Need-returns
 returns c = let start = c .before .before in omega (arith, c .row-length .ensures, row-field-length (start .args .table) (start .args .row .now))

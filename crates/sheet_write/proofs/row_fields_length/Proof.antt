@@ -25,28 +25,48 @@ row-count-requires c κs = c .before .pre .long
 
 loop-holds : tie.Need-loop-holds Inv-loop μ-loop
 loop-holds c =
-    let start = c .before .before in let table = start .args .table in
+    let start = c .before .before in
+    let table = start .args .table in
     (omega arith, sym (ap length (concat-none (fieldOfRow table (tableIn table (start .args .store .now))))))
 
 row-id-requires : tie.Need-row-id-requires Inv-loop μ-loop
 row-id-requires c κs =
-    let c₁ = c .before .before in let start = c₁ .before .before in omega (arith, start .pre .few, c₁ .row-count .ensures, c .loop-test .taken)
+    let c₁ = c .before .before in
+    let start = c₁ .before .before in
+    omega (arith, start .pre .few, c₁ .row-count .ensures, c .loop-test .taken)
 
 row-requires : tie.Need-row-requires Inv-loop μ-loop
 row-requires c κs =
-    let c₁ = c .before in let c₂ = c₁ .before in let c₃ = c₂ .before in let start = c₃ .before .before in id-within (start .args .table) (c₂ .loop .k)
+    let c₁ = c .before in
+    let c₂ = c₁ .before in
+    let c₃ = c₂ .before in
+    let start = c₃ .before .before in
+    id-within (start .args .table) (c₂ .loop .k)
     (start .args .store .now) (c .row-id .ensures) (start .pre .long) (omega (arith, start .pre .few, c₃ .row-count .ensures, c₁ .loop-test .taken))
 
 row-field-length-requires : tie.Need-row-field-length-requires Inv-loop μ-loop
 row-field-length-requires c κs =
-    let c₁ = c .before in let c₂ = c₁ .before in let c₃ = c₂ .before in let c₄ = c₃ .before in let start = c₄ .before .before in let table =
-    start .args .table in let store = start .args .store .now in rw (c .row .ensures ∙ id-row table (c₃ .loop .k) store (c₁ .row-id .ensures))
+    let c₁ = c .before in
+    let c₂ = c₁ .before in
+    let c₃ = c₂ .before in
+    let c₄ = c₃ .before in
+    let start = c₄ .before .before in
+    let table = start .args .table in
+    let store = start .args .store .now in
+    rw (c .row .ensures ∙ id-row table (c₃ .loop .k) store (c₁ .row-id .ensures))
     (row-writable table store (c₃ .loop .k) (start .pre) (omega (arith, c₄ .row-count .ensures, c₂ .loop-test .taken)))
 
 add-total : tie.Need-add-total Inv-loop μ-loop
 add-total c =
-    let c₁ = c .before in let c₂ = c₁ .before in let c₃ = c₂ .before in let c₄ = c₃ .before in let c₅ = c₄ .before in let start = c₅ .before .before
-    in let table = start .args .table in let store = start .args .store .now in let f = fieldOfRow table (tableIn table store) in let e = ap
+    let c₁ = c .before in
+    let c₂ = c₁ .before in
+    let c₃ = c₂ .before in
+    let c₄ = c₃ .before in
+    let c₅ = c₄ .before in
+    let start = c₅ .before .before in
+    let table = start .args .table in
+    let store = start .args .store .now in
+    let f = fieldOfRow table (tableIn table store) in let e = ap
     (λ (x : List ℕ). length (rowField table x)) (c₁ .row .ensures ∙ id-row table (c₄ .loop .k) store (c₂ .row-id .ensures)) in omega (
       arith,
       concat-more-length f (c₄ .loop .k),
@@ -65,15 +85,25 @@ loop-less c = search needs
 
 loop-again : tie.Need-loop-again Inv-loop μ-loop
 loop-again c =
-    let c₁ = c .before in let c₂ = c₁ .before in let c₃ = c₂ .before in let c₄ = c₃ .before in let start = c₄ .before .before .before in let table =
-    start .args .table in let store = start .args .store .now in let f = fieldOfRow table (tableIn table store) in let e = ap
+    let c₁ = c .before in
+    let c₂ = c₁ .before in
+    let c₃ = c₂ .before in
+    let c₄ = c₃ .before in
+    let start = c₄ .before .before .before in
+    let table = start .args .table in
+    let store = start .args .store .now in
+    let f = fieldOfRow table (tableIn table store) in let e = ap
     (λ (x : List ℕ). length (rowField table x)) (c₁ .row .ensures ∙ id-row table (c₄ .loop .k) store (c₂ .row-id .ensures)) in
     (omega (arith, c₃ .loop-test .taken), omega (arith, concat-more-length f (c₄ .loop .k), e, c₄ .loop .inv .1, c .row-field-length .ensures))
 
 returns : tie.Need-returns Inv-loop μ-loop
 returns c =
-    let c₁ = c .before in let c₂ = c₁ .before in let start = c₂ .before .before in let table = start .args .table in let store =
-    start .args .store .now in let e : c₁ .loop .k ≡ tableIn table store .count = omega
+    let c₁ = c .before in
+    let c₂ = c₁ .before in
+    let start = c₂ .before .before in
+    let table = start .args .table in
+    let store = start .args .store .now in
+    let e : c₁ .loop .k ≡ tableIn table store .count = omega
     (arith, c₁ .loop .inv .0, c .loop-test .left, c₂ .row-count .ensures) in c₁ .loop .inv .1 ∙ sym
     (ap length (fields-all table (tableIn table store) e))
 

@@ -17,12 +17,16 @@ add-result c = search needs
 
 add-result-2 : tie.Need-add-result-2
 add-result-2 c =
-    let c₁ = c .before in let start = c₁ .before .before .before in omega
+    let c₁ = c .before in
+    let start = c₁ .before .before .before in
+    omega
     (arith, c₁ .row-fields-length .ensures, all-short Attributes (tableIn Attributes (start .args .attributes .now)) (start .pre .0 .few))
 
 add-result-3 : tie.Need-add-result-3
 add-result-3 c =
-    let c₁ = c .before in let start = c₁ .before .before .before in omega (
+    let c₁ = c .before in
+    let start = c₁ .before .before .before in
+    omega (
       arith,
       c₁ .row-fields-length .ensures,
       c .row-fields-length2 .ensures,
@@ -33,7 +37,9 @@ add-result-3 c =
 
 returns : tie.Need-returns
 returns c =
-    let c₁ = c .before in let start = c₁ .before .before .before in omega (
+    let c₁ = c .before in
+    let start = c₁ .before .before .before in
+    omega (
       arith,
       c₁ .row-fields-length .ensures,
       c .row-fields-length2 .ensures,

@@ -28,13 +28,21 @@ row-id-requires c κs = search needs
 
 row-requires : tie.Need-row-requires Inv-loop μ-loop
 row-requires c κs =
-    let c₁ = c .before in let c₂ = c₁ .before in let start = c₂ .before .before in id-within (start .args .table) (c₂ .loop .k)
+    let c₁ = c .before in
+    let c₂ = c₁ .before in
+    let start = c₂ .before .before in
+    id-within (start .args .table) (c₂ .loop .k)
     (start .args .store .now) (c .row-id .ensures) (start .pre .0) (omega (arith, start .pre .1, c₁ .loop-test .taken))
 
 well-formed-requires : tie.Need-well-formed-requires Inv-loop μ-loop
 well-formed-requires c κs =
-    let c₁ = c .before in let c₂ = c₁ .before in let c₃ = c₂ .before in let start = c₃ .before .before in let table = start .args .table in let store
-    = start .args .store .now in table-row-wide table store _ (c₃ .loop .k) (start .pre .0) (omega (arith, start .pre .1, c₂ .loop-test .taken))
+    let c₁ = c .before in
+    let c₂ = c₁ .before in
+    let c₃ = c₂ .before in
+    let start = c₃ .before .before in
+    let table = start .args .table in
+    let store = start .args .store .now in
+    table-row-wide table store _ (c₃ .loop .k) (start .pre .0) (omega (arith, start .pre .1, c₂ .loop-test .taken))
     (c .row .ensures ∙ id-row table (c₃ .loop .k) store (c₁ .row-id .ensures))
 
 add-k : tie.Need-add-k Inv-loop μ-loop
@@ -45,8 +53,14 @@ loop-less c = search needs
 
 loop-again : tie.Need-loop-again Inv-loop μ-loop
 loop-again c =
-    let c₁ = c .before in let c₂ = c₁ .before in let c₃ = c₂ .before in let c₄ = c₃ .before in let c₅ = c₄ .before in let start = c₅ .before .before
-    in let table = start .args .table in let store = start .args .store .now in (
+    let c₁ = c .before in
+    let c₂ = c₁ .before in
+    let c₃ = c₂ .before in
+    let c₄ = c₃ .before in
+    let c₅ = c₄ .before in
+    let start = c₅ .before .before in
+    let table = start .args .table in
+    let store = start .args .store .now in (
       omega (arith, c₄ .loop-test .taken),
       all-more (λ k. wellFormed table (tableIn table store .row k)) (c₅ .loop .k) (c₅ .loop .inv .1)
           (sym (c₁ .well-formed .ensures ∙ ap (wellFormed table) (c₂ .row .ensures ∙ id-row table (c₅ .loop .k) store (c₃ .row-id .ensures))) ∙
@@ -55,15 +69,25 @@ loop-again c =
 
 returns : tie.Need-returns Inv-loop μ-loop
 returns c =
-    let c₁ = c .before in let c₂ = c₁ .before in let c₃ = c₂ .before in let c₄ = c₃ .before in let c₅ = c₄ .before in let start = c₅ .before .before
-    in let table = start .args .table in let store = start .args .store .now in sym
+    let c₁ = c .before in
+    let c₂ = c₁ .before in
+    let c₃ = c₂ .before in
+    let c₄ = c₃ .before in
+    let c₅ = c₄ .before in
+    let start = c₅ .before .before in
+    let table = start .args .table in
+    let store = start .args .store .now in
+    sym
     (all-not (λ k. wellFormed table (tableIn table store .row k)) (c₅ .loop .k) (start .args .n) (c₄ .loop-test .taken)
     (sym (c₁ .well-formed .ensures ∙ ap (wellFormed table) (c₂ .row .ensures ∙ id-row table (c₅ .loop .k) store (c₃ .row-id .ensures))) ∙
     c .if1 .left))
 
 returns-2 : tie.Need-returns-2 Inv-loop μ-loop
 returns-2 c =
-    let c₁ = c .before in let start = c₁ .before .before in let table = start .args .table in sym
+    let c₁ = c .before in
+    let start = c₁ .before .before in
+    let table = start .args .table in
+    sym
     (all-end (λ k. wellFormed table (tableIn table (start .args .store .now) .row k)) (c₁ .loop .k) (start .args .n) (c₁ .loop .inv .0)
     (omega (arith, c .loop-test .left)) (c₁ .loop .inv .1))
 

@@ -10,7 +10,9 @@ beside-zero-requires c κs = search needs
 
 returns : tie.Need-returns
 returns c =
-    let c₁ = c .before in let start = c₁ .before .before in sym
+    let c₁ = c .before in
+    let start = c₁ .before .before in
+    sym
     (beside-broken (start .args .table) (start .args .store .now) (sym (c₁ .beside-zero .ensures) ∙ not-true _ (c .if1 .taken)))
 
 row-count-requires : tie.Need-row-count-requires
@@ -21,7 +23,12 @@ row-limit-requires c κs = search needs
 
 returns-2 : tie.Need-returns-2
 returns-2 c =
-    let c₁ = c .before in let c₂ = c₁ .before in let c₃ = c₂ .before in let c₄ = c₃ .before in let start = c₄ .before .before in sym
+    let c₁ = c .before in
+    let c₂ = c₁ .before in
+    let c₃ = c₂ .before in
+    let c₄ = c₃ .before in
+    let start = c₄ .before .before in
+    sym
     (rows-many (start .args .table) (start .args .store .now) (sym (c₄ .beside-zero .ensures) ∙ not-false _ (c₃ .if1 .left)) _ _
     (c₂ .row-count .ensures) (c₁ .row-limit .ensures) (c .if2 .taken))
 
@@ -33,15 +40,28 @@ unused-zero-requires c κs = search needs
 
 returns-3 : tie.Need-returns-3
 returns-3 c =
-    let c₁ = c .before in let c₂ = c₁ .before in let c₃ = c₂ .before in let c₄ = c₃ .before in let c₅ = c₄ .before in let c₆ = c₅ .before in let c₇ =
-    c₆ .before in let start = c₇ .before .before in c .unused-zero .ensures ∙ sym
+    let c₁ = c .before in
+    let c₂ = c₁ .before in
+    let c₃ = c₂ .before in
+    let c₄ = c₃ .before in
+    let c₅ = c₄ .before in
+    let c₆ = c₅ .before in
+    let c₇ = c₆ .before in
+    let start = c₇ .before .before in
+    c .unused-zero .ensures ∙ sym
     (rows-kept (start .args .table) (start .args .store .now) (sym (c₇ .beside-zero .ensures) ∙ not-false _ (c₆ .if1 .left)) _ _
     (c₅ .row-count .ensures) (c₄ .row-limit .ensures) (c₃ .if2 .left) (sym (c₂ .rows-formed .ensures) ∙ c₁ .if3 .taken))
 
 returns-4 : tie.Need-returns-4
 returns-4 c =
-    let c₁ = c .before in let c₂ = c₁ .before in let c₃ = c₂ .before in let c₄ = c₃ .before in let c₅ = c₄ .before in let c₆ = c₅ .before in let start
-    = c₆ .before .before in sym
+    let c₁ = c .before in
+    let c₂ = c₁ .before in
+    let c₃ = c₂ .before in
+    let c₄ = c₃ .before in
+    let c₅ = c₄ .before in
+    let c₆ = c₅ .before in
+    let start = c₆ .before .before in
+    sym
     (rows-broken (start .args .table) (start .args .store .now) (sym (c₆ .beside-zero .ensures) ∙ not-false _ (c₅ .if1 .left)) _ _
     (c₄ .row-count .ensures) (c₃ .row-limit .ensures) (c₂ .if2 .left) (sym (c₁ .rows-formed .ensures) ∙ c .if3 .left))
 

@@ -18,7 +18,9 @@ sub-left c = search needs
 
 mul-part-of : tie.Need-mul-part-of
 mul-part-of c =
-    let c₁ = c .before in let start = c₁ .before .before in omega (
+    let c₁ = c .before in
+    let start = c₁ .before .before in
+    omega (
       arith,
       unused-room (start .args .table) (start .args .n) _ _ (start .args .store .now) (c₁ .row-width .ensures) (c .row-limit .ensures)
           (start .pre .0) (start .pre .1),
@@ -26,7 +28,9 @@ mul-part-of c =
 
 add-part-of : tie.Need-add-part-of
 add-part-of c =
-    let c₁ = c .before in let start = c₁ .before .before in omega (
+    let c₁ = c .before in
+    let start = c₁ .before .before in
+    omega (
       arith,
       unused-room (start .args .table) (start .args .n) _ _ (start .args .store .now) (c₁ .row-width .ensures) (c .row-limit .ensures)
           (start .pre .0) (start .pre .1),
@@ -34,7 +38,9 @@ add-part-of c =
 
 mul-part-of-2 : tie.Need-mul-part-of-2
 mul-part-of-2 c =
-    let c₁ = c .before in let start = c₁ .before .before in omega (
+    let c₁ = c .before in
+    let start = c₁ .before .before in
+    omega (
       arith,
       unused-room (start .args .table) (start .args .n) _ _ (start .args .store .now) (c₁ .row-width .ensures) (c .row-limit .ensures)
           (start .pre .0) (start .pre .1),
@@ -42,7 +48,9 @@ mul-part-of-2 c =
 
 part-of-requires : tie.Need-part-of-requires
 part-of-requires c κs =
-    let c₁ = c .before in let start = c₁ .before .before in unused-room (start .args .table) (start .args .n) _ _ (start .args .store .now)
+    let c₁ = c .before in
+    let start = c₁ .before .before in
+    unused-room (start .args .table) (start .args .n) _ _ (start .args .store .now)
     (c₁ .row-width .ensures) (c .row-limit .ensures) (start .pre .0) (start .pre .1)
 
 is-zero-requires : tie.Need-is-zero-requires
@@ -50,7 +58,10 @@ is-zero-requires c κs = search needs
 
 returns : tie.Need-returns
 returns c =
-    let c₁ = c .before in let c₂ = c₁ .before in let c₃ = c₂ .before in rw
+    let c₁ = c .before in
+    let c₂ = c₁ .before in
+    let c₃ = c₂ .before in
+    rw
     (c .is-zero .ensures, c₁ .part-of .ensures, c₃ .row-width .ensures, c₂ .row-limit .ensures)
 
 pub unused-zero-spec : {M : Type 1} → statement M

@@ -14,7 +14,9 @@ part-of-requires c κs = search needs
 
 returns : tie.Need-returns
 returns c =
-    let c₁ = c .before in let start = c₁ .before .before in c .part-of .ensures ∙ ap (λ (n : ℕ). part 0 n (start .args .row .now))
+    let c₁ = c .before in
+    let start = c₁ .before .before in
+    c .part-of .ensures ∙ ap (λ (n : ℕ). part 0 n (start .args .row .now))
     (c₁ .row-width .ensures)
 
 pub added-row-spec : {M : Type 1} → statement M

@@ -15,7 +15,9 @@ enum-known-tag c = search needs
 
 returns : tie.Need-returns
 returns c =
-    let c₁ = c .before in let start = c₁ .before .before .before in front-none (start .args .s .now) _ (c₁ .field-at .ensures) (start .args .row .now)
+    let c₁ = c .before in
+    let start = c₁ .before .before .before in
+    front-none (start .args .s .now) _ (c₁ .field-at .ensures) (start .args .row .now)
     (start .pre) (c .match .keys2)
 
 change-of-requires : tie.Need-change-of-requires
@@ -29,14 +31,21 @@ enum-told c = search needs
 
 returns-2 : tie.Need-returns-2
 returns-2 c =
-    let c₁ = c .before .before in let c₂ = c₁ .before .before in let c₃ = c₂ .before .before in let start = c₃ .before .before .before in let s =
-    start .args .s .now in front-whole s _ (c₃ .field-at .ensures) _ _ _ _ _ (c₂ .tag .given .1)
+    let c₁ = c .before .before in
+    let c₂ = c₁ .before .before in
+    let c₃ = c₂ .before .before in
+    let start = c₃ .before .before .before in
+    let s = start .args .s .now in
+    front-whole s _ (c₃ .field-at .ensures) _ _ _ _ _ (c₂ .tag .given .1)
     (tagged-unknown _ _ (c₁ .change-of .ensures) s _ _ (start .args .row .now) (start .pre) (c .enum-told .given .1))
 
 read-value-requires : tie.Need-read-value-requires
 read-value-requires c κs =
-    let c₁ = c .before .before .before .before .before .before in let c₂ = c₁ .before .before in let start = c₂ .before .before .before in let s =
-    start .args .s .now in let w = field-is s 0 (length s) _ _ _ (sym (c₂ .field-at .ensures) ∙ c₁ .tag .given .1) in
+    let c₁ = c .before .before .before .before .before .before in
+    let c₂ = c₁ .before .before in
+    let start = c₂ .before .before .before in
+    let s = start .args .s .now in
+    let w = field-is s 0 (length s) _ _ _ (sym (c₂ .field-at .ensures) ∙ c₁ .tag .given .1) in
     (omega (arith, w .start-is, w .stop-is), w .within, start .pre)
 
 same-length : tie.Need-same-length
@@ -44,8 +53,14 @@ same-length c = search needs
 
 returns-3 : tie.Need-returns-3
 returns-3 c =
-    let c₁ = c .before .before in let c₂ = c₁ .before .before .before in let c₃ = c₂ .before .before in let c₄ = c₃ .before .before in let c₅ =
-    c₄ .before .before in let start = c₅ .before .before .before in let s = start .args .s .now in front-whole s _ (c₅ .field-at .ensures) _ _ _ _ _
+    let c₁ = c .before .before in
+    let c₂ = c₁ .before .before .before in
+    let c₃ = c₂ .before .before in
+    let c₄ = c₃ .before .before in
+    let c₅ = c₄ .before .before in
+    let start = c₅ .before .before .before in
+    let s = start .args .s .now in
+    front-whole s _ (c₅ .field-at .ensures) _ _ _ _ _
     (c₄ .tag .given .1) (tagged-known _ _ (c₃ .change-of .ensures) s _ _ _ _ _ (c₂ .change .given .1) (c₁ .read-value .ensures))
 
 pub read-change-spec : {M : Type 1} → statement M

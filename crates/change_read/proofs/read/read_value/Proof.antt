@@ -13,7 +13,8 @@ format-of-requires c κs = search needs
 
 read-row-requires : tie.Need-read-row-requires
 read-row-requires c κs =
-    let c₁ = c .before in let start = c₁ .before .before .before in (
+    let c₁ = c .before in
+    let start = c₁ .before .before .before in (
       start .pre .0,
       start .pre .1,
       omega
@@ -31,7 +32,10 @@ same-length c = search needs
 
 returns : tie.Need-returns
 returns c =
-    let c₁ = c .before in let c₂ = c₁ .before .before .before .before in let c₃ = c₂ .before .before in let start′ = c₃ .before .before .before in
+    let c₁ = c .before in
+    let c₂ = c₁ .before .before .before .before in
+    let c₃ = c₂ .before .before in
+    let start′ = c₃ .before .before .before in
     value-read (start′ .args .change) (start′ .args .s .now) (start′ .args .start) (start′ .args .stop) (start′ .args .row .now) (start′ .pre .2) _
     (c₃ .format-of .ensures) _ _ (c₂ .read-row .ensures) (c₁ .enum-told .given .1) (c .if1 .taken)
 
@@ -40,7 +44,10 @@ same-length-2 c = search needs
 
 returns-2 : tie.Need-returns-2
 returns-2 c =
-    let c₁ = c .before in let c₂ = c₁ .before .before .before .before in let c₃ = c₂ .before .before in let start′ = c₃ .before .before .before in
+    let c₁ = c .before in
+    let c₂ = c₁ .before .before .before .before in
+    let c₃ = c₂ .before .before in
+    let start′ = c₃ .before .before .before in
     value-bad (start′ .args .change) (start′ .args .s .now) (start′ .args .start) (start′ .args .stop) (start′ .args .row .now) (start′ .pre .2) _
     (c₃ .format-of .ensures) _ _ (c₂ .read-row .ensures) _ (c₁ .at .given .1)
 
@@ -49,7 +56,10 @@ same-length-3 c = search needs
 
 returns-3 : tie.Need-returns-3
 returns-3 c =
-    let c₁ = c .before in let c₂ = c₁ .before .before .before .before in let c₃ = c₂ .before .before in let start′ = c₃ .before .before .before in
+    let c₁ = c .before in
+    let c₂ = c₁ .before .before .before .before in
+    let c₃ = c₂ .before .before in
+    let start′ = c₃ .before .before .before in
     value-followed (start′ .args .change) (start′ .args .s .now) (start′ .args .start) (start′ .args .stop) (start′ .args .row .now) (start′ .pre .2)
     _ (c₃ .format-of .ensures) _ _ (c₂ .read-row .ensures) (c₁ .enum-told .given .1) (c .if1 .left)
 

@@ -37,7 +37,8 @@ loop-again c =
     let classes = start .args .classes .now in
     let closure = start .args .closure .now in
     let x = c₁ .refresh .last .1 .1 .0 in
-    let l = c₂ .loop in let next = refresh-more (tableIn Classes classes) closure (l .c) (l .closure) x (omega arith) (l .inv .2)
+    let l = c₂ .loop in
+    let next = refresh-more (tableIn Classes classes) closure (l .c) (l .closure) x (omega arith) (l .inv .2)
     (c₁ .refresh .ensures) in (omega arith, refresh-length (tableIn Classes classes) closure (l .c + 1) x (omega arith) next, next)
 
 same-length : tie.Need-same-length Inv-loop μ-loop

@@ -34,8 +34,13 @@ same-length-3 c = search needs
 returns : tie.Need-returns
 unfolding emptied
 returns c =
-    let c₁ = c .before .before in let c₂ = c₁ .before .before .before .before in let c₃ = c₂ .before in let c₄ = c₃ .before .before .before .before in
-    let c₅ = c₄ .before in let start = c₅ .before .before .before .before .before in λ i. stores
+    let c₁ = c .before .before in
+    let c₂ = c₁ .before .before .before .before in
+    let c₃ = c₂ .before in
+    let c₄ = c₃ .before .before .before .before in
+    let c₅ = c₄ .before in
+    let start = c₅ .before .before .before .before .before in
+    λ i. stores
     ((c₄ .empty .ensures ∙ ap (λ (n : ℕ). splice 0 (zeros n) (start .args .attributes .now)) (c₅ .store-length .ensures)) i)
     ((c₂ .empty2 .ensures ∙ ap (λ (n : ℕ). splice 0 (zeros n) (start .args .classes .now)) (c₃ .store-length2 .ensures)) i) (c₁ .empty3 .ensures i)
 

@@ -14,8 +14,10 @@ enum-told c = search needs
 
 judge-requires : tie.Need-judge-requires
 judge-requires c κs =
-    let c₁ = c .before .before .before .before .before .before .before .before in let c₂ = c₁ .before .before .before .before .before in let start =
-    c₂ .before in read-shaped (start .args .sheet .now) (λ i. c₂ .shared-slice-known .given i .fits) (start .args .attributes .now)
+    let c₁ = c .before .before .before .before .before .before .before .before in
+    let c₂ = c₁ .before .before .before .before .before in
+    let start = c₂ .before in
+    read-shaped (start .args .sheet .now) (λ i. c₂ .shared-slice-known .given i .fits) (start .args .attributes .now)
     (start .args .classes .now) (start .pre) (c₁ .read-sheet .ensures)
 
 enum-known-at : tie.Need-enum-known-at
@@ -38,9 +40,14 @@ same-length-2 c = search needs
 
 returns : tie.Need-returns
 returns c =
-    let c₁ = c .before .before .before in let c₂ = c₁ .before .before .before .before .before .before in let c₃ =
-    c₂ .before .before .before .before .before in let start = c₃ .before in let sheet = start .args .sheet .now in let attributes =
-    start .args .attributes .now in let classes = start .args .classes .now in read-ends sheet (λ i. c₃ .shared-slice-known .given i .fits) attributes
+    let c₁ = c .before .before .before in
+    let c₂ = c₁ .before .before .before .before .before .before in
+    let c₃ = c₂ .before .before .before .before .before in
+    let start = c₃ .before in
+    let sheet = start .args .sheet .now in
+    let attributes = start .args .attributes .now in
+    let classes = start .args .classes .now in
+    read-ends sheet (λ i. c₃ .shared-slice-known .given i .fits) attributes
     classes (start .pre) (c₂ .read-sheet .ensures) (c₁ .enum-told .given .1)
     (judge-ends sheet (λ i. c₃ .shared-slice-known .given i .fits) attributes classes (start .pre) (c₂ .read-sheet .ensures) (c .judge .ensures))
 
@@ -52,8 +59,12 @@ same-length-4 c = search needs
 
 returns-2 : tie.Need-returns-2
 returns-2 c =
-    let c₁ = c .before .before in let c₂ = c₁ .before .before .before .before .before .before in let c₃ = c₂ .before .before .before .before .before
-    in let start = c₃ .before in let sheet = start .args .sheet .now in read-ends sheet (λ i. c₃ .shared-slice-known .given i .fits)
+    let c₁ = c .before .before in
+    let c₂ = c₁ .before .before .before .before .before .before in
+    let c₃ = c₂ .before .before .before .before .before in
+    let start = c₃ .before in
+    let sheet = start .args .sheet .now in
+    read-ends sheet (λ i. c₃ .shared-slice-known .given i .fits)
     (start .args .attributes .now) (start .args .classes .now) (start .pre) (c₂ .read-sheet .ensures) (c₁ .at .given .1)
     (c .unreadable .ensures ∙ read-bad (readSheet sheet .rows) _)
 
@@ -65,8 +76,12 @@ same-length-6 c = search needs
 
 returns-3 : tie.Need-returns-3
 returns-3 c =
-    let c₁ = c .before .before in let c₂ = c₁ .before .before .before .before .before .before in let c₃ = c₂ .before .before .before .before .before
-    in let start = c₃ .before in let sheet = start .args .sheet .now in read-ends sheet (λ i. c₃ .shared-slice-known .given i .fits)
+    let c₁ = c .before .before in
+    let c₂ = c₁ .before .before .before .before .before .before in
+    let c₃ = c₂ .before .before .before .before .before in
+    let start = c₃ .before in
+    let sheet = start .args .sheet .now in
+    read-ends sheet (λ i. c₃ .shared-slice-known .given i .fits)
     (start .args .attributes .now) (start .args .classes .now) (start .pre) (c₂ .read-sheet .ensures) (c₁ .table .given .1)
     (c .full .ensures ∙ read-full (readSheet sheet .rows) _)
 

@@ -43,8 +43,9 @@ copied n d s e back h k q z =
 
 returns : tie.Need-returns
 returns c =
-    let start = c .before .before .before .before .before .before .before .before .before .before in let copy =
-    c .before .before .before .before .before .before .copy in copied _ (start .args .d .now) (start .args .s .now) _ _ (copy .ensures .0)
+    let start = c .before .before .before .before .before .before .before .before .before .before in
+    let copy = c .before .before .before .before .before .before .copy in
+    copied _ (start .args .d .now) (start .args .s .now) _ _ (copy .ensures .0)
     (start .pre) (copy .ensures .1) (c .before .before .clear .ensures)
 
 pub copy-padded-spec : {M : Type 1} → statement M

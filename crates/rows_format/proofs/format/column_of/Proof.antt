@@ -49,12 +49,16 @@ entry-column-requires c κs = search needs
 returns : tie.Need-returns
 unfolding columnsOf
 returns c =
-    let c₁ = c .before in let c₂ = c₁ .before .before in rw (c₂ .format .given .1) (rw (c₁ .may-be-defunct .ensures) at (c .row-column .ensures))
+    let c₁ = c .before in
+    let c₂ = c₁ .before .before in
+    rw (c₂ .format .given .1) (rw (c₁ .may-be-defunct .ensures) at (c .row-column .ensures))
 
 returns-2 : tie.Need-returns-2
 unfolding columnsOf
 returns-2 c =
-    let c₁ = c .before in let c₂ = c₁ .before .before in rw (c₂ .format2 .given .1) (rw (c₁ .never-defunct .ensures) at (c .row-column2 .ensures))
+    let c₁ = c .before in
+    let c₂ = c₁ .before .before in
+    rw (c₂ .format2 .given .1) (rw (c₁ .never-defunct .ensures) at (c .row-column2 .ensures))
 
 returns-3 : tie.Need-returns-3
 unfolding columnsOf

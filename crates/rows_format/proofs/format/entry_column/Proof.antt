@@ -46,7 +46,8 @@ returns-4 : tie.Need-returns-4
 unfolding entryColumns
 returns-4 c =
     let c₁ = c .before in
-    let n = c₁ .match .rest in c .no-column .ensures ∙ sym
+    let n = c₁ .match .rest in
+    c .no-column .ensures ∙ sym
     (List·getD-eq-default entryColumns noColumn (unlike-past _ 3 n))
 
 pub entry-column-spec : {M : Type 1} → statement M

@@ -33,7 +33,8 @@ returns-3 : tie.Need-returns-3
 unfolding nameColumns
 returns-3 c =
     let c₁ = c .before in
-    let n = c₁ .match .rest in c .no-column .ensures ∙ sym (List·getD-eq-default nameColumns noColumn (unlike-past _ 2 n))
+    let n = c₁ .match .rest in
+    c .no-column .ensures ∙ sym (List·getD-eq-default nameColumns noColumn (unlike-past _ 2 n))
 
 pub name-column-spec : {M : Type 1} → statement M
 name-column-spec =

@@ -52,7 +52,8 @@ returns-4 : tie.Need-returns-4
 unfolding rangeColumns
 returns-4 c =
     let c₁ = c .before in
-    let n = c₁ .match .rest in c .no-column .ensures ∙ sym
+    let n = c₁ .match .rest in
+    c .no-column .ensures ∙ sym
     (List·getD-eq-default rangeColumns noColumn (unlike-past _ 3 n))
 
 pub range-column-spec : {M : Type 1} → statement M

@@ -12,7 +12,9 @@ common-column-requires c κs = search needs
 
 returns : tie.Need-returns
 returns c =
-    let c₁ = c .before in let start = c₁ .before in c .common-column .ensures ∙ sym
+    let c₁ = c .before in
+    let start = c₁ .before in
+    c .common-column .ensures ∙ sym
     (List·getD-append (commonColumns (start .args .defunct)) (ownColumns (start .args .table)) noColumn (start .args .i)
     (common-long _ _ (c₁ .if1 .taken)))
 
@@ -21,7 +23,9 @@ own-column-requires c κs = search needs
 
 returns-2 : tie.Need-returns-2
 returns-2 c =
-    let c₁ = c .before in let start = c₁ .before in c .own-column .ensures ∙ common-past (start .args .defunct) (ownColumns (start .args .table))
+    let c₁ = c .before in
+    let start = c₁ .before in
+    c .own-column .ensures ∙ common-past (start .args .defunct) (ownColumns (start .args .table))
     (start .args .i) (c₁ .if1 .left)
 
 pub row-column-spec : {M : Type 1} → statement M

@@ -35,16 +35,33 @@ row-id-requires c κs = search needs
 
 is-breaking-requires : tie.Need-is-breaking-requires Inv-loop μ-loop
 is-breaking-requires c κs =
-    let c₁ = c .before in let c₂ = c₁ .before in let c₃ = c₂ .before in let c₄ = c₃ .before in let start = c₄ .before .before .before in let
-    attributes = start .args .attributes .now in let classes = start .args .classes .now in let table′ = start .args .table in let m = schemaIn
+    let c₁ = c .before in
+    let c₂ = c₁ .before in
+    let c₃ = c₂ .before in
+    let c₄ = c₃ .before in
+    let start = c₄ .before .before .before in
+    let attributes = start .args .attributes .now in
+    let classes = start .args .classes .now in
+    let table′ = start .args .table in
+    let m = schemaIn
     attributes classes in let e = schema-count table′ attributes classes (c₄ .store-of .ensures) (c₃ .row-count .ensures) in
     (start .pre, row-there table′ (c₂ .loop .k) (c .row-id .ensures) m (omega (arith, e, c₁ .loop-test .taken)))
 
 returns : tie.Need-returns Inv-loop μ-loop
 returns c =
-    let c₁ = c .before in let c₂ = c₁ .before in let c₃ = c₂ .before in let c₄ = c₃ .before in let c₅ = c₄ .before in let c₆ = c₅ .before in let start
-    = c₆ .before .before .before in let attributes = start .args .attributes .now in let classes = start .args .classes .now in let table′ =
-    start .args .table in let added = start .args .added in let number = start .args .number in let m = schemaIn attributes classes in let e =
+    let c₁ = c .before in
+    let c₂ = c₁ .before in
+    let c₃ = c₂ .before in
+    let c₄ = c₃ .before in
+    let c₅ = c₄ .before in
+    let c₆ = c₅ .before in
+    let start = c₆ .before .before .before in
+    let attributes = start .args .attributes .now in
+    let classes = start .args .classes .now in
+    let table′ = start .args .table in
+    let added = start .args .added in
+    let number = start .args .number in
+    let m = schemaIn attributes classes in let e =
     schema-count table′ attributes classes (c₆ .store-of .ensures) (c₅ .row-count .ensures) in sym
     (first-found (breaks added m number table′) (c₄ .loop .k) _ (omega (arith, e, c₃ .loop-test .taken)) (c₄ .loop .inv .1)
     (sym (c₁ .is-breaking .ensures ∙ breaks-at table′ (c₄ .loop .k) (c₂ .row-id .ensures) added m number) ∙ c .if1 .taken))
@@ -57,8 +74,15 @@ loop-less c = search needs
 
 loop-again : tie.Need-loop-again Inv-loop μ-loop
 loop-again c =
-    let c₁ = c .before in let c₂ = c₁ .before in let c₃ = c₂ .before in let c₄ = c₃ .before in let start = c₄ .before .before .before .before .before
-    in let added = start .args .added in let number = start .args .number in let table′ = start .args .table in let m = schemaIn
+    let c₁ = c .before in
+    let c₂ = c₁ .before in
+    let c₃ = c₂ .before in
+    let c₄ = c₃ .before in
+    let start = c₄ .before .before .before .before .before in
+    let added = start .args .added in
+    let number = start .args .number in
+    let table′ = start .args .table in
+    let m = schemaIn
     (start .args .attributes .now) (start .args .classes .now) in (
       omega (arith, c₃ .loop-test .taken),
       any-more (breaks added m number table′) (c₄ .loop .k) (c₄ .loop .inv .1)
@@ -67,8 +91,14 @@ loop-again c =
 
 returns-2 : tie.Need-returns-2 Inv-loop μ-loop
 returns-2 c =
-    let c₁ = c .before in let c₂ = c₁ .before in let c₃ = c₂ .before in let start = c₃ .before .before .before in let attributes =
-    start .args .attributes .now in let classes = start .args .classes .now in let table′ = start .args .table in let m = schemaIn attributes classes
+    let c₁ = c .before in
+    let c₂ = c₁ .before in
+    let c₃ = c₂ .before in
+    let start = c₃ .before .before .before in
+    let attributes = start .args .attributes .now in
+    let classes = start .args .classes .now in
+    let table′ = start .args .table in
+    let m = schemaIn attributes classes
     in let e = schema-count table′ attributes classes (c₃ .store-of .ensures) (c₂ .row-count .ensures) in let p = breaks (start .args .added) m
     (start .args .number) table′ in e ∙ sym
     (first-absent p _ (any-end p (c₁ .loop .k) _ (omega (arith, e, c₁ .loop .inv .0)) (omega (arith, e, c .loop-test .left)) (c₁ .loop .inv .1)))

@@ -30,8 +30,13 @@ judge-rule-requires c κs = c .before .before .before .before .before .before .p
 
 returns : tie.Need-returns Inv-loop μ-loop
 returns c =
-    let c₁ = c .before .before in let c₂ = c₁ .before in let c₃ = c₂ .before in let c₄ = c₃ .before in let start = c₄ .before .before .before .before
-    in let added = start .args .added in let m = schemaIn (start .args .attributes .now) (start .args .classes .now) in let e =
+    let c₁ = c .before .before in
+    let c₂ = c₁ .before in
+    let c₃ = c₂ .before in
+    let c₄ = c₃ .before in
+    let start = c₄ .before .before .before .before in
+    let added = start .args .added in
+    let m = schemaIn (start .args .attributes .now) (start .args .classes .now) in let e =
     c₁ .judge-rule .ensures ∙ ap (λ (n : ℕ). judgeRule (numbered (schemaRules added) n) m passed) (c₂ .byte-at .ensures) in e ∙ sym
     (c₄ .loop .inv ∙ judge-found (schemaRules added) (start .args .order .now) m (c₄ .loop .i) (c₃ .loop-test .taken)
     (λ z. c .if1 .taken (ap (λ (x : Answer). x .table) e ∙ z)))
@@ -44,8 +49,13 @@ loop-less c = search needs
 
 loop-again : tie.Need-loop-again Inv-loop μ-loop
 loop-again c =
-    let c₁ = c .before .before in let c₂ = c₁ .before in let c₃ = c₂ .before in let c₄ = c₃ .before in let start = c₄ .before .before .before .before
-    in let added = start .args .added in let m = schemaIn (start .args .attributes .now) (start .args .classes .now) in let e =
+    let c₁ = c .before .before in
+    let c₂ = c₁ .before in
+    let c₃ = c₂ .before in
+    let c₄ = c₃ .before in
+    let start = c₄ .before .before .before .before in
+    let added = start .args .added in
+    let m = schemaIn (start .args .attributes .now) (start .args .classes .now) in let e =
     c₁ .judge-rule .ensures ∙ ap (λ (n : ℕ). judgeRule (numbered (schemaRules added) n) m passed) (c₂ .byte-at .ensures) in c₄ .loop .inv ∙ judge-next
     (schemaRules added) (start .args .order .now) m (c₄ .loop .i) (c₃ .loop-test .taken) (sym (ap (λ (x : Answer). x .table) e) ∙ c .if1 .left)
 
@@ -54,7 +64,10 @@ passed-requires c κs = search needs
 
 returns-2 : tie.Need-returns-2 Inv-loop μ-loop
 returns-2 c =
-    let c₁ = c .before in let c₂ = c₁ .before in let start = c₂ .before .before .before .before in c .passed .ensures ∙ sym
+    let c₁ = c .before in
+    let c₂ = c₁ .before in
+    let start = c₂ .before .before .before .before in
+    c .passed .ensures ∙ sym
     (c₂ .loop .inv ∙ judge-over (schemaRules (start .args .added)) (start .args .order .now)
     (schemaIn (start .args .attributes .now) (start .args .classes .now)) (c₂ .loop .i) (omega (arith, c₁ .loop-test .left)))
 

@@ -23,8 +23,13 @@ broken-by-requires c κs = search needs
 
 returns : tie.Need-returns
 returns c =
-    let c₁ = c .before in let c₂ = c₁ .before in let c₃ = c₂ .before in let c₄ = c₃ .before in let start = c₄ .before .before .before in let number =
-    start .args .number in c .broken-by .ensures ∙ broken-at Attributes (c₄ .first-row .result) (c₁ .row-id .ensures) number ∙ answer-attribute
+    let c₁ = c .before in
+    let c₂ = c₁ .before in
+    let c₃ = c₂ .before in
+    let c₄ = c₃ .before in
+    let start = c₄ .before .before .before in
+    let number = start .args .number in
+    c .broken-by .ensures ∙ broken-at Attributes (c₄ .first-row .result) (c₁ .row-id .ensures) number ∙ answer-attribute
     (schemaRules (start .args .added)) number (schemaIn (start .args .attributes .now) (start .args .classes .now)) (c₄ .first-row .result)
     (c₄ .first-row .ensures) (omega (arith, c₃ .row-count .ensures, c₂ .if1 .taken))
 
@@ -42,8 +47,16 @@ broken-by-requires-2 c κs = search needs
 
 returns-2 : tie.Need-returns-2
 returns-2 c =
-    let c₁ = c .before in let c₂ = c₁ .before in let c₃ = c₂ .before in let c₄ = c₃ .before in let c₅ = c₄ .before in let c₆ = c₅ .before in let c₇ =
-    c₆ .before in let start = c₇ .before .before .before in let number = start .args .number in c .broken-by2 .ensures ∙ broken-at Classes
+    let c₁ = c .before in
+    let c₂ = c₁ .before in
+    let c₃ = c₂ .before in
+    let c₄ = c₃ .before in
+    let c₅ = c₄ .before in
+    let c₆ = c₅ .before in
+    let c₇ = c₆ .before in
+    let start = c₇ .before .before .before in
+    let number = start .args .number in
+    c .broken-by2 .ensures ∙ broken-at Classes
     (c₄ .first-row2 .result) (c₁ .row-id2 .ensures) number ∙ answer-class (schemaRules (start .args .added)) number
     (schemaIn (start .args .attributes .now) (start .args .classes .now)) (c₇ .first-row .result) (c₇ .first-row .ensures)
     (omega (arith, c₆ .row-count .ensures, c₅ .if1 .left)) (c₄ .first-row2 .result) (c₄ .first-row2 .ensures)
@@ -54,8 +67,14 @@ passed-requires c κs = search needs
 
 returns-3 : tie.Need-returns-3
 returns-3 c =
-    let c₁ = c .before in let c₂ = c₁ .before in let c₃ = c₂ .before in let c₄ = c₃ .before in let c₅ = c₄ .before in let c₆ = c₅ .before in let start
-    = c₆ .before .before .before in c .passed .ensures ∙ answer-none (schemaRules (start .args .added)) (start .args .number)
+    let c₁ = c .before in
+    let c₂ = c₁ .before in
+    let c₃ = c₂ .before in
+    let c₄ = c₃ .before in
+    let c₅ = c₄ .before in
+    let c₆ = c₅ .before in
+    let start = c₆ .before .before .before in
+    c .passed .ensures ∙ answer-none (schemaRules (start .args .added)) (start .args .number)
     (schemaIn (start .args .attributes .now) (start .args .classes .now)) (c₆ .first-row .result) (c₆ .first-row .ensures)
     (omega (arith, c₅ .row-count .ensures, c₄ .if1 .left)) (c₃ .first-row2 .result) (c₃ .first-row2 .ensures)
     (omega (arith, c₂ .row-count2 .ensures, c₁ .if2 .left))

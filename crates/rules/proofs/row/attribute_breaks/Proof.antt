@@ -17,17 +17,23 @@ attribute-row-requires c κs = search needs
 
 range-wrong-requires : tie.Need-range-wrong-requires
 range-wrong-requires c κs =
-    let c₁ = c .before in let start = c₁ .before .before .before in rw (c₁ .attribute-row .ensures)
+    let c₁ = c .before in
+    let start = c₁ .before .before .before in
+    rw (c₁ .attribute-row .ensures)
     (omega (arith, shaped-wide (start .pre .0) Attributes (start .args .a .0) (start .pre .1)))
 
 syntax-wrong-requires : tie.Need-syntax-wrong-requires
 syntax-wrong-requires c κs =
-    let c₁ = c .before in let start = c₁ .before .before .before in rw (c₁ .attribute-row .ensures)
+    let c₁ = c .before in
+    let start = c₁ .before .before .before in
+    rw (c₁ .attribute-row .ensures)
     (omega (arith, shaped-wide (start .pre .0) Attributes (start .args .a .0) (start .pre .1)))
 
 object-class-wrong-requires : tie.Need-object-class-wrong-requires
 object-class-wrong-requires c κs =
-    let c₁ = c .before in let start = c₁ .before .before .before in rw (c₁ .attribute-row .ensures) (
+    let c₁ = c .before in
+    let start = c₁ .before .before .before in
+    rw (c₁ .attribute-row .ensures) (
       omega (arith, shaped-wide (start .pre .0) Attributes (start .args .a .0) (start .pre .1)),
       start .pre .0 .attributes .bounded (start .args .a .0)
           (start .pre .1) .objectClass refl,
@@ -35,7 +41,8 @@ object-class-wrong-requires c κs =
 
 forward-missing-requires : tie.Need-forward-missing-requires
 forward-missing-requires c κs =
-    let c₁ = c .before in let start = c₁ .before .before .before in (
+    let c₁ = c .before in
+    let start = c₁ .before .before .before in (
       start .pre .0 .attributes,
       rw (c₁ .attribute-row .ensures)
           (omega (arith, shaped-wide (start .pre .0) Attributes (start .args .a .0) (start .pre .1))),
@@ -59,7 +66,8 @@ returns-4 c = let c₁ = c .before in let c₂ = c₁ .before in rw (c₁ .match
 
 returns-5 : tie.Need-returns-5
 returns-5 c =
-    let start = c .before .before .before .before in sym
+    let start = c .before .before .before .before in
+    sym
     (numbered-unlike (λ r. r .breaks (schemaIn (start .args .attributes .now) (start .args .classes .now)) Attributes (start .args .a .0)) (λ n. refl)
     (refusal.linkAlone ∷ refusal.objectClassWrong ∷ refusal.syntaxMisfit ∷ refusal.rangeEmpty ∷ []) commonNumbers (schemaRules (start .args .added))
     (start .args .number) (c .match .rest) (start .pre .2) (unfold strays among in refl))

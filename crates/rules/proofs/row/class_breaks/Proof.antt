@@ -17,7 +17,8 @@ class-row-requires c κs = search needs
 
 not-live-requires : tie.Need-not-live-requires
 not-live-requires c κs =
-    let c₁ = c .before in let start = c₁ .before .before .before in
+    let c₁ = c .before in
+    let start = c₁ .before .before .before in
     (start .pre .0 .attributes, rw (c₁ .class-row .ensures) (omega (arith, shaped-wide (start .pre .0) Classes (start .args .c .0) (start .pre .1))))
 
 class-not-live-requires : tie.Need-class-not-live-requires
@@ -25,12 +26,14 @@ class-not-live-requires c κs = search needs
 
 category-wrong-requires : tie.Need-category-wrong-requires
 category-wrong-requires c κs =
-    let c₁ = c .before in let start = c₁ .before .before .before in
+    let c₁ = c .before in
+    let start = c₁ .before .before .before in
     (start .pre .0 .classes, rw (c₁ .class-row .ensures) (omega (arith, shaped-wide (start .pre .0) Classes (start .args .c .0) (start .pre .1))))
 
 category-wrong-requires-2 : tie.Need-category-wrong-requires-2
 category-wrong-requires-2 c κs =
-    let c₁ = c .before in let start = c₁ .before .before .before in
+    let c₁ = c .before in
+    let start = c₁ .before .before .before in
     (start .pre .0 .classes, rw (c₁ .class-row .ensures) (omega (arith, shaped-wide (start .pre .0) Classes (start .args .c .0) (start .pre .1))))
 
 inheritance-wrong-requires : tie.Need-inheritance-wrong-requires
@@ -41,7 +44,8 @@ chain-wrong-requires c κs = search needs
 
 naming-wrong-requires : tie.Need-naming-wrong-requires
 naming-wrong-requires c κs =
-    let c₁ = c .before in let start = c₁ .before .before .before in
+    let c₁ = c .before in
+    let start = c₁ .before .before .before in
     (start .pre .0 .attributes, rw (c₁ .class-row .ensures) (omega (arith, shaped-wide (start .pre .0) Classes (start .args .c .0) (start .pre .1))))
 
 returns : tie.Need-returns
@@ -74,7 +78,8 @@ returns-7 c = let c₁ = c .before in let c₂ = c₁ .before in rw (c₁ .match
 
 returns-8 : tie.Need-returns-8
 returns-8 c =
-    let start = c .before .before .before .before in sym
+    let start = c .before .before .before .before in
+    sym
     (numbered-unlike (λ r. r .breaks (schemaIn (start .args .attributes .now) (start .args .classes .now)) Classes (start .args .c .0)) (λ n. refl)
     (refusal.namingUnfit ∷ refusal.chainAstray ∷ refusal.categoryMisfit ∷ refusal.notASuperior ∷ refusal.notAnAuxiliary ∷ refusal.classNotLive ∷
     refusal.attributeNotLive ∷ [])

@@ -30,8 +30,14 @@ is-breaking-requires c κs = let start = c .before .before .before .before .befo
 
 returns : tie.Need-returns Inv-loop μ-loop
 returns c =
-    let c₁ = c .before in let c₂ = c₁ .before in let c₃ = c₂ .before in let c₄ = c₃ .before in let start = c₄ .before .before .before .before in let
-    id = start .args .id in let added = start .args .added in let m = schemaIn (start .args .attributes .now) (start .args .classes .now) in
+    let c₁ = c .before in
+    let c₂ = c₁ .before in
+    let c₃ = c₂ .before in
+    let c₄ = c₃ .before in
+    let start = c₄ .before .before .before .before in
+    let id = start .args .id in
+    let added = start .args .added in
+    let m = schemaIn (start .args .attributes .now) (start .args .classes .now) in
     c₂ .byte-at .ensures ∙ sym
     (c₄ .loop .inv ∙ pick-found (λ (r : Rule). r .breaks m (tableOf id) (numberOf id)) (schemaRules added) (start .args .order .now) (c₄ .loop .i)
     (c₃ .loop-test .taken)
@@ -45,15 +51,24 @@ loop-less c = search needs
 
 loop-again : tie.Need-loop-again Inv-loop μ-loop
 loop-again c =
-    let c₁ = c .before in let c₂ = c₁ .before in let c₃ = c₂ .before in let c₄ = c₃ .before in let start = c₄ .before .before .before .before in let
-    id = start .args .id in let added = start .args .added in let m = schemaIn (start .args .attributes .now) (start .args .classes .now) in
+    let c₁ = c .before in
+    let c₂ = c₁ .before in
+    let c₃ = c₂ .before in
+    let c₄ = c₃ .before in
+    let start = c₄ .before .before .before .before in
+    let id = start .args .id in
+    let added = start .args .added in
+    let m = schemaIn (start .args .attributes .now) (start .args .classes .now) in
     c₄ .loop .inv ∙ pick-next (λ (r : Rule). r .breaks m (tableOf id) (numberOf id)) (schemaRules added) (start .args .order .now) (c₄ .loop .i)
     (c₃ .loop-test .taken)
     (sym (c₁ .is-breaking .ensures ∙ ap (λ (n : ℕ). breaks added m n (tableOf id) (numberOf id)) (c₂ .byte-at .ensures)) ∙ c .if1 .left)
 
 returns-2 : tie.Need-returns-2 Inv-loop μ-loop
 returns-2 c =
-    let c₁ = c .before in let start = c₁ .before .before .before .before in let id = start .args .id in sym
+    let c₁ = c .before in
+    let start = c₁ .before .before .before .before in
+    let id = start .args .id in
+    sym
     (c₁ .loop .inv ∙ pick-none
     (λ (r : Rule). r .breaks (schemaIn (start .args .attributes .now) (start .args .classes .now)) (tableOf id) (numberOf id))
     (schemaRules (start .args .added)) (start .args .order .now) (c₁ .loop .i) (omega (arith, c .loop-test .left)))

@@ -25,7 +25,9 @@ returns-2 c = rw (c .enum-told .given .1)
 returns-3 : tie.Need-returns-3
 unfolding barred
 returns-3 c =
-    let c₁ = c .before in let c₂ = c₁ .before .before .before .before in rw (c₂ .added .given .1, eq-eqb _ _ (c₁ .if1 .left))
+    let c₁ = c .before in
+    let c₂ = c₁ .before .before .before .before in
+    rw (c₂ .added .given .1, eq-eqb _ _ (c₁ .if1 .left))
     (c .lists-itself .ensures)
 
 pub is-barred-spec : {M : Type 1} → statement M

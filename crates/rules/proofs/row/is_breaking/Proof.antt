@@ -9,12 +9,16 @@ use Rattle.rules.proofs.row.is_breaking.Tie as tie
 
 schema-row-requires : tie.Need-schema-row-requires
 schema-row-requires c κs =
-    let start = c .before .before in let id = start .args .id in
+    let start = c .before .before in
+    let id = start .args .id in
     (start .pre .0 .attributes .long, start .pre .0 .classes .long, shaped-within (start .pre .0) (tableOf id) (numberOf id) (start .pre .1))
 
 name-invalid-requires : tie.Need-name-invalid-requires
 name-invalid-requires c κs =
-    let c₁ = c .before in let start = c₁ .before .before .before in let id = start .args .id in let y = schema-keyed (start .pre .0) (tableOf id)
+    let c₁ = c .before in
+    let start = c₁ .before .before .before in
+    let id = start .args .id in
+    let y = schema-keyed (start .pre .0) (tableOf id)
     (numberOf id) (start .pre .1) in rw (c₁ .schema-row .ensures) (omega (arith, y .wide), y .name)
 
 is-taken-requires : tie.Need-is-taken-requires
@@ -22,7 +26,10 @@ is-taken-requires c κs = search needs
 
 identifier-invalid-requires : tie.Need-identifier-invalid-requires
 identifier-invalid-requires c κs =
-    let c₁ = c .before in let start = c₁ .before .before .before in let id = start .args .id in let y = schema-keyed (start .pre .0) (tableOf id)
+    let c₁ = c .before in
+    let start = c₁ .before .before .before in
+    let id = start .args .id in
+    let y = schema-keyed (start .pre .0) (tableOf id)
     (numberOf id) (start .pre .1) in rw (c₁ .schema-row .ensures) (omega (arith, y .wide))
 
 is-taken-requires-2 : tie.Need-is-taken-requires-2

@@ -10,14 +10,16 @@ enum-known-id c = search needs
 
 attribute-breaks-requires : tie.Need-attribute-breaks-requires
 attribute-breaks-requires c κs =
-    let c₁ = c .before in let start = c₁ .before .before .before .before in (start .pre .0, rw (c₁ .id .given .1) at (start .pre .1), start .pre .2)
+    let c₁ = c .before in
+    let start = c₁ .before .before .before .before in (start .pre .0, rw (c₁ .id .given .1) at (start .pre .1), start .pre .2)
 
 enum-known-id-2 : tie.Need-enum-known-id-2
 enum-known-id-2 c = search needs
 
 class-breaks-requires : tie.Need-class-breaks-requires
 class-breaks-requires c κs =
-    let c₁ = c .before in let start = c₁ .before .before .before .before in (start .pre .0, rw (c₁ .id2 .given .1) at (start .pre .1), start .pre .2)
+    let c₁ = c .before in
+    let start = c₁ .before .before .before .before in (start .pre .0, rw (c₁ .id2 .given .1) at (start .pre .1), start .pre .2)
 
 returns : tie.Need-returns
 returns c = rw (c .before .before .id .given .1) (c .attribute-breaks .ensures)

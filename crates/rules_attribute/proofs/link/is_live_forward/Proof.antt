@@ -19,7 +19,9 @@ is-forward-of-requires c κs =
 
 returns : tie.Need-returns
 returns c =
-    let c₁ = c .before in let c₂ = c₁ .before in rw
+    let c₁ = c .before in
+    let c₂ = c₁ .before in
+    rw
     (← (c₂ .attribute-row .ensures), ← (c₁ .is-forward-of .ensures), not-true (c₁ .is-forward-of .result) (c .if1 .taken))
 
 is-live-requires : tie.Need-is-live-requires
@@ -27,7 +29,10 @@ is-live-requires c κs = search needs
 
 returns-2 : tie.Need-returns-2
 returns-2 c =
-    let c₁ = c .before in let c₂ = c₁ .before in let c₃ = c₂ .before in rw
+    let c₁ = c .before in
+    let c₂ = c₁ .before in
+    let c₃ = c₂ .before in
+    rw
     (← (c₃ .attribute-row .ensures), ← (c₂ .is-forward-of .ensures), not-false (c₂ .is-forward-of .result) (c₁ .if1 .left)) (c .is-live .ensures)
 
 pub is-live-forward-spec : {M : Type 1} → statement M

@@ -28,14 +28,24 @@ row-id-requires c κs = search needs
 
 names-dead-requires : tie.Need-names-dead-requires Inv-loop μ-loop
 names-dead-requires c κs =
-    let c₁ = c .before .before in let start = c₁ .before .before .before .before in dead-asked (start .args .table) (start .args .store .now)
+    let c₁ = c .before .before in
+    let start = c₁ .before .before .before .before in
+    dead-asked (start .args .table) (start .args .store .now)
     (start .args .row .now) (c₁ .loop .n) (c .row-id .ensures) (start .pre .0) (start .pre .1)
 
 returns : tie.Need-returns Inv-loop μ-loop
 unfolding notLive
 returns c =
-    let c₁ = c .before in let c₂ = c₁ .before in let c₃ = c₂ .before in let c₄ = c₃ .before in let c₅ = c₄ .before in let start =
-    c₅ .before .before .before in let table = start .args .table in let store = start .args .store .now in let row = start .args .row .now in sym
+    let c₁ = c .before in
+    let c₂ = c₁ .before in
+    let c₃ = c₂ .before in
+    let c₄ = c₃ .before in
+    let c₅ = c₄ .before in
+    let start = c₅ .before .before .before in
+    let table = start .args .table in
+    let store = start .args .store .now in
+    let row = start .args .row .now in
+    sym
     (any-here (namesDead table (tableIn table store) row) (c₄ .loop .n) _ (omega (arith, c₅ .row-limit .ensures, c₃ .loop-test .taken))
     (sym (c₁ .names-dead .ensures ∙ dead-at table store row (c₄ .loop .n) (c₂ .row-id .ensures)) ∙ c .if1 .taken))
 
@@ -47,8 +57,14 @@ loop-less c = search needs
 
 loop-again : tie.Need-loop-again Inv-loop μ-loop
 loop-again c =
-    let c₁ = c .before in let c₂ = c₁ .before in let c₃ = c₂ .before in let c₄ = c₃ .before in let start = c₄ .before .before .before .before in let
-    table = start .args .table in let store = start .args .store .now in let row = start .args .row .now in (
+    let c₁ = c .before in
+    let c₂ = c₁ .before in
+    let c₃ = c₂ .before in
+    let c₄ = c₃ .before in
+    let start = c₄ .before .before .before .before in
+    let table = start .args .table in
+    let store = start .args .store .now in
+    let row = start .args .row .now in (
       omega (arith, c₃ .loop-test .taken),
       any-more (namesDead table (tableIn table store) row) (c₄ .loop .n) (c₄ .loop .inv .1)
           (sym (c₁ .names-dead .ensures ∙ dead-at table store row (c₄ .loop .n) (c₂ .row-id .ensures)) ∙ c .if1 .left),
@@ -57,7 +73,11 @@ loop-again c =
 returns-2 : tie.Need-returns-2 Inv-loop μ-loop
 unfolding notLive
 returns-2 c =
-    let c₁ = c .before in let c₂ = c₁ .before in let start = c₂ .before .before .before in let table = start .args .table in sym
+    let c₁ = c .before in
+    let c₂ = c₁ .before in
+    let start = c₂ .before .before .before in
+    let table = start .args .table in
+    sym
     (any-end (namesDead table (tableIn table (start .args .store .now)) (start .args .row .now)) (c₁ .loop .n) _
     (omega (arith, c₂ .row-limit .ensures, c₁ .loop .inv .0)) (omega (arith, c₂ .row-limit .ensures, c .loop-test .left)) (c₁ .loop .inv .1))
 

@@ -14,7 +14,9 @@ store-length-requires c κs = search needs
 returns : tie.Need-returns
 unfolding anyShort
 returns c =
-    let c₁ = c .before in let start = c₁ .before .before .before .before in rw
+    let c₁ = c .before in
+    let start = c₁ .before .before .before .before in
+    rw
     (lt-ltb (length (start .args .attributes .now)) (storeLength Attributes) (omega (arith, c .if1 .taken, c₁ .store-length .ensures)))
 
 store-length-requires-2 : tie.Need-store-length-requires-2
@@ -23,7 +25,11 @@ store-length-requires-2 c κs = search needs
 returns-2 : tie.Need-returns-2
 unfolding anyShort
 returns-2 c =
-    let c₁ = c .before in let c₂ = c₁ .before in let c₃ = c₂ .before in let start = c₃ .before .before .before .before in rw (
+    let c₁ = c .before in
+    let c₂ = c₁ .before in
+    let c₃ = c₂ .before in
+    let start = c₃ .before .before .before .before in
+    rw (
       le-ltb (length (start .args .attributes .now)) (storeLength Attributes) (omega (arith, c₂ .if1 .left, c₃ .store-length .ensures)),
       lt-ltb
           (length (start .args .classes .now)) (storeLength Classes) (omega (arith, c .if2 .taken, c₁ .store-length2 .ensures)),
@@ -32,7 +38,11 @@ returns-2 c =
 returns-3 : tie.Need-returns-3
 unfolding anyShort
 returns-3 c =
-    let c₁ = c .before in let c₂ = c₁ .before in let c₃ = c₂ .before in let start = c₃ .before .before .before .before in rw (
+    let c₁ = c .before in
+    let c₂ = c₁ .before in
+    let c₃ = c₂ .before in
+    let start = c₃ .before .before .before .before in
+    rw (
       le-ltb (length (start .args .attributes .now)) (storeLength Attributes) (omega (arith, c₂ .if1 .left, c₃ .store-length .ensures)),
       le-ltb
           (length (start .args .classes .now)) (storeLength Classes) (omega (arith, c .if2 .left, c₁ .store-length2 .ensures)),

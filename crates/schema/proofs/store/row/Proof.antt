@@ -17,13 +17,20 @@ number-of-requires c κs = search needs
 
 row-of-requires : tie.Need-row-of-requires
 row-of-requires c κs =
-    let c₁ = c .before in let c₂ = c₁ .before in let start = c₂ .before .before in let id = start .args .id in rw
+    let c₁ = c .before in
+    let c₂ = c₁ .before in
+    let start = c₂ .before .before in
+    let id = start .args .id in
+    rw
     (c₁ .row-width .ensures, c₂ .table-of .ensures, c .number-of .ensures)
     (row-fits rowsAt (rowWidth (tableOf id)) (limit (tableOf id)) (numberOf id) (length (start .args .store .now)) (start .pre .0) (start .pre .1))
 
 returns : tie.Need-returns
 returns c =
-    let c₁ = c .before in let c₂ = c₁ .before in let c₃ = c₂ .before in rw
+    let c₁ = c .before in
+    let c₂ = c₁ .before in
+    let c₃ = c₂ .before in
+    rw
     (← (c₁ .number-of .ensures), ← (c₃ .table-of .ensures), ← (c₂ .row-width .ensures)) (c .row-of .ensures)
 
 pub row-spec : {M : Type 1} → statement M

@@ -25,13 +25,16 @@ part-read-row-start c = search needs
 
 part-read-row-end : tie.Need-part-read-row-end
 part-read-row-end c =
-    let start = c .before .before .before .before in omega
+    let start = c .before .before .before .before in
+    omega
     (arith, front-within (start .args .table) _ (start .args .scratch .now) (c .row-width .ensures) (start .pre .0 .2))
 
 read-row-requires : tie.Need-read-row-requires
 unfolding formatWidth
 read-row-requires c κs =
-    let c₁ = c .before in let start = c₁ .before .before .before .before in let table = start .args .table in (
+    let c₁ = c .before in
+    let start = c₁ .before .before .before .before in
+    let table = start .args .table in (
       start .pre .0 .0,
       start .pre .0 .1,
       omega
@@ -69,9 +72,18 @@ same-length-2 c = search needs
 
 returns : tie.Need-returns
 returns c =
-    let c₁ = c .before .before in let c₂ = c₁ .before .before .before .before in let c₃ = c₂ .before in let c₄ = c₃ .before .before .before in let c₅
-    = c₄ .before .before in let start′ = c₅ .before .before .before .before in let table = start′ .args .table in let scratch =
-    start′ .args .scratch .now in let last = c₄ .read-row .last .1 .1 in let kept = c₄ .read-row .kept .1 .1 in let x = last .1 .1 .0 in read-in-yes table (start′ .args .s .now) (start′ .args .start)
+    let c₁ = c .before .before in
+    let c₂ = c₁ .before .before .before .before in
+    let c₃ = c₂ .before in
+    let c₄ = c₃ .before .before .before in
+    let c₅ = c₄ .before .before in
+    let start′ = c₅ .before .before .before .before in
+    let table = start′ .args .table in
+    let scratch = start′ .args .scratch .now in
+    let last = c₄ .read-row .last .1 .1 in
+    let kept = c₄ .read-row .kept .1 .1 in
+    let x = last .1 .1 .0 in
+    read-in-yes table (start′ .args .s .now) (start′ .args .start)
     (start′ .args .stop) (c₅ .row-width .result) scratch (c₅ .row-width .ensures) (start′ .pre .0 .2) (c₄ .read-row .result) x
     (c₄ .read-row .ensures .0) (c₄ .read-row .ensures .1) _ (c₃ .is-read .ensures) (c₂ .if1 .taken) (start′ .args .store .now) _
     (c₁ .push-row .last .1 .0)
@@ -84,7 +96,10 @@ same-length-3 c = search needs
 
 returns-2 : tie.Need-returns-2
 returns-2 c =
-    let c₁ = c .before in let c₂ = c₁ .before .before .before in let c₃ = c₂ .before .before in let start′ = c₃ .before .before .before .before in
+    let c₁ = c .before in
+    let c₂ = c₁ .before .before .before in
+    let c₃ = c₂ .before .before in
+    let start′ = c₃ .before .before .before .before in
     read-in-no (start′ .args .table) (start′ .args .s .now) (start′ .args .start) (start′ .args .stop) (c₃ .row-width .result)
     (start′ .args .scratch .now) (c₃ .row-width .ensures) (start′ .pre .0 .2) (c₂ .read-row .result) (let last = c₂ .read-row .last .1 .1 in last .1 .1 .0)
     (c₂ .read-row .ensures .0) (c₂ .read-row .ensures .1) _ (c₁ .is-read .ensures) (c .if1 .left) (start′ .args .store .now)

@@ -20,7 +20,9 @@ returns-3 c = rw (c .match .keys3)
 returns-4 : tie.Need-returns-4
 unfolding sheetTag
 returns-4 c =
-    let start = c .before in let tag = start .args .tag in rw
+    let start = c .before in
+    let tag = start .args .tag in
+    rw
     (ne-eqb tag 1 (c .match .rest .0 .0 .1), ne-eqb tag 32 (c .match .rest .0 .1), ne-eqb tag 48 (c .match .rest .1))
 
 pub sheet-tag-spec : {M : Type 1} → statement M

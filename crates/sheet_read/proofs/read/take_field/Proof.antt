@@ -36,9 +36,16 @@ same-length-2 c = search needs
 
 returns : tie.Need-returns
 returns c =
-    let c₁ = c .before in let c₂ = c₁ .before .before in let c₃ = c₂ .before .before .before in let c₄ = c₃ .before in let start =
-    c₄ .before .before .before .before in let s = start .args .s .now in let at = start .args .at in let phase = start .args .phase in let missing =
-    start .args .missing in as-step (takeField s at phase missing) _ (start .args .attributes .now) (start .args .classes .now)
+    let c₁ = c .before in
+    let c₂ = c₁ .before .before in
+    let c₃ = c₂ .before .before .before in
+    let c₄ = c₃ .before in
+    let start = c₄ .before .before .before .before in
+    let s = start .args .s .now in
+    let at = start .args .at in
+    let phase = start .args .phase in
+    let missing = start .args .missing in
+    as-step (takeField s at phase missing) _ (start .args .attributes .now) (start .args .classes .now)
     (λ x a c′ h. ap (λ turn. step turn x) (c .room-turn .ensures) ∙ step-full s at phase missing h _
     (c₃ .sheet-tag .ensures ∙ ap sheetTag (c₄ .byte-at .ensures)) _ (c₂ .room-in .ensures)
     (λ q. (let e = c₁ .enum-told2 .given .1 in let no : _≡_ {A = ℕ} 0 1 = cc in omega arith)))
@@ -57,9 +64,17 @@ same-length-4 c = search needs
 
 returns-2 : tie.Need-returns-2
 returns-2 c =
-    let c₁ = c .before in let c₂ = c₁ .before in let c₃ = c₂ .before .before in let c₄ = c₃ .before .before .before in let c₅ = c₄ .before in let
-    start = c₅ .before .before .before .before in let s = start .args .s .now in let at = start .args .at in let phase = start .args .phase in let
-    missing = start .args .missing in as-step (takeField s at phase missing) _ (start .args .attributes .now) (start .args .classes .now)
+    let c₁ = c .before in
+    let c₂ = c₁ .before in
+    let c₃ = c₂ .before .before in
+    let c₄ = c₃ .before .before .before in
+    let c₅ = c₄ .before in
+    let start = c₅ .before .before .before .before in
+    let s = start .args .s .now in
+    let at = start .args .at in
+    let phase = start .args .phase in
+    let missing = start .args .missing in
+    as-step (takeField s at phase missing) _ (start .args .attributes .now) (start .args .classes .now)
     (λ x a c′ h. step-cut s at phase missing h _ (c₄ .sheet-tag .ensures ∙ ap sheetTag (c₅ .byte-at .ensures)) _ (c₃ .room-in .ensures)
     (c₂ .enum-told .given .1) _ (c₁ .field-at .ensures) (no-field _ (c .match2 .keys2)))
 
@@ -68,9 +83,18 @@ sheet-tag-requires-2 c κs = search needs
 
 take-tagged-requires : tie.Need-take-tagged-requires
 take-tagged-requires c κs =
-    let c₁ = c .before .before in let c₂ = c₁ .before .before in let c₃ = c₂ .before .before in let c₄ = c₃ .before in let c₅ = c₄ .before .before in
-    let c₆ = c₅ .before .before .before in let c₇ = c₆ .before in let start = c₇ .before .before .before .before in let s = start .args .s .now in let
-    attributes = start .args .attributes .now in let classes = start .args .classes .now in let w = field-is s (start .args .at) (length s) _ _ _
+    let c₁ = c .before .before in
+    let c₂ = c₁ .before .before in
+    let c₃ = c₂ .before .before in
+    let c₄ = c₃ .before in
+    let c₅ = c₄ .before .before in
+    let c₆ = c₅ .before .before .before in
+    let c₇ = c₆ .before in
+    let start = c₇ .before .before .before .before in
+    let s = start .args .s .now in
+    let attributes = start .args .attributes .now in
+    let classes = start .args .classes .now in
+    let w = field-is s (start .args .at) (length s) _ _ _
     (sym (c₃ .field-at .ensures) ∙ c₂ .tag .given .1) in (
       (omega (arith, w .start-is, w .stop-is), w .within),
       (
@@ -90,10 +114,22 @@ same-length-6 c = search needs
 
 returns-3 : tie.Need-returns-3
 returns-3 c =
-    let c₁ = c .before .before .before .before in let c₂ = c₁ .before .before .before in let c₃ = c₂ .before .before in let c₄ = c₃ .before .before in
-    let c₅ = c₄ .before in let c₆ = c₅ .before .before in let c₇ = c₆ .before .before .before in let c₈ = c₇ .before in let start =
-    c₈ .before .before .before .before in let s = start .args .s .now in let at = start .args .at in let phase = start .args .phase in let missing =
-    start .args .missing in let told = c₃ .tag .given .0 .1 in let x′ = told .1 .0 in same-step
+    let c₁ = c .before .before .before .before in
+    let c₂ = c₁ .before .before .before in
+    let c₃ = c₂ .before .before in
+    let c₄ = c₃ .before .before in
+    let c₅ = c₄ .before in
+    let c₆ = c₅ .before .before in
+    let c₇ = c₆ .before .before .before in
+    let c₈ = c₇ .before in
+    let start = c₈ .before .before .before .before in
+    let s = start .args .s .now in
+    let at = start .args .at in
+    let phase = start .args .phase in
+    let missing = start .args .missing in
+    let told = c₃ .tag .given .0 .1 in
+    let x′ = told .1 .0 in
+    same-step
     (takeTagged (c₂ .sheet-tag2 .result) s at phase missing (c₃ .tag .given .0 .1 .0) x′) (takeField s at phase missing)
     (λ x a c′ h. ap (λ tag. takeTagged tag s at phase missing (c₃ .tag .given .0 .1 .0) x′ x) (c₂ .sheet-tag2 .ensures) ∙ step-whole s at phase
     missing h _ (c₇ .sheet-tag .ensures ∙ ap sheetTag (c₈ .byte-at .ensures)) _ (c₆ .room-in .ensures) (c₅ .enum-told .given .1) _ _ _ _

@@ -21,7 +21,8 @@ same-length c = search needs
 
 returns : tie.Need-returns
 returns c =
-    let c₁ = c .before .before .before .before in let start = c₁ .before .before .before .before .before in (
+    let c₁ = c .before .before .before .before in
+    let start = c₁ .before .before .before .before .before in (
       c .row-turn .ensures ∙ ap (rowTurn (start .args .table) (start .args .stop) (start .args .missing)) (c₁ .read-into .ensures .0),
       c₁ .read-into .ensures .1,
     )

@@ -23,14 +23,22 @@ number-of-requires c κs = search needs
 returns : tie.Need-returns
 unfolding live
 returns c =
-    let c₁ = c .before in let c₂ = c₁ .before in let c₃ = c₂ .before in let start = c₃ .before .before .before in let id = start .args .id in let
-    store = start .args .store .now in rw
+    let c₁ = c .before in
+    let c₂ = c₁ .before in
+    let c₃ = c₂ .before in
+    let start = c₃ .before .before .before in
+    let id = start .args .id in
+    let store = start .args .store .now in
+    rw
     (le-ltb (numberOf id) (countIn (tableOf id) store)
     (omega (arith, c .if1 .taken, c₂ .row-count .ensures, ap (λ t. countIn t store) (c₃ .table-of .ensures), c₁ .number-of .ensures)))
 
 row-requires : tie.Need-row-requires
 row-requires c κs =
-    let c₁ = c .before in let c₂ = c₁ .before in let c₃ = c₂ .before in let start = c₃ .before .before .before in (
+    let c₁ = c .before in
+    let c₂ = c₁ .before in
+    let c₃ = c₂ .before in
+    let start = c₃ .before .before .before in (
       start .pre .0 .long,
       omega (
         arith,
@@ -44,8 +52,13 @@ row-requires c κs =
 
 is-active-for-requires : tie.Need-is-active-for-requires
 is-active-for-requires c κs =
-    let c₁ = c .before in let c₂ = c₁ .before in let c₃ = c₂ .before in let c₄ = c₃ .before in let start = c₄ .before .before .before in let id =
-    start .args .id in let store = start .args .store .now in (
+    let c₁ = c .before in
+    let c₂ = c₁ .before in
+    let c₃ = c₂ .before in
+    let c₄ = c₃ .before in
+    let start = c₄ .before .before .before in
+    let id = start .args .id in
+    let store = start .args .store .now in (
       start .pre .1,
       omega (
         arith,
@@ -60,8 +73,15 @@ is-active-for-requires c κs =
 returns-2 : tie.Need-returns-2
 unfolding live
 returns-2 c =
-    let c₁ = c .before in let c₂ = c₁ .before in let c₃ = c₂ .before in let c₄ = c₃ .before in let c₅ = c₄ .before in let start =
-    c₅ .before .before .before in let id = start .args .id in let store = start .args .store .now in rw (
+    let c₁ = c .before in
+    let c₂ = c₁ .before in
+    let c₃ = c₂ .before in
+    let c₄ = c₃ .before in
+    let c₅ = c₄ .before in
+    let start = c₅ .before .before .before in
+    let id = start .args .id in
+    let store = start .args .store .now in
+    rw (
       lt-ltb (numberOf id) (countIn (tableOf id) store)
           (omega (arith, c₂ .if1 .left, c₄ .row-count .ensures, ap (λ t. countIn t store) (c₅ .table-of .ensures), c₃ .number-of .ensures)),
       ←

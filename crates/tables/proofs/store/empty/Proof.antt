@@ -20,7 +20,9 @@ same-length c = search needs
 
 returns : tie.Need-returns
 returns c =
-    let c₁ = c .before .before in let start = c₁ .before .before .before in lent-cleared-front (start .args .n) (start .args .store .now) _
+    let c₁ = c .before .before in
+    let start = c₁ .before .before .before in
+    lent-cleared-front (start .args .n) (start .args .store .now) _
     (start .pre) (c₁ .clear .ensures)
 
 pub empty-spec : {M : Type 1} → statement M

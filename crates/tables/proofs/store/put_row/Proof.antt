@@ -22,7 +22,11 @@ number-of-requires c κs = search needs
 
 mul-at : tie.Need-mul-at
 mul-at c =
-    let c₁ = c .before in let c₂ = c₁ .before in let start = c₂ .before .before .before in let id = start .args .id in omega (
+    let c₁ = c .before in
+    let c₂ = c₁ .before in
+    let start = c₂ .before .before .before in
+    let id = start .args .id in
+    omega (
       arith,
       row-room (tableOf id) (numberOf id) (start .args .store .now) _ _ (c₁ .row-width .ensures ∙ ap rowWidth (c₂ .table-of .ensures))
           (c .number-of .ensures) (start .pre .0) (start .pre .1),
@@ -31,7 +35,11 @@ mul-at c =
 
 add-at : tie.Need-add-at
 add-at c =
-    let c₁ = c .before in let c₂ = c₁ .before in let start = c₂ .before .before .before in let id = start .args .id in omega (
+    let c₁ = c .before in
+    let c₂ = c₁ .before in
+    let start = c₂ .before .before .before in
+    let id = start .args .id in
+    omega (
       arith,
       row-room (tableOf id) (numberOf id) (start .args .store .now) _ _ (c₁ .row-width .ensures ∙ ap rowWidth (c₂ .table-of .ensures))
           (c .number-of .ensures) (start .pre .0) (start .pre .1),
@@ -40,7 +48,11 @@ add-at c =
 
 add-end : tie.Need-add-end
 add-end c =
-    let c₁ = c .before in let c₂ = c₁ .before in let start = c₂ .before .before .before in let id = start .args .id in omega (
+    let c₁ = c .before in
+    let c₂ = c₁ .before in
+    let start = c₂ .before .before .before in
+    let id = start .args .id in
+    omega (
       arith,
       row-room (tableOf id) (numberOf id) (start .args .store .now) _ _ (c₁ .row-width .ensures ∙ ap rowWidth (c₂ .table-of .ensures))
           (c .number-of .ensures) (start .pre .0) (start .pre .1),
@@ -55,7 +67,11 @@ part-copy-padded-start c = search needs
 
 part-copy-padded-end : tie.Need-part-copy-padded-end
 part-copy-padded-end c =
-    let c₁ = c .before in let c₂ = c₁ .before in let start = c₂ .before .before .before in let id = start .args .id in omega (
+    let c₁ = c .before in
+    let c₂ = c₁ .before in
+    let start = c₂ .before .before .before in
+    let id = start .args .id in
+    omega (
       arith,
       row-room (tableOf id) (numberOf id) (start .args .store .now) _ _ (c₁ .row-width .ensures ∙ ap rowWidth (c₂ .table-of .ensures))
           (c .number-of .ensures) (start .pre .0) (start .pre .1),
@@ -64,8 +80,15 @@ part-copy-padded-end c =
 
 copy-padded-requires : tie.Need-copy-padded-requires
 copy-padded-requires c κs =
-    let c₁ = c .before in let c₂ = c₁ .before in let c₃ = c₂ .before in let start = c₃ .before .before .before in let store = start .args .store .now
-    in let id = start .args .id in let w = c₂ .row-width .result in let k = c₁ .number-of .result in let e = c₂ .row-width .ensures ∙ ap rowWidth
+    let c₁ = c .before in
+    let c₂ = c₁ .before in
+    let c₃ = c₂ .before in
+    let start = c₃ .before .before .before in
+    let store = start .args .store .now in
+    let id = start .args .id in
+    let w = c₂ .row-width .result in
+    let k = c₁ .number-of .result in
+    let e = c₂ .row-width .ensures ∙ ap rowWidth
     (c₃ .table-of .ensures) in omega (
       arith,
       start .pre .2,
@@ -80,9 +103,17 @@ same-length c = search needs
 returns : tie.Need-returns
 unfolding putIn
 returns c =
-    let c₁ = c .before .before in let c₂ = c₁ .before .before in let c₃ = c₂ .before in let c₄ = c₃ .before in let start = c₄ .before .before .before
-    in let store = start .args .store .now in let row = start .args .row .now in let id = start .args .id in let w = c₃ .row-width .result in let k =
-    c₂ .number-of .result in let e = c₃ .row-width .ensures ∙ ap rowWidth (c₄ .table-of .ensures) in row-put (2 + w * k) w store row _
+    let c₁ = c .before .before in
+    let c₂ = c₁ .before .before in
+    let c₃ = c₂ .before in
+    let c₄ = c₃ .before in
+    let start = c₄ .before .before .before in
+    let store = start .args .store .now in
+    let row = start .args .row .now in
+    let id = start .args .id in
+    let w = c₃ .row-width .result in
+    let k = c₂ .number-of .result in
+    let e = c₃ .row-width .ensures ∙ ap rowWidth (c₄ .table-of .ensures) in row-put (2 + w * k) w store row _
     (row-room (tableOf id) (numberOf id) store w k e (c₂ .number-of .ensures) (start .pre .0) (start .pre .1)) (omega (arith, start .pre .2, e))
     (c₁ .copy-padded .ensures) ∙ ap₂ (λ (x y : ℕ). splice (2 + x * y) row store) e (c₂ .number-of .ensures)
 

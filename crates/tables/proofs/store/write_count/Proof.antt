@@ -34,7 +34,8 @@ same-length-2 c = search needs
 
 returns-2 : tie.Need-returns-2
 returns-2 c =
-    let start = c .before .before .before in rw (c .enum-told2 .given .1)
+    let start = c .before .before .before in
+    rw (c .enum-told2 .given .1)
     (set-splice 0 (start .args .n) (start .args .store .now) (omega (arith, start .pre .0)))
 
 pub write-count-spec : {M : Type 1} → statement M
