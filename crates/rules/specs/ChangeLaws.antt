@@ -1,6 +1,6 @@
 -- Rules judged for the changed row alone, and for all rows: the two agree where no row broke a rule before. The law is an equation of lists of
 -- cases, so that the number found is the same.
-use mathlib.Core.Bool.{Bool, true, false, _&&_, _||_, true≢false}
+use mathlib.Core.Bool.{Bool, true, false, _&&_, _||_, true≢false, not}
 use mathlib.Core.List.{List}
 use mathlib.Core.Logic.{_⊎_, inl, inr, ⊎-elim}
 use mathlib.Core.Path.{_≡_, refl, sym, ap, ap₂, _∙_}
@@ -12,7 +12,7 @@ use Rattle.prelude.specs.BelowLaws.{any-one, any-false}
 use Rattle.prelude.specs.First.{firstOf}
 use Rattle.schema.specs.declared.number.TableId.{TableId}
 use Rattle.schema.specs.declared.number.TableId.the-variants.{Attributes, Classes}
-use Rattle.schema.specs.Numbers.{SameRow}
+use Rattle.schema.specs.Numbers.{SameRow, sameTable}
 use Rattle.schema.specs.NumbersLaws.{apart}
 use Rattle.schema.specs.Row.{isDefunct}
 use Rattle.schema.specs.ClassRow.{namingOf}
@@ -22,6 +22,7 @@ use Rattle.tables.specs.Named.{names}
 use Rattle.tables.specs.NamedLaws.{says-names}
 use Rattle.tables.specs.declared.named.ClassList.{ClassList}
 use Rattle.tables.specs.declared.named.ClassList.the-variants.{Auxiliaries, Superiors}
+use Rattle.tables.specs.Live.{live}
 use Rattle.rules_names.specs.Name.{nameInvalid, identifierInvalid}
 use Rattle.rules_unique.specs.declared.Key.the-variants.{Name, Identifier, Guid, Mapi, Link}
 use Rattle.rules_unique.specs.Unique.{everyRow}
@@ -35,9 +36,9 @@ use Rattle.rules_class.specs.Category.{categoryWrong, inheritanceWrong}
 use Rattle.rules_class.specs.Chain.{chainWrong}
 use Rattle.rules_class.specs.StayLaws.{named-there, not-live-stays, naming-stays, category-stays, inheritance-stays, chain-stays}
 use Rattle.rules.specs.declared.row.Added.{Added}
-use Rattle.rules.specs.declared.row.Added.the-variants.{Nothing, Class}
-use Rattle.rules.specs.Rules.{ofRows, ofAttributes, ofClasses, barred, schemaRules, numbered, breaks, rowCases, Each, _&_}
-use Rattle.rules.specs.RulesLaws.{each-numbered, cases-agree}
+use Rattle.rules.specs.declared.row.Added.the-variants.{Nothing, Class, Entry}
+use Rattle.rules.specs.Rules.{ofRows, ofAttributes, ofClasses, barred, entryDead, attributeNotLive, classNotLive, schemaRules, numbered, breaks, rowCases, Each, _&_}
+use Rattle.rules.specs.RulesLaws.{each-numbered, cases-agree, attribute-nothing, class-nothing}
 use Rattle.rules.specs.Judge.{judged, broken, brokenCases, Kept, AllKept}
 use Rattle.rules.specs.JudgeLaws.{judge-number}
 use Rattle.rules.specs.Change.{Change}
@@ -48,10 +49,26 @@ not-active : (b : Bool) → (b ≡ false → ⊥) → b ≡ true
 not-active true n = refl
 not-active false n = absurd (n refl)
 
--- the class that was added, if any, is the changed row
-abbrev pub Bars : Added → TableId → ℕ → Type 0
-Bars Nothing t k = Unit {0}
-Bars (Class a) t k = SameRow t k Classes (a .0)
+-- the class that was added, or whose list got an entry, is the changed row
+abbrev pub AddedAt : Added → TableId → ℕ → Type 0
+AddedAt Nothing t k = Unit {0}
+AddedAt (Class a) t k = SameRow t k Classes (a .0)
+AddedAt (Entry a of n) t k = SameRow t k Classes (a .0)
+
+-- so it binds no other class
+unbarred : (added : Added) (t : TableId) (k : ℕ) → AddedAt added t k → (c : Table) (j : ℕ) → ¬ (SameRow t k Classes j) → barred added c j ≡ false
+unfolding barred
+unbarred Nothing t k at c j d = refl
+unbarred (Class a) t k at c j d = ap (λ (q : Bool). q && listsItself c j) (says-false (says-eq (a .0) j) (λ q. d (at .0, at .1 ∙ q)))
+unbarred (Entry a of n) t k at c j d = refl
+
+no-entry : (added : Added) (t : TableId) (k : ℕ) → AddedAt added t k → (u : TableId) (x : Table) (row : List ℕ) (j : ℕ) → ¬ (SameRow t k Classes j)
+    → entryDead added u x row j ≡ false
+unfolding entryDead
+no-entry Nothing t k at u x row j d = refl
+no-entry (Class a) t k at u x row j d = refl
+no-entry (Entry a of n) t k at u x row j d =
+    ap (λ (q : Bool). q && (sameTable of u && not (live x row n))) (says-false (says-eq (a .0) j) (λ q. d (at .0, at .1 ∙ q)))
 
 module _ (k : ℕ) (m n : Schema) where
   -- no row but the changed one breaks a rule
@@ -77,6 +94,14 @@ module _ (k : ℕ) (m n : Schema) where
     -- what no row broke before, by its number
     was : (number : ℕ) → Kept m (numbered (schemaRules Nothing) number)
     was number = each-numbered (Kept m) (schemaRules Nothing) kept number (λ t j l. refl)
+
+    attribute-was : (j : ℕ) → j < m .classes .count → notLive Attributes (m .attributes) (m .classes .row j) ≡ false
+    unfolding numbered
+    attribute-was j l = sym (attribute-nothing m j) ∙ was refusal.attributeNotLive Classes j l
+
+    class-was : (j : ℕ) → j < m .classes .count → classWrong (m .classes) j ≡ false
+    unfolding numbered
+    class-was j l = sym (class-nothing (m .classes) j) ∙ was refusal.classNotLive Classes j l
 
     module _ (t : TableId) (h : Change t k m n) where
       -- the other rows are as they were
@@ -113,14 +138,12 @@ module _ (k : ℕ) (m n : Schema) where
           here : t ≡ of → notLive of (table of n) (m .classes .row j) ≡ false
           here q = not-live-stays (rw (← q) (h .changed .own)) of (m .classes .row j) (state of q e) e
 
-      attributes-live : Stays t (ofClasses (λ x j. notLive Attributes (x .attributes) (x .classes .row j)))
-      unfolding numbered
-      attributes-live Attributes j l d = refl
-      attributes-live Classes j l d = live-stays Attributes j l d (was refusal.attributeNotLive Classes j (old Classes j l d))
-
-      class-was : (j : ℕ) → j < m .classes .count → classWrong (m .classes) j ≡ false
-      unfolding numbered
-      class-was j l = neither (classWrong (m .classes) j) (barred Nothing (m .classes) j) (was refusal.classNotLive Classes j l) .0
+      attributes-live : (added : Added) → AddedAt added t k → Stays t (ofClasses (attributeNotLive added))
+      unfolding attributeNotLive
+      attributes-live added at Attributes j l d = refl
+      attributes-live added at Classes j l d =
+          ap₂ (λ (x y : Bool). x || y) (live-stays Attributes j l d (attribute-was j (old Classes j l d)))
+          (no-entry added t k at Attributes (n .attributes) (n .classes .row j) j d)
 
       class-stays : (j : ℕ) → j < n .classes .count → ¬ (SameRow t k Classes j) → classWrong (n .classes) j ≡ false
       unfolding classWrong
@@ -128,14 +151,12 @@ module _ (k : ℕ) (m n : Schema) where
           let p = neither (notLive Classes (m .classes) (m .classes .row j)) (superclassLate j (m .classes .row j)) (class-was j (old Classes j l d)) in
           ap₂ (λ (x y : Bool). x || y) (live-stays Classes j l d (p .0)) (ap (superclassLate j) (same Classes j l d) ∙ p .1)
 
-      classes-live : (added : Added) → Bars added t k → Stays t (ofClasses (λ x j. classWrong (x .classes) j || barred added (x .classes) j))
-      unfolding barred
-      classes-live added b Attributes j l d = refl
-      classes-live added b Classes j l d = ap₂ (λ (x y : Bool). x || y) (class-stays j l d) (unbarred added b)
-        where
-          unbarred : (x : Added) → Bars x t k → barred x (n .classes) j ≡ false
-          unbarred Nothing u = refl
-          unbarred (Class a) u = ap (λ (q : Bool). q && listsItself (n .classes) j) (says-false (says-eq (a .0) j) (λ q. d (u .0, u .1 ∙ q)))
+      classes-live : (added : Added) → AddedAt added t k → Stays t (ofClasses (λ x j. classNotLive added (x .classes) j))
+      unfolding classNotLive
+      classes-live added at Attributes j l d = refl
+      classes-live added at Classes j l d =
+          ap₂ (λ (x y : Bool). x || y) (class-stays j l d)
+          (ap₂ (λ (x y : Bool). x || y) (unbarred added t k at (n .classes) j d) (no-entry added t k at Classes (n .classes) (n .classes .row j) j d))
 
     -- ---- rules that look at more than one row of a table: by the table that was changed
 
@@ -152,7 +173,7 @@ module _ (k : ℕ) (m n : Schema) where
     category-kept kind e Attributes h q j l d = absurd (apart q)
     category-kept kind e Classes h q j l d =
         let was = h .changed .own .old j l d in
-        category-stays (h .changed .own) j was d (class-was Classes h j was) (λ there. h .fixed there .0) kind (e j was)
+        category-stays (h .changed .own) j was d (class-was j was) (λ there. h .fixed there .0) kind (e j was)
 
     inheritance-kept : (t : TableId) (h : Change t k m n) → t ≡ Classes → (j : ℕ) → j < n .classes .count → ¬ (j ≡ k)
         → inheritanceWrong (n .classes) j ≡ false
@@ -160,7 +181,7 @@ module _ (k : ℕ) (m n : Schema) where
     inheritance-kept Attributes h q j l d = absurd (apart q)
     inheritance-kept Classes h q j l d =
         let before = h .changed .own .old j l d in
-        inheritance-stays (h .changed .own) j before d (class-was Classes h j before) (λ there. h .fixed there .0)
+        inheritance-stays (h .changed .own) j before d (class-was j before) (λ there. h .fixed there .0)
         (was refusal.categoryMisfit Classes j before)
 
     chain-kept : (t : TableId) (h : Change t k m n) → t ≡ Classes → (j : ℕ) → j < n .classes .count → ¬ (j ≡ k) → chainWrong (n .classes) j ≡ false
@@ -175,7 +196,7 @@ module _ (k : ℕ) (m n : Schema) where
     naming-kept t h Attributes j l d = refl
     naming-kept Attributes h Classes j l d =
         let before = old Attributes h Classes j l d in
-        let live = was refusal.attributeNotLive Classes j before in
+        let live = attribute-was j before in
         rw (same Attributes h Classes j l d)
         (naming-stays (h .changed .own) (λ there. (h .fixed there .0, h .fixed there .1)) (namingOf (m .classes .row j))
         (λ i e q. named-there Attributes (m .attributes) (m .classes .row j) live i (omega (arith, h .few)) (inr (inr (inr e))))
@@ -208,7 +229,7 @@ module _ (k : ℕ) (m n : Schema) where
 
     -- ---- all rows and the changed row alone: the same rules are broken
 
-    module _ (t : TableId) (h : Change t k m n) (added : Added) (bars : Bars added t k) where
+    module _ (t : TableId) (h : Change t k m n) (added : Added) (at : AddedAt added t k) where
       alone : (number : ℕ) → Stays t (numbered (schemaRules added) number .breaks)
           → broken n (numbered (schemaRules added) number) ≡ numbered (schemaRules added) number .breaks n t k
       alone number s = stays-alone t (h .changed .own .here) (numbered (schemaRules added) number .breaks) s
@@ -225,8 +246,8 @@ module _ (k : ℕ) (m n : Schema) where
           & alone refusal.identifierInvalid (rows-stay t h identifierInvalid (was refusal.identifierInvalid))
           & taken-here everyRow Identifier (h .changed) (was refusal.identifierTaken)
           & taken-here everyRow Guid (h .changed) (was refusal.guidTaken)
-          & alone refusal.attributeNotLive (attributes-live t h)
-          & alone refusal.classNotLive (classes-live t h added bars)
+          & alone refusal.attributeNotLive (attributes-live t h added at)
+          & alone refusal.classNotLive (classes-live t h added at)
           & alone refusal.notAnAuxiliary (category-alone Auxiliaries (was refusal.notAnAuxiliary Classes))
           & alone refusal.notASuperior (category-alone Superiors (was refusal.notASuperior Classes))
           & alone refusal.categoryMisfit (classes-stay inheritanceWrong (was refusal.categoryMisfit Classes) t h (inheritance-kept t h))
@@ -241,11 +262,11 @@ module _ (k : ℕ) (m n : Schema) where
           & tt
 
 -- so the number that the judge of all rows finds is that of the first rule that the changed row breaks
-pub changed-alone : (added : Added) (t : TableId) (k : ℕ) (m n : Schema) → Change t k m n → Bars added t k → AllKept Nothing m
+pub changed-alone : (added : Added) (t : TableId) (k : ℕ) (m n : Schema) → Change t k m n → AddedAt added t k → AllKept Nothing m
     → brokenCases (schemaRules added) n ≡ rowCases (schemaRules added) n t k
-changed-alone added t k m n h bars kept = cases-agree (broken n) (λ r. r .breaks n t k) (schemaRules added) (each-alone k m n kept t h added bars)
+changed-alone added t k m n h at kept = cases-agree (broken n) (λ r. r .breaks n t k) (schemaRules added) (each-alone k m n kept t h added at)
 
-pub changed-number : (added : Added) (t : TableId) (k : ℕ) (m n : Schema) → Change t k m n → Bars added t k → AllKept Nothing m
+pub changed-number : (added : Added) (t : TableId) (k : ℕ) (m n : Schema) → Change t k m n → AddedAt added t k → AllKept Nothing m
     → judged added n .number ≡ firstOf (rowCases (schemaRules added) n t k)
 unfolding judged
-changed-number added t k m n h bars kept = judge-number (schemaRules added) n ∙ ap firstOf (changed-alone added t k m n h bars kept)
+changed-number added t k m n h at kept = judge-number (schemaRules added) n ∙ ap firstOf (changed-alone added t k m n h at kept)

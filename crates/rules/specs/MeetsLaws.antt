@@ -37,8 +37,8 @@ use Rattle.rules_class.specs.CategoryLaws.{says-category-wrong, says-inheritanc
 use Rattle.rules_class.specs.Chain.{chainLimit}
 use Rattle.rules_class.specs.ChainLaws.{says-chain, says-chain-wrong}
 use Rattle.rules.specs.declared.row.Added.the-variants.{Nothing}
-use Rattle.rules.specs.Rules.{barred, ofAttributes, ofClasses, schemaRules, numbered, _&_}
-use Rattle.rules.specs.RulesLaws.{each-numbered}
+use Rattle.rules.specs.Rules.{ofAttributes, ofClasses, schemaRules, numbered, _&_}
+use Rattle.rules.specs.RulesLaws.{each-numbered, attribute-nothing, class-nothing}
 use Rattle.rules.specs.Judge.{Kept, AllKept}
 use Rattle.rules.specs.Meets.{Apart, Meets}
 use Rattle.schema.specs.Refusals as refusal
@@ -111,11 +111,11 @@ module _ (m : Schema) (kept : AllKept Nothing m) where
 
   class-sound : (k : ℕ) → k < m .classes .count → classWrong (m .classes) k ≡ false
   unfolding numbered
-  class-sound k l = neither (classWrong (m .classes) k) (barred Nothing (m .classes) k) (was refusal.classNotLive Classes k l) .0
+  class-sound k l = sym (class-nothing (m .classes) k) ∙ was refusal.classNotLive Classes k l
 
   live-sound : (t : TableId) (k : ℕ) → k < m .classes .count → notLive t (table t m) (m .classes .row k) ≡ false
   unfolding numbered
-  live-sound Attributes k l = was refusal.attributeNotLive Classes k l
+  live-sound Attributes k l = sym (attribute-nothing m k) ∙ was refusal.attributeNotLive Classes k l
   live-sound Classes k l =
       says-false (says-not-live Classes (m .classes) (m .classes .row k)) (λ bad. says-fails (says-class-wrong (m .classes) k) (class-sound k l) (inl bad))
 
@@ -179,14 +179,10 @@ module _ (m : Schema) (h : Meets m) where
   live-met t k l =
       says-false (says-not-live t (table t m) (m .classes .row k)) (λ bad. bad .is .dead (h .namedLive t k l (bad .at) (bad .below) (bad .is .named)))
 
-  class-met : (k : ℕ) → k < m .classes .count → (classWrong (m .classes) k || barred Nothing (m .classes) k) ≡ false
-  unfolding barred
-  class-met k l = rw (wrong k l)
-    where
-      wrong : (k : ℕ) → k < m .classes .count → classWrong (m .classes) k ≡ false
-      wrong k l =
-          says-false (says-class-wrong (m .classes) k)
-          (⊎-elim (says-fails (says-not-live Classes (m .classes) (m .classes .row k)) (live-met Classes k l)) (λ late. late (h .superclassEarly k l)))
+  class-met : (k : ℕ) → k < m .classes .count → classWrong (m .classes) k ≡ false
+  class-met k l =
+      says-false (says-class-wrong (m .classes) k)
+      (⊎-elim (says-fails (says-not-live Classes (m .classes) (m .classes .row k)) (live-met Classes k l)) (λ late. late (h .superclassEarly k l)))
 
   category-met : (kind : ClassList) (k : ℕ) → k < m .classes .count → categoryWrong kind (m .classes) (m .classes .row k) ≡ false
   category-met kind k l =
@@ -201,8 +197,8 @@ module _ (m : Schema) (h : Meets m) where
       & (λ t k l. says-false (says-identifier-invalid (table t m .row k)) (h .identifiers t k l))
       & apart-unique m Identifier (h .identifiersApart)
       & apart-unique m Guid (h .guidsApart)
-      & of-classes _ (live-met Attributes)
-      & of-classes _ class-met
+      & of-classes _ (λ k l. attribute-nothing m k ∙ live-met Attributes k l)
+      & of-classes _ (λ k l. class-nothing (m .classes) k ∙ class-met k l)
       & of-classes _ (category-met Auxiliaries)
       & of-classes _ (category-met Superiors)
       & of-classes _ (λ k l. says-false (says-inheritance-wrong (m .classes) k) (⊎-elim (root k l) (λ s. h .legal k l (s .0) (s .1 .0) (s .1 .1))))

@@ -18,7 +18,7 @@ use Rattle.schema.specs.declared.attribute.Bound.the-variants.{Given, Absent}
 use Rattle.schema.specs.ObjectClasses.{objectClasses, objectClassFits}
 use Rattle.schema.specs.declared.number.TableId.the-variants.{Classes}
 use Rattle.schema.specs.Answers.{brokenBy}
-use Rattle.schema.specs.Numbers.{sameRow}
+use Rattle.schema.specs.Numbers.{sameRow, sameTable}
 use Rattle.schema.specs.Store.{schema}
 use Rattle.tables.specs.Live.{live}
 use Rattle.tables.specs.Named.{lists, namedBy, names}
@@ -34,7 +34,7 @@ use Rattle.rules_class.specs.Category.{inheritanceWrong, otherCategory, wrongly
 use Rattle.rules_class.specs.Chain.{chainEnds, chainWrong}
 use Rattle.rules.specs.Judge.{judgeRule, judgeRules, judged, judgeTable}
 use Rattle.rules.specs.declared.row.Added.the-variants.{Nothing}
-use Rattle.rules.specs.Rules.{barred}
+use Rattle.rules.specs.Rules.{barred, attributeNotLive, classNotLive, entryDead}
 use Rattle.schema.specs.Refusals as refusal
 
 -- ---- rows and tables to be judged
@@ -131,10 +131,10 @@ abbrev pub P12 : Type 0
 P12 = sameName areaHa (65 ∷ 82 ∷ 69 ∷ 65 ∷ 45 ∷ 104 ∷ 65 ∷ []) ≡ true
 
 pub pieces : P1 × (P2 × (P3 × (P4 × (P5 × (P6 × (P7 × (P8 × P12)))))))
-unfolding part zeros padded sameBytes bigEndian bigEndianBytes anyBelow allBelow firstBelow digit bit member boundAt namingOf between isLetter
+unfolding attributeNotLive classNotLive barred entryDead sameTable part zeros padded sameBytes bigEndian bigEndianBytes anyBelow allBelow firstBelow digit bit member boundAt namingOf between isLetter
     isNameByte validName folded sameName nameInvalid identifierInvalid live sameKey hasKey samePresent sameRow rivalIn taken signed endsCrossed
     rangeWrong syntaxFits syntaxWrong objectClasses objectClassFits objectClassWrong isBackLink isForwardOf forwardMissing lists namedBy names
     namesDead notLive superclassLate classWrong namingWrong categoryWrong wronglyListed otherCategory inheritance rootInheritance inheritanceOf
-    inheritanceWrong chainEnds chainWrong judgeTable judgeRule judgeRules barred judged arcBytes common endBytes attributeRow classRow judgedRows
+    inheritanceWrong chainEnds chainWrong judgeTable judgeRule judgeRules judged arcBytes common endBytes attributeRow classRow judgedRows
     areaHa one byName byArcs bySyntax byRange linked classes
 pieces = ((refl, (refl, refl)), ((refl, (refl, refl)), ((refl, refl), ((refl, refl), ((refl, (refl, refl)), ((refl, (refl, refl)), (refl, (refl, refl))))))))

@@ -1,5 +1,5 @@
 -- The schema rules 12 to 29, each once: its number, and which rows break it. The order of the list is the order of judging.
-use mathlib.Core.Bool.{Bool, false, cond, _&&_, _||_}
+use mathlib.Core.Bool.{Bool, false, cond, not, _&&_, _||_}
 use mathlib.Core.List.{List, [], _∷_}
 use mathlib.Core.Path.{_≡_}
 use Prim.Native.Nat.{ℕ}
@@ -7,8 +7,10 @@ use lib.Dec.{eqb}
 use Rattle.prelude.specs.First.{Case, _when_}
 use Rattle.schema.specs.declared.number.TableId.{TableId}
 use Rattle.schema.specs.declared.number.TableId.the-variants.{Attributes, Classes}
+use Rattle.schema.specs.Numbers.{sameTable}
 use Rattle.schema.specs.ClassRow.{namingOf}
 use Rattle.schema.specs.Store.{Table, Schema, table}
+use Rattle.tables.specs.Live.{live}
 use Rattle.tables.specs.declared.named.ClassList.the-variants.{Auxiliaries, Superiors}
 use Rattle.rules_names.specs.Name.{nameInvalid, identifierInvalid}
 use Rattle.rules_unique.specs.declared.Key.the-variants.{Name, Identifier, Guid, Mapi, Link}
@@ -20,7 +22,7 @@ use Rattle.rules_class.specs.Live.{notLive, classWrong, listsItself, namingWron
 use Rattle.rules_class.specs.Category.{categoryWrong, inheritanceWrong}
 use Rattle.rules_class.specs.Chain.{chainWrong}
 use Rattle.rules.specs.declared.row.Added.{Added}
-use Rattle.rules.specs.declared.row.Added.the-variants.{Nothing, Class}
+use Rattle.rules.specs.declared.row.Added.the-variants.{Nothing, Class, Entry}
 use Rattle.schema.specs.Refusals as refusal
 
 -- a rule: its number, and whether row k of a table of a schema breaks it
@@ -47,6 +49,23 @@ ofClasses test m Classes k = test m k
 unfoldable pub barred : Added → Table → ℕ → Bool
 barred Nothing c k = false
 barred (Class a) c k = eqb (a .0) k && listsItself c k
+barred (Entry a t n) c k = false
+
+-- "22, the entry, any u16, absent rows counting as not live": the entry that was added to a list of class k names row n of a table, also where no set can
+-- hold n
+unfoldable pub entryDead : Added → TableId → Table → List ℕ → ℕ → Bool
+entryDead Nothing u t row k = false
+entryDead (Class a) u t row k = false
+entryDead (Entry a of n) u t row k = eqb (a .0) k && (sameTable of u && not (live t row n))
+
+-- "17 A named attribute not live."
+unfoldable pub attributeNotLive : Added → Schema → ℕ → Bool
+attributeNotLive added m k =
+    notLive Attributes (m .attributes) (m .classes .row k) || entryDead added Attributes (m .attributes) (m .classes .row k) k
+
+-- "18 A named class not live, or a superclass that isn't earlier .. No list of an added class may hold its own number"
+unfoldable pub classNotLive : Added → Table → ℕ → Bool
+classNotLive added c k = classWrong c k || (barred added c k || entryDead added Classes c (c .row k) k)
 
 -- "12 to 29 schema rules below". "All rules bind defunct rows too."
 abbrev pub schemaRules : Added → List Rule
@@ -56,8 +75,8 @@ schemaRules added =
     ∷ rule refusal.identifierInvalid (ofRows identifierInvalid)
     ∷ rule refusal.identifierTaken (taken everyRow Identifier)
     ∷ rule refusal.guidTaken (taken everyRow Guid)
-    ∷ rule refusal.attributeNotLive (ofClasses (λ m k. notLive Attributes (m .attributes) (m .classes .row k)))
-    ∷ rule refusal.classNotLive (ofClasses (λ m k. classWrong (m .classes) k || barred added (m .classes) k))
+    ∷ rule refusal.attributeNotLive (ofClasses (attributeNotLive added))
+    ∷ rule refusal.classNotLive (ofClasses (λ m k. classNotLive added (m .classes) k))
     ∷ rule refusal.notAnAuxiliary (ofClasses (λ m k. categoryWrong Auxiliaries (m .classes) (m .classes .row k)))
     ∷ rule refusal.notASuperior (ofClasses (λ m k. categoryWrong Superiors (m .classes) (m .classes .row k)))
     ∷ rule refusal.categoryMisfit (ofClasses (λ m k. inheritanceWrong (m .classes) k))

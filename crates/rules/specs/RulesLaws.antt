@@ -13,7 +13,11 @@ use Rattle.prelude.specs.First.{Case, _when_, firstOf}
 use Rattle.prelude.specs.FirstLaws.{first-hit, first-miss, first-none}
 use Rattle.prelude.specs.Unlike.{Unlike, among}
 use Rattle.prelude.specs.UnlikeLaws.{unlike-among}
-use Rattle.rules.specs.Rules.{Rule, noRule, numbered, rulesOf, casesOf, Each}
+use Rattle.schema.specs.Store.{Table, Schema}
+use Rattle.schema.specs.declared.number.TableId.the-variants.{Attributes}
+use Rattle.rules_class.specs.Live.{notLive, classWrong}
+use Rattle.rules.specs.declared.row.Added.the-variants.{Nothing}
+use Rattle.rules.specs.Rules.{barred, entryDead, attributeNotLive, classNotLive, Rule, noRule, numbered, rulesOf, casesOf, Each}
 
 -- ---- a rule by its number
 
@@ -87,3 +91,17 @@ module _ (test : Rule → Bool) (rs : List Rule) (ns : List ℕ) (i : ℕ) where
 pub cases-agree : (p q : Rule → Bool) (rs : List Rule) → Each (λ r. p r ≡ q r) rs → casesOf p rs ≡ casesOf q rs
 cases-agree p q [] h = refl
 cases-agree p q (r ∷ rs) h = ap₂ (λ (b : Bool) (cs : List Case). (r .number when b) ∷ cs) (h .0) (cases-agree p q rs (h .1))
+
+-- ---- nothing was added: rules 17 and 18 look at the rows alone
+
+or-none : (b : Bool) → (b || false) ≡ b
+or-none true = refl
+or-none false = refl
+
+pub attribute-nothing : (m : Schema) (k : ℕ) → attributeNotLive Nothing m k ≡ notLive Attributes (m .attributes) (m .classes .row k)
+unfolding attributeNotLive entryDead
+attribute-nothing m k = or-none (notLive Attributes (m .attributes) (m .classes .row k))
+
+pub class-nothing : (c : Table) (k : ℕ) → classNotLive Nothing c k ≡ classWrong c k
+unfolding classNotLive barred entryDead
+class-nothing c k = or-none (classWrong c k)

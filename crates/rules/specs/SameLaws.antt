@@ -1,5 +1,5 @@
 -- Schemas with the same rows are judged the same: every rule looks only at rows that are there.
-use mathlib.Core.Bool.{Bool, _&&_, _||_}
+use mathlib.Core.Bool.{Bool, _&&_, _||_, not}
 use mathlib.Core.List.{List, [], _∷_}
 use mathlib.Core.Path.{_≡_, refl, sym, ap, ap₂, _∙_}
 use Prim.Native.Nat.{ℕ, _<_}
@@ -11,8 +11,11 @@ use Rattle.schema.specs.declared.number.TableId.{TableId}
 use Rattle.schema.specs.declared.number.TableId.the-variants.{Attributes, Classes}
 use Rattle.schema.specs.ClassRow.{namingOf}
 use Rattle.schema.specs.Store.{Table, Schema, table}
+use Rattle.schema.specs.Numbers.{sameTable}
 use Rattle.tables.specs.Same.{SameRows}
 use Rattle.tables.specs.declared.named.ClassList.the-variants.{Auxiliaries, Superiors}
+use Rattle.tables.specs.SameLaws.{live-same}
+use Rattle.tables.specs.Live.{live}
 use Rattle.rules_names.specs.Name.{nameInvalid, identifierInvalid}
 use Rattle.rules_unique.specs.declared.Key.the-variants.{Name, Identifier, Guid, Mapi, Link}
 use Rattle.rules_unique.specs.Unique.{everyRow}
@@ -26,8 +29,8 @@ use Rattle.rules_class.specs.Category.{categoryWrong}
 use Rattle.rules_class.specs.SameLaws.{not-live-same, class-wrong-same, lists-itself-same, category-wrong-same, inheritance-wrong-same}
 use Rattle.rules_class.specs.SameLaws.{chain-wrong-same, naming-wrong-same}
 use Rattle.rules.specs.declared.row.Added.{Added}
-use Rattle.rules.specs.declared.row.Added.the-variants.{Nothing, Class}
-use Rattle.rules.specs.Rules.{Rule, ofAttributes, ofClasses, barred, schemaRules, rowCases, Each, _&_}
+use Rattle.rules.specs.declared.row.Added.the-variants.{Nothing, Class, Entry}
+use Rattle.rules.specs.Rules.{Rule, ofAttributes, ofClasses, barred, schemaRules, rowCases, Each, _&_, attributeNotLive, classNotLive, entryDead}
 use Rattle.rules.specs.Judge.{judgeTable, judgeRule, judgeRules, judged, AllKept}
 use Rattle.rules.specs.JudgeLaws.{judged-zero}
 
@@ -72,6 +75,28 @@ module _ {m n : Schema} (s : SameRows m n) where
   unfolding barred
   barred-same Nothing k l = refl
   barred-same (Class a) k l = ap (λ (q : Bool). eqb (a .0) k && q) (lists-itself-same (s Classes) k l)
+  barred-same (Entry a of x) k l = refl
+
+  entry-same : (added : Added) (u : TableId) (k : ℕ) → k < m .classes .count → entryDead added u (table u m) (m .classes .row k) k
+      ≡ entryDead added u (table u n) (n .classes .row k) k
+  unfolding entryDead
+  entry-same Nothing u k l = refl
+  entry-same (Class a) u k l = refl
+  entry-same (Entry a of x) u k l =
+      ap (λ (q : Bool). eqb (a .0) k && (sameTable of u && not q)) (live-same (s u) (m .classes .row k) x ∙ same-by (λ r. live (table u n) r x) Classes k l)
+
+  attribute-live-same : (added : Added) (k : ℕ) → k < m .classes .count → attributeNotLive added m k ≡ attributeNotLive added n k
+  unfolding attributeNotLive
+  attribute-live-same added k l =
+      ap₂ (λ (p q : Bool). p || q)
+      (not-live-same (s Attributes) Attributes (m .classes .row k) ∙ same-by (notLive Attributes (n .attributes)) Classes k l)
+      (entry-same added Attributes k l)
+
+  class-live-same : (added : Added) (k : ℕ) → k < m .classes .count → classNotLive added (m .classes) k ≡ classNotLive added (n .classes) k
+  unfolding classNotLive
+  class-live-same added k l =
+      ap₂ (λ (p q : Bool). p || q) (class-wrong-same (s Classes) k l)
+      (ap₂ (λ (p q : Bool). p || q) (barred-same added k l) (entry-same added Classes k l))
 
   all-same : (added : Added) → Each (λ r. SameBreaks m n (r .breaks)) (schemaRules added)
   all-same added =
@@ -82,8 +107,8 @@ module _ {m n : Schema} (s : SameRows m n) where
       & same-by identifierInvalid
       & taken-same everyRow Identifier s
       & taken-same everyRow Guid s
-      & of-classes _ (λ k l. not-live-same a Attributes (m .classes .row k) ∙ same-by (notLive Attributes (n .attributes)) Classes k l)
-      & of-classes _ (λ k l. ap₂ (λ (p q : Bool). p || q) (class-wrong-same c k l) (barred-same added k l))
+      & of-classes _ (attribute-live-same added)
+      & of-classes _ (class-live-same added)
       & of-classes _ (λ k l. category-wrong-same c Auxiliaries (m .classes .row k) ∙ same-by (categoryWrong Auxiliaries (n .classes)) Classes k l)
       & of-classes _ (λ k l. category-wrong-same c Superiors (m .classes .row k) ∙ same-by (categoryWrong Superiors (n .classes)) Classes k l)
       & of-classes _ (inheritance-wrong-same c)

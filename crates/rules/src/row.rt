@@ -19,6 +19,8 @@ use schema::number::AttributeNumber;
 use schema::number::ClassNumber;
 use schema::number::RowId;
 use schema::number::TableId;
+use schema::number::row_id;
+use schema::number::same_table;
 use schema::refusal::ATTRIBUTE_NOT_LIVE;
 use schema::refusal::CATEGORY_MISFIT;
 use schema::refusal::CHAIN_ASTRAY;
@@ -41,23 +43,32 @@ use schema::refusal::SYNTAX_MISFIT;
 use schema::store::attribute_row;
 use schema::store::class_row;
 use schema::store::schema_row;
+use tables::live::is_live;
 use tables::named::ClassList;
+ghost use lib.ListN.{length};
 ghost use mathlib.Core.Bool.{_||_};
 ghost use mathlib.Core.Path.{_≡_};
-ghost use Prim.Native.Nat.{_<_};
+ghost use Prim.Native.Nat.{_<_, _≤_};
 ghost use Rattle.prelude.specs.First.{firstOf};
 ghost use Rattle.schema.specs.Numbers.{tableOf, numberOf};
 ghost use Rattle.schema.specs.declared.number.TableId.the-variants.{Attributes, Classes};
 ghost use Rattle.schema.specs.Store.{table, tableIn, schemaIn};
+ghost use Rattle.schema.specs.Layout.{commonWidth};
 ghost use Rattle.tables.specs.Shaped.{TableShaped, Shaped};
 ghost use Rattle.rules_class.specs.Live.{classWrong};
 ghost use Rattle.prelude.specs.Unlike.{Unlike};
-ghost use Rattle.rules.specs.Rules.{barred, commonNumbers, schemaRules, rulesOf, breaks, rowCases};
+ghost use Rattle.rules.specs.Rules.{barred, entryDead, attributeNotLive, classNotLive, commonNumbers, schemaRules, rulesOf, breaks, rowCases};
 
-// The class that was added, if any: no list of it may hold its own number.
+// What a change added, where a rule binds it by itself: a class, none of whose lists may hold its own number; an entry of a class's list, which must be
+// live, though no set may be able to hold its number.
 pub enum Added {
     Nothing,
     Class(ClassNumber),
+    Entry {
+        class: ClassNumber,
+        table: TableId,
+        number: usize,
+    },
 }
 
 // The order of judging.
@@ -95,18 +106,62 @@ fn is_barred(added: Added, classes: &[u8], c: ClassNumber) -> bool
             }
             lists_itself(classes, c)
         }
+        Added::Entry {
+            class: _,
+            table: _,
+            number: _,
+        } => false,
     }
+}
+
+// Whether an entry that names a row of a table was added to a list of class c, and is not live. The store is the named table's.
+fn entry_dead(added: Added, table: TableId, store: &[u8], row: &[u8], c: ClassNumber) -> bool
+    requires { ⌜ TableShaped table (now store) × (commonWidth ≤ length (now row)) ⌝ }
+    ensures { λ r. ⌜ r ≡ entryDead added table (tableIn table (now (store .entry))) (now (row .entry)) (c .0) ⌝ }
+{
+    match added {
+        Added::Nothing => false,
+        Added::Class(_) => false,
+        Added::Entry {
+            class,
+            table: named,
+            number,
+        } => {
+            if class.0 != c.0 {
+                return false;
+            }
+            if !same_table(named, table) {
+                return false;
+            }
+            !is_live(store, row, row_id(table, number))
+        }
+    }
+}
+
+// Whether class c breaks rule 17.
+fn attribute_not_live(added: Added, attributes: &[u8], classes: &[u8], c: ClassNumber) -> bool
+    requires { ⌜ Shaped (now attributes) (now classes) × (c .0 < tableIn Classes (now classes) .count) ⌝ }
+    ensures { λ r. ⌜ r ≡ attributeNotLive added (schemaIn (now (attributes .entry)) (now (classes .entry))) (c .0) ⌝ }
+{
+    let row = class_row(classes, c);
+    if not_live(TableId::Attributes, attributes, row) {
+        return true;
+    }
+    entry_dead(added, TableId::Attributes, attributes, row, c)
 }
 
 // Whether class c breaks rule 18.
 fn class_not_live(added: Added, classes: &[u8], c: ClassNumber) -> bool
     requires { ⌜ TableShaped Classes (now classes) × (c .0 < tableIn Classes (now classes) .count) ⌝ }
-    ensures { λ r. ⌜ r ≡ (classWrong (tableIn Classes (now (classes .entry))) (c .0) || barred added (tableIn Classes (now (classes .entry))) (c .0)) ⌝ }
+    ensures { λ r. ⌜ r ≡ classNotLive added (tableIn Classes (now (classes .entry))) (c .0) ⌝ }
 {
     if class_wrong(classes, c) {
         return true;
     }
-    is_barred(added, classes, c)
+    if is_barred(added, classes, c) {
+        return true;
+    }
+    entry_dead(added, TableId::Classes, classes, class_row(classes, c), c)
 }
 
 // Whether an attribute breaks the rule of a number, one that does not bind rows of both tables.
@@ -137,7 +192,7 @@ fn class_breaks(added: Added, attributes: &[u8], classes: &[u8], number: u8, c: 
 {
     let row = class_row(classes, c);
     match number {
-        ATTRIBUTE_NOT_LIVE => not_live(TableId::Attributes, attributes, row),
+        ATTRIBUTE_NOT_LIVE => attribute_not_live(added, attributes, classes, c),
         CLASS_NOT_LIVE => class_not_live(added, classes, c),
         NOT_AN_AUXILIARY => category_wrong(ClassList::Auxiliaries, classes, row),
         NOT_A_SUPERIOR => category_wrong(ClassList::Superiors, classes, row),

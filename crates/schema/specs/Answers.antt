@@ -4,14 +4,12 @@ use Prim.Native.Nat.{ℕ}
 use Rattle.wire.specs.declared.FieldRead.{FieldRead}
 use Rattle.wire.specs.declared.FieldRead.the-variants.{Field, End, Bad}
 use Rattle.schema.specs.declared.answer.Answer.{Answer}
-use Rattle.schema.specs.declared.number.ClassRead.{ClassRead}
-use Rattle.schema.specs.declared.number.AttributeRead.{AttributeRead}
+use Rattle.schema.specs.declared.number.NumberRead.{NumberRead}
 use Rattle.schema.specs.declared.number.TableId.{TableId}
 use Rattle.schema.specs.declared.number.TableId.the-variants.{Attributes, Classes}
 use Rattle.schema.specs.Numbers.{limit}
 use Rattle.schema.specs.Store.{table}
-use Rattle.schema.specs.declared.number.ClassRead.the-variants as class
-use Rattle.schema.specs.declared.number.AttributeRead.the-variants as attribute
+use Rattle.schema.specs.declared.number.NumberRead.the-variants as number
 use Rattle.schema.specs.Refusals as refusal
 
 abbrev pub answer : ℕ → ℕ → ℕ → Answer
@@ -61,10 +59,6 @@ fieldAnswer end End = unreadable end
 fieldAnswer end (Bad at) = unreadable at
 
 -- a target beyond the limit: "5 target row not there"
-abbrev pub classAnswer : ClassRead → Answer
-classAnswer (class.Class c) = passed
-classAnswer class.Beyond = refused refusal.noSuchRow
-
-abbrev pub attributeAnswer : AttributeRead → Answer
-attributeAnswer (attribute.Attribute a) = passed
-attributeAnswer attribute.Beyond = refused refusal.noSuchRow
+abbrev pub numberAnswer : NumberRead → Answer
+numberAnswer (number.Row id) = passed
+numberAnswer number.Beyond = refused refusal.noSuchRow

@@ -1,5 +1,5 @@
 -- Class numbers and attribute numbers with their limits. Document 01: "at most 128 classes and 256 attributes (house)".
-use mathlib.Core.Bool.{Bool, cond, false}
+use mathlib.Core.Bool.{Bool, cond, true, false, _&&_}
 use mathlib.Core.Path.{_≡_}
 use Prim.Native.Nat.{ℕ}
 use lib.Dec.{eqb, ltb}
@@ -9,8 +9,10 @@ use Rattle.schema.specs.declared.number.TableId.{TableId}
 use Rattle.schema.specs.declared.number.TableId.the-variants.{Attributes, Classes}
 use Rattle.schema.specs.declared.number.RowId.{RowId}
 use Rattle.schema.specs.declared.number.RowId.the-variants.{Attribute, Class}
+use Rattle.schema.specs.declared.number.NumberRead.{NumberRead}
 use Rattle.schema.specs.declared.number.ClassRead.the-variants as class
 use Rattle.schema.specs.declared.number.AttributeRead.the-variants as attribute
+use Rattle.schema.specs.declared.number.NumberRead.the-variants as number
 
 abbrev pub classLimit : ℕ
 classLimit = 128
@@ -46,12 +48,20 @@ abbrev pub numberOf : RowId → ℕ
 numberOf (Attribute a) = a .0
 numberOf (Class c) = c .0
 
+-- a number where a row of a table is meant
+abbrev pub numberRead : TableId → ℕ → NumberRead
+numberRead t n = cond (ltb n (limit t)) (number.Row (rowId t n)) number.Beyond
+
+-- two tables are one
+unfoldable pub sameTable : TableId → TableId → Bool
+sameTable Attributes Attributes = true
+sameTable Attributes Classes = false
+sameTable Classes Attributes = false
+sameTable Classes Classes = true
+
 -- row k of table t and row j of table u are one
 unfoldable pub sameRow : TableId → ℕ → TableId → ℕ → Bool
-sameRow Attributes k Attributes j = eqb k j
-sameRow Attributes k Classes j = false
-sameRow Classes k Attributes j = false
-sameRow Classes k Classes j = eqb k j
+sameRow t k u j = sameTable t u && eqb k j
 
 abbrev pub SameRow : TableId → ℕ → TableId → ℕ → Type 0
 SameRow t k u j = (t ≡ u) × (k ≡ j)

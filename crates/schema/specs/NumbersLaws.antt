@@ -6,12 +6,12 @@ use native.Mathlib.Omega.{arith}
 use lib.Dec.{ltb}
 use borrow.Author.Tests.{ltb-true, ltb-false}
 use Rattle.prelude.specs.Says.{Says}
-use Rattle.prelude.specs.SaysLaws.{says-eq, says-iff}
+use Rattle.prelude.specs.SaysLaws.{says-eq, says-and}
 use Rattle.schema.specs.declared.number.ClassNumber.{ClassNumber}
 use Rattle.schema.specs.declared.number.ClassRead.the-variants.{Class, Beyond}
 use Rattle.schema.specs.declared.number.TableId.{TableId}
 use Rattle.schema.specs.declared.number.TableId.the-variants.{Attributes, Classes}
-use Rattle.schema.specs.Numbers.{classLimit, attributeLimit, limit, classRead, rowId, tableOf, numberOf, sameRow, SameRow}
+use Rattle.schema.specs.Numbers.{classLimit, attributeLimit, limit, classRead, rowId, tableOf, numberOf, sameTable, sameRow, SameRow}
 
 pub class-is : (n : ℕ) (c : ClassNumber) → classRead n ≡ Class c → (n ≡ c .0) × (n < classLimit)
 class-is n c e = go (ltb n classLimit) refl
@@ -44,9 +44,13 @@ limit-most Classes = omega arith
 pub apart : Attributes ≡ Classes → ⊥
 apart e = let no : _≡_ {A = ℕ} 0 1 = cc in omega arith
 
+pub says-same-table : (t u : TableId) → Says (sameTable t u) (t ≡ u)
+unfolding sameTable
+says-same-table Attributes Attributes = record { holds = λ e. refl; passes = λ e. refl }
+says-same-table Attributes Classes = record { holds = λ e. absurd (false≢true e); passes = λ e. absurd (apart e) }
+says-same-table Classes Attributes = record { holds = λ e. absurd (false≢true e); passes = λ e. absurd (apart (sym e)) }
+says-same-table Classes Classes = record { holds = λ e. refl; passes = λ e. refl }
+
 pub says-same-row : (t : TableId) (k : ℕ) (u : TableId) (j : ℕ) → Says (sameRow t k u j) (SameRow t k u j)
 unfolding sameRow
-says-same-row Attributes k Attributes j = says-iff (says-eq k j) (λ e. (refl, e), λ h. h .1)
-says-same-row Attributes k Classes j = record { holds = λ e. absurd (false≢true e); passes = λ h. absurd (apart (h .0)) }
-says-same-row Classes k Attributes j = record { holds = λ e. absurd (false≢true e); passes = λ h. absurd (apart (sym (h .0))) }
-says-same-row Classes k Classes j = says-iff (says-eq k j) (λ e. (refl, e), λ h. h .1)
+says-same-row t k u j = says-and (says-same-table t u) (says-eq k j)

@@ -2,7 +2,7 @@
 // a type of its own, so that a class row cannot be looked up by an attribute's number. What serves both tables takes a number that says which table
 // it is of.
 ghost use mathlib.Core.Path.{_≡_};
-ghost use Rattle.schema.specs.Numbers.{classRead, attributeRead, limit, rowId, tableOf, numberOf, sameRow};
+ghost use Rattle.schema.specs.Numbers.{classRead, attributeRead, numberRead, limit, rowId, tableOf, numberOf, sameTable, sameRow};
 
 pub struct ClassNumber(pub usize);
 
@@ -30,6 +30,12 @@ pub enum TableId {
 pub enum RowId {
     Attribute(AttributeNumber),
     Class(ClassNumber),
+}
+
+// What a number from outside stands for where a row of a table is meant.
+pub enum NumberRead {
+    Row(RowId),
+    Beyond,
 }
 
 impl ClassNumber {
@@ -72,6 +78,17 @@ pub fn row_limit(table: TableId) -> usize
     }
 }
 
+// A number from outside as a row of a table, there or not.
+pub fn number_read(table: TableId, n: usize) -> NumberRead
+    ensures { λ r. ⌜ r ≡ numberRead table n ⌝ }
+{
+    if n < row_limit(table) {
+        NumberRead::Row(row_id(table, n))
+    } else {
+        NumberRead::Beyond
+    }
+}
+
 // Row k of a table.
 pub fn row_id(table: TableId, k: usize) -> RowId
     ensures { λ r. ⌜ r ≡ rowId table k ⌝ }
@@ -101,18 +118,28 @@ pub fn number_of(id: RowId) -> usize
     }
 }
 
+// Whether two tables are one.
+pub fn same_table(a: TableId, b: TableId) -> bool
+    ensures { λ r. ⌜ r ≡ sameTable a b ⌝ }
+{
+    match a {
+        TableId::Attributes => match b {
+            TableId::Attributes => true,
+            TableId::Classes => false,
+        },
+        TableId::Classes => match b {
+            TableId::Attributes => false,
+            TableId::Classes => true,
+        },
+    }
+}
+
 // Whether two rows are one.
 pub fn same_row(a: RowId, b: RowId) -> bool
     ensures { λ r. ⌜ r ≡ sameRow (tableOf a) (numberOf a) (tableOf b) (numberOf b) ⌝ }
 {
-    match a {
-        RowId::Attribute(k) => match b {
-            RowId::Attribute(j) => k.0 == j.0,
-            RowId::Class(_) => false,
-        },
-        RowId::Class(k) => match b {
-            RowId::Attribute(_) => false,
-            RowId::Class(j) => k.0 == j.0,
-        },
+    if same_table(table_of(a), table_of(b)) {
+        return number_of(a) == number_of(b);
     }
+    false
 }

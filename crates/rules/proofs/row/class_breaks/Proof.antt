@@ -15,11 +15,8 @@ use Rattle.rules.proofs.row.class_breaks.Tie as tie
 class-row-requires : tie.Need-class-row-requires
 class-row-requires c κs = search needs
 
-not-live-requires : tie.Need-not-live-requires
-not-live-requires c κs =
-    let c₁ = c .before in
-    let start = c₁ .before .before .before in
-    (start .pre .0 .attributes, rw (c₁ .class-row .ensures) (omega (arith, shaped-wide (start .pre .0) Classes (start .args .c .0) (start .pre .1))))
+attribute-not-live-requires : tie.Need-attribute-not-live-requires
+attribute-not-live-requires c κs = search needs
 
 class-not-live-requires : tie.Need-class-not-live-requires
 class-not-live-requires c κs = search needs
@@ -50,7 +47,7 @@ naming-wrong-requires c κs =
 
 returns : tie.Need-returns
 unfolding numbered
-returns c = let c₁ = c .before in let c₂ = c₁ .before in rw (c₁ .match .keys1, ← (c₂ .class-row .ensures)) (c .not-live .ensures)
+returns c = rw (c .before .match .keys1) (c .attribute-not-live .ensures)
 
 returns-2 : tie.Need-returns-2
 unfolding numbered
@@ -90,7 +87,7 @@ class-breaks-spec =
     tie.close
     (tie.spec
     class-row-requires
-    not-live-requires
+    attribute-not-live-requires
     class-not-live-requires
     category-wrong-requires
     category-wrong-requires-2

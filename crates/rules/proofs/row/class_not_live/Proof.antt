@@ -1,5 +1,8 @@
 use mathlib.Core.Path.{sym, _∙_}
 use native.Mathlib.Omega.{arith}
+use Rattle.schema.specs.declared.number.TableId.the-variants.{Classes}
+use Rattle.schema.specs.StoreLaws.{table-row-length}
+use Rattle.rules.specs.Rules.{classNotLive}
 use borrow.Author.Needs.{needs}
 use Rattle.rules.proofs.row.class_not_live.Statement.{statement}
 use Rattle.rules.proofs.row.class_not_live.Tie as tie
@@ -8,14 +11,48 @@ class-wrong-requires : tie.Need-class-wrong-requires
 class-wrong-requires c κs = search needs
 
 returns : tie.Need-returns
-returns c = rw (sym (c .before .class-wrong .ensures) ∙ c .if1 .taken)
+unfolding classNotLive
+returns c =
+    let c₁ = c .before in
+    rw (sym (c₁ .class-wrong .ensures) ∙ c .if1 .taken)
 
 is-barred-requires : tie.Need-is-barred-requires
 is-barred-requires c κs = search needs
 
 returns-2 : tie.Need-returns-2
-returns-2 c = let c₁ = c .before in let c₂ = c₁ .before in rw (sym (c₂ .class-wrong .ensures) ∙ c₁ .if1 .left) (c .is-barred .ensures)
+unfolding classNotLive
+returns-2 c =
+    let c₁ = c .before in
+    let c₂ = c₁ .before in
+    let c₃ = c₂ .before in
+    rw (sym (c₃ .class-wrong .ensures) ∙ c₂ .if1 .left, sym (c₁ .is-barred .ensures) ∙ c .if2 .taken)
+
+class-row-requires : tie.Need-class-row-requires
+class-row-requires c κs = search needs
+
+entry-dead-requires : tie.Need-entry-dead-requires
+entry-dead-requires c κs =
+    let start = c .before .before .before .before .before .before in
+    (start .pre .0, rw (c .class-row .ensures) (omega (arith, table-row-length Classes (start .args .classes .now) (start .args .c .0) (start .pre .0 .long) (omega (arith, start .pre .1, start .pre .0 .few)))))
+
+returns-3 : tie.Need-returns-3
+unfolding classNotLive
+returns-3 c =
+    let c₁ = c .before in
+    let c₂ = c₁ .before in
+    let c₃ = c₂ .before in
+    let c₄ = c₃ .before in
+    let c₅ = c₄ .before in
+    rw (sym (c₅ .class-wrong .ensures) ∙ c₄ .if1 .left, sym (c₃ .is-barred .ensures) ∙ c₂ .if2 .left) (rw (c₁ .class-row .ensures) at (c .entry-dead .ensures))
 
 pub class-not-live-spec : {M : Type 1} → statement M
 class-not-live-spec =
-    tie.close (tie.spec class-wrong-requires returns is-barred-requires returns-2)
+    tie.close
+    (tie.spec
+    class-wrong-requires
+    returns
+    is-barred-requires
+    returns-2
+    class-row-requires
+    entry-dead-requires
+    returns-3)

@@ -1,6 +1,5 @@
 use Rattle.rules.specs.Rules.{barred}
 use borrow.Author.Tests.{eq-eqb, ne-eqb}
-use native.Mathlib.Omega.{arith}
 use borrow.Author.Needs.{needs}
 use Rattle.rules.proofs.row.is_barred.Statement.{statement}
 use Rattle.rules.proofs.row.is_barred.Tie as tie
@@ -13,10 +12,15 @@ enum-known-added c = search needs
 
 returns : tie.Need-returns
 unfolding barred
-returns c = rw (c .before .before .before .before .added .given .1, ne-eqb _ _ (c .if1 .taken))
+returns c =
+    let c₁ = c .before .before .before .before in
+    rw (c₁ .added .given .1, ne-eqb _ _ (c .if1 .taken))
 
 lists-itself-requires : tie.Need-lists-itself-requires
 lists-itself-requires c κs = search needs
+
+enum-told-2 : tie.Need-enum-told-2
+enum-told-2 c = search needs
 
 returns-2 : tie.Need-returns-2
 unfolding barred
@@ -27,10 +31,21 @@ unfolding barred
 returns-3 c =
     let c₁ = c .before in
     let c₂ = c₁ .before .before .before .before in
-    rw (c₂ .added .given .1, eq-eqb _ _ (c₁ .if1 .left))
-    (c .lists-itself .ensures)
+    rw (c₂ .added .given .1, eq-eqb _ _ (c₁ .if1 .left)) (c .lists-itself .ensures)
+
+returns-4 : tie.Need-returns-4
+unfolding barred
+returns-4 c = rw (c .enum-told2 .given .1)
 
 pub is-barred-spec : {M : Type 1} → statement M
 is-barred-spec =
     tie.close
-    (tie.spec enum-told enum-known-added returns lists-itself-requires returns-2 returns-3)
+    (tie.spec
+    enum-told
+    enum-known-added
+    returns
+    lists-itself-requires
+    enum-told-2
+    returns-2
+    returns-3
+    returns-4)

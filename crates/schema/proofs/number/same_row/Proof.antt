@@ -1,53 +1,51 @@
-use borrow.Author.Needs.{needs}
+use mathlib.Core.Path.{sym, _∙_}
 use Rattle.schema.specs.Numbers.{sameRow}
+use borrow.Author.Needs.{needs}
 use Rattle.schema.proofs.number.same_row.Statement.{statement}
 use Rattle.schema.proofs.number.same_row.Tie as tie
 
-enum-known-a : tie.Need-enum-known-a
-enum-known-a c = search needs
+table-of-requires : tie.Need-table-of-requires
+table-of-requires c κs = search needs
 
-enum-known-b : tie.Need-enum-known-b
-enum-known-b c = search needs
+table-of-requires-2 : tie.Need-table-of-requires-2
+table-of-requires-2 c κs = search needs
 
-enum-told : tie.Need-enum-told
-enum-told c = search needs
+same-table-requires : tie.Need-same-table-requires
+same-table-requires c κs = search needs
 
-enum-known-a-2 : tie.Need-enum-known-a-2
-enum-known-a-2 c = search needs
+number-of-requires : tie.Need-number-of-requires
+number-of-requires c κs = search needs
 
-enum-told-2 : tie.Need-enum-told-2
-enum-told-2 c = search needs
-
-enum-known-b-2 : tie.Need-enum-known-b-2
-enum-known-b-2 c = search needs
+number-of-requires-2 : tie.Need-number-of-requires-2
+number-of-requires-2 c κs = search needs
 
 returns : tie.Need-returns
 unfolding sameRow
-returns c = let c₁ = c .before .before .before in let c₂ = c₁ .before .before .before in rw (c₂ .a .given .1, c₁ .b .given .1)
+returns c =
+    let c₁ = c .before in
+    let c₂ = c₁ .before in
+    let c₃ = c₂ .before in
+    let c₄ = c₃ .before in
+    let c₅ = c₄ .before in
+    let same = sym (rw (c₅ .table-of .ensures, c₄ .table-of2 .ensures) at (c₃ .same-table .ensures)) ∙ c₂ .if1 .taken in
+    rw (same, c₁ .number-of .ensures, c .number-of2 .ensures)
 
 returns-2 : tie.Need-returns-2
 unfolding sameRow
-returns-2 c = rw (c .before .before .before .a .given .1, c .enum-told .given .1)
-
-returns-3 : tie.Need-returns-3
-unfolding sameRow
-returns-3 c = rw (c .before .before .before .a2 .given .1, c .enum-told2 .given .1)
-
-returns-4 : tie.Need-returns-4
-unfolding sameRow
-returns-4 c = let c₁ = c .before .before .before in let c₂ = c₁ .before .before .before in rw (c₂ .a2 .given .1, c₁ .b2 .given .1)
+returns-2 c =
+    let c₁ = c .before in
+    let c₂ = c₁ .before in
+    let c₃ = c₂ .before in
+    rw (sym (rw (c₃ .table-of .ensures, c₂ .table-of2 .ensures) at (c₁ .same-table .ensures)) ∙ c .if1 .left)
 
 pub same-row-spec : {M : Type 1} → statement M
 same-row-spec =
     tie.close
     (tie.spec
-    enum-known-a
-    enum-known-b
-    enum-told
-    enum-known-a-2
-    enum-told-2
-    enum-known-b-2
+    table-of-requires
+    table-of-requires-2
+    same-table-requires
+    number-of-requires
+    number-of-requires-2
     returns
-    returns-2
-    returns-3
-    returns-4)
+    returns-2)
