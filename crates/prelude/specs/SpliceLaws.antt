@@ -181,3 +181,41 @@ splice-none at s = rw (add-zero at) (take-append-drop at s)
 pub write-turn : (at next : ℕ) (u v out out′ : List ℕ) → at + length u ≤ length out → next ≡ at + length u → out′ ≡ splice at u out
     → splice next v out′ ≡ splice at (u ++ v) out
 write-turn at next u v out out′ h e q = rw (e, q) (splice-append at u out h v)
+
+-- ---- parts that lie apart
+
+-- a byte after a splice comes from the new part or from the same place
+splice-at-cong : (at : ℕ) (new s t : List ℕ) → length s ≡ length t → at + length new ≤ length s → (i : ℕ) → getD s i 0 ≡ getD t i 0
+    → getD (splice at new s) i 0 ≡ getD (splice at new t) i 0
+splice-at-cong at new s t e h i q = go (decLt i at) (decLt i (at + length new))
+  where
+    k : at + length new ≤ length t
+    k = omega arith
+
+    go : Dec (i < at) → Dec (i < at + length new) → getD (splice at new s) i 0 ≡ getD (splice at new t) i 0
+    go (yes l) d = splice-at-before at new s h i l ∙ q ∙ sym (splice-at-before at new t k i l)
+    go (no l) (yes m) =
+        let j : i ≡ at + (i - at) = omega arith in
+        rw j (splice-at-same at new s h (i - at) (omega arith) ∙ sym (splice-at-same at new t k (i - at) (omega arith)))
+    go (no l) (no m) = splice-at-after at new s h i (omega arith) ∙ q ∙ sym (splice-at-after at new t k i (omega arith))
+
+pub splice-apart : (a b : ℕ) (x y s : List ℕ) → a + length x ≤ b → b + length y ≤ length s → splice a x (splice b y s) ≡ splice b y (splice a x s)
+splice-apart a b x y s h k =
+    ext-getD 0 (splice a x (splice b y s)) (splice b y (splice a x s)) long (λ i l. go i (decLt i b))
+  where
+    xs : length (splice a x s) ≡ length s
+    xs = splice-length a x s (omega arith)
+
+    ys : length (splice b y s) ≡ length s
+    ys = splice-length b y s k
+
+    long : length (splice a x (splice b y s)) ≡ length (splice b y (splice a x s))
+    long = splice-length a x (splice b y s) (omega (arith, ys)) ∙ ys ∙ sym xs ∙ sym (splice-length b y (splice a x s) (omega (arith, xs)))
+
+    go : (i : ℕ) → Dec (i < b) → getD (splice a x (splice b y s)) i 0 ≡ getD (splice b y (splice a x s)) i 0
+    go i (yes l) =
+        splice-at-cong a x (splice b y s) s ys (omega (arith, ys)) i (splice-at-before b y s k i l)
+        ∙ sym (splice-at-before b y (splice a x s) (omega (arith, xs)) i l)
+    go i (no l) =
+        splice-at-after a x (splice b y s) (omega (arith, ys)) i (omega arith)
+        ∙ sym (splice-at-cong b y (splice a x s) s xs (omega (arith, xs)) i (splice-at-after a x s (omega arith) i (omega arith)))

@@ -228,6 +228,17 @@ pub bit-with-other : (s : List ℕ) (n k : ℕ) → ¬ (k ≡ n) → bit (withMe
 unfolding withMember
 bit-with-other s n k d = bit-same s (λ j. member s j || eqb j n) k (or-false (member s k) (eqb k n) (says-false (says-eq k n) d))
 
+-- a number that the set has no room for changes nothing
+pub with-beyond : (s : List ℕ) (n : ℕ) → ((i : ℕ) → getD s i 0 < 256) → length s * 8 ≤ n → withMember n s ≡ s
+unfolding withMember
+with-beyond s n b l = sym (is-set s (length s) (λ k. member s k || eqb k n) refl b
+    (λ k m. bit-flag s k ∙ ap flag (sym (or-false (member s k) (eqb k n) (says-false (says-eq k n) (λ e. omega arith))))))
+
+pub without-beyond : (s : List ℕ) (n : ℕ) → ((i : ℕ) → getD s i 0 < 256) → length s * 8 ≤ n → withoutMember n s ≡ s
+unfolding withoutMember
+without-beyond s n b l = sym (is-set s (length s) (λ k. member s k && not (eqb k n)) refl b
+    (λ k m. bit-flag s k ∙ ap flag (sym (and-true (member s k) (not (eqb k n)) (ap not (says-false (says-eq k n) (λ e. omega arith)))))))
+
 pub bit-without : (s : List ℕ) (n : ℕ) → bit (withoutMember n s) n ≡ 0
 unfolding withoutMember
 bit-without s n = go (decLt n (length s * 8))

@@ -21,8 +21,8 @@ pub fn has(s: &[u8], n: usize) -> bool
     }
 }
 
-// Makes n a member of s.
-pub fn insert(s: &mut [u8], n: usize)
+// Makes n, which s has room for, a member of s.
+fn insert_within(s: &mut [u8], n: usize)
     requires { ⌜ n / 8 < length (now s) ⌝ }
     ensures { λ _. ⌜ now (s .exit) ≡ withMember n (now (s .entry)) ⌝ }
 {
@@ -30,13 +30,31 @@ pub fn insert(s: &mut [u8], n: usize)
     s[at] = s[at] | (1u8 << (n % 8));
 }
 
-// Takes n out of s.
-pub fn remove(s: &mut [u8], n: usize)
+// Makes n a member of s; a number that s has no room for is left out.
+pub fn insert(s: &mut [u8], n: usize)
+    ensures { λ _. ⌜ now (s .exit) ≡ withMember n (now (s .entry)) ⌝ }
+{
+    if n / 8 < s.len() {
+        insert_within(s, n);
+    }
+}
+
+// Takes n, which s has room for, out of s.
+fn remove_within(s: &mut [u8], n: usize)
     requires { ⌜ n / 8 < length (now s) ⌝ }
     ensures { λ _. ⌜ now (s .exit) ≡ withoutMember n (now (s .entry)) ⌝ }
 {
     let at = n / 8;
     s[at] = s[at] ^ (s[at] & (1u8 << (n % 8)));
+}
+
+// Takes n out of s.
+pub fn remove(s: &mut [u8], n: usize)
+    ensures { λ _. ⌜ now (s .exit) ≡ withoutMember n (now (s .entry)) ⌝ }
+{
+    if n / 8 < s.len() {
+        remove_within(s, n);
+    }
 }
 
 // Adds the members of b to a.

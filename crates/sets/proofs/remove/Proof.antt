@@ -1,32 +1,24 @@
-use Rattle.sets.proofs.Bytes.{removed}
+use mathlib.Core.Path.{sym}
+use native.Mathlib.Omega.{arith}
+use Rattle.sets.specs.SetsLaws.{without-beyond}
 use borrow.Author.Needs.{needs}
 use Rattle.sets.proofs.remove.Statement.{statement}
 use Rattle.sets.proofs.remove.Tie as tie
 
-slice-read-s : tie.Need-slice-read-s
-slice-read-s c = search needs
-
-slice-read-s-2 : tie.Need-slice-read-s-2
-slice-read-s-2 c = search needs
-
-cast-s : tie.Need-cast-s
-cast-s c = search needs
-
-shl-s : tie.Need-shl-s
-shl-s c = search needs
-
-slice-write-s : tie.Need-slice-write-s
-slice-write-s c = search needs
+remove-within-requires : tie.Need-remove-within-requires
+remove-within-requires c κs = search needs
 
 same-length : tie.Need-same-length
 same-length c = search needs
 
 returns : tie.Need-returns
-returns c =
+returns c = search needs
+
+returns-2 : tie.Need-returns-2
+returns-2 c =
     let c₁ = c .before in
     let start = c₁ .before in
-    removed (start .args .s .now) (start .args .n) (λ j. c₁ .slice-known .given j .fits) (start .pre)
+    sym (without-beyond (start .args .s .now) (start .args .n) (λ i. c₁ .slice-known .given i .fits) (omega (arith, c .if1 .left)))
 
 pub remove-spec : {M : Type 1} → statement M
-remove-spec =
-    tie.close (tie.spec slice-read-s slice-read-s-2 cast-s shl-s slice-write-s same-length returns)
+remove-spec = tie.close (tie.spec remove-within-requires same-length returns returns-2)

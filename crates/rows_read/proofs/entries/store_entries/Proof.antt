@@ -43,12 +43,7 @@ cast-n : tie.Need-cast-n Inv-loop μ-loop
 cast-n c = search needs
 
 insert-requires : tie.Need-insert-requires Inv-loop μ-loop
-insert-requires c κs =
-    let c₁ = c .before in
-    let c₂ = c₁ .before .before in
-    let start = c₂ .before .before .before .before .before .before .before in
-    let w = within-this (c₂ .loop .i) (c₁ .read-u16 .result) (start .args .v .now) (c₂ .loop .cell) (omega arith) (c₁ .read-u16 .ensures) _
-    (c₂ .loop .inv .small) in omega (arith, w, c₂ .loop .inv .long)
+insert-requires c κs = search needs
 
 add-i : tie.Need-add-i Inv-loop μ-loop
 add-i c = omega arith

@@ -1,0 +1,65 @@
+-- A row of a store that was lent to be edited, and comes back.
+use lib.ListN.{drop, length, take}
+use native.Mathlib.Omega.{arith}
+use Prim.Native.Nat.{_*_, _+_, _-_, _≤_, ℕ}
+use mathlib.Core.List.{List, _++_}
+use mathlib.Core.Path.{_∙_, _≡_, ap, ap₂, refl, sym}
+use mathlib.Core.Bool.{false, true, false≢true}
+use mathlib.Core.Logic.{inl}
+use Rattle.change_read.specs.declared.read.Change.the-variants.{Add, SetRange, Rename, Deactivate, Reactivate, AddEntry, RemoveEntry}
+use Rattle.change_read.specs.declared.read.Change.{Change}
+use Rattle.change_read.specs.Carried.{addedRow, targetOf}
+use Rattle.schema.specs.declared.number.TableId.the-variants.{Attributes, Classes}
+use Rattle.schema.specs.declared.number.TableId.{TableId}
+use Rattle.schema.specs.Layout.{classWidth, rowWidth, rowsAt}
+use Rattle.schema.specs.Numbers.{limit}
+use Rattle.schema.specs.Store.{tableIn}
+use Rattle.change_rows.specs.Stores.{Applicable, storeAfter}
+use Rattle.change_rows.specs.RowsLaws.{edited-wide}
+use Rattle.change_rows.specs.Rows.{editedRow, isAddition, tableFor}
+use Rattle.prelude.specs.LentLaws.{lent-back}
+use Rattle.prelude.specs.Part.{part, splice}
+use Rattle.prelude.specs.PartLaws.{part-cut, part-length, row-fits}
+use Rattle.tables.specs.Filled.{plusIn, putIn}
+
+module _ (change : Change) (r s : List ℕ) (ok : Applicable change r s) (fixed : isAddition change ≡ false) (w k : ℕ)
+    (wide : w ≡ rowWidth (tableFor change)) (is : k ≡ targetOf r) where
+  pub row-inside : rowsAt + w * k + w ≤ length s
+  row-inside = row-fits rowsAt w (limit (tableFor change)) k (length s)
+      (rw wide (ok .long)) (rw is (ok .within fixed))
+
+  abbrev at : ℕ
+  at = rowsAt + w * k
+
+  lent : take (at + w - at) (drop at s) ≡ tableIn (tableFor change) s .row (targetOf r)
+  lent = part-cut at w s (at + w) refl ∙ ap₂ (λ (x y : ℕ). part (rowsAt + x * y) x s) wide is
+
+  pub lent-wide : length (take (at + w - at) (drop at s)) ≡ rowWidth (tableFor change)
+  lent-wide = ap length (part-cut at w s (at + w) refl) ∙ part-length at w s row-inside ∙ wide
+
+  pub edited-back : (back : List ℕ) → back ≡ editedRow change r (take (at + w - at) (drop at s))
+      → take at s ++ (back ++ drop (at + w - at) (drop at s)) ≡ storeAfter change r s
+  unfolding storeAfter putIn
+  edited-back back e =
+      let new = editedRow change r (tableIn (tableFor change) s .row (targetOf r)) in
+      let long : length new ≡ rowWidth (tableFor change) = edited-wide change r _ (ok .carried) (inl (sym (ap length lent) ∙ lent-wide)) in
+      rw fixed
+      (lent-back at (at + w) s back new (omega (arith, long, wide)) (e ∙ ap (editedRow change r) lent)
+      ∙ ap₂ (λ (x y : ℕ). splice (rowsAt + x * y) new s) wide is)
+
+-- no row is wider than a class row
+pub narrow-row : (t : TableId) → rowWidth t ≤ classWidth
+narrow-row Attributes = omega arith
+narrow-row Classes = omega arith
+
+-- a row that was put last
+pub added-store : (change : Change) (r s : List ℕ) {new after : List ℕ} {t : TableId} → isAddition change ≡ true → t ≡ tableFor change
+    → new ≡ addedRow t r → after ≡ plusIn t new s → after ≡ storeAfter change r s
+unfolding storeAfter editedRow
+added-store (Add u) r s h q e p = p ∙ ap₂ (λ (x : TableId) (y : List ℕ). plusIn x y s) q (e ∙ ap (λ (x : TableId). addedRow x r) q)
+added-store SetRange r s h q e p = absurd (false≢true h)
+added-store (Rename u) r s h q e p = absurd (false≢true h)
+added-store (Deactivate u) r s h q e p = absurd (false≢true h)
+added-store (Reactivate u) r s h q e p = absurd (false≢true h)
+added-store AddEntry r s h q e p = absurd (false≢true h)
+added-store RemoveEntry r s h q e p = absurd (false≢true h)

@@ -1,0 +1,43 @@
+-- A part of a row that was lent, and comes back changed.
+use native.Mathlib.Omega.{arith}
+use lib.ListN.{length, take, drop}
+use Prim.Native.Nat.{ℕ, _+_, _≤_, _-_, _<_}
+use mathlib.Core.List.{List, _++_}
+use mathlib.Core.Path.{ap₂, _≡_, _∙_, ap, ap₂, refl}
+use Rattle.change_read.specs.declared.read.Change.{Change}
+use Rattle.change_read.specs.declared.carried.OpenList.{OpenList}
+use Rattle.change_read.specs.declared.carried.OpenList.the-variants.{Optional, Auxiliary, Superior}
+use Rattle.schema.specs.declared.number.TableId.the-variants.{Attributes, Classes}
+use lib.ListN.{drop}
+use Rattle.change_rows.specs.Lists.{openAt, listWidth, openOf}
+use Rattle.change_rows.specs.Rows.{tableFor}
+use Rattle.change_rows.specs.RowsLaws.{list-inside}
+use Rattle.schema.specs.Layout.{rowWidth, classWidth, commonWidth}
+use Rattle.schema.specs.declared.number.TableId.{TableId}
+use Rattle.prelude.specs.Part.{splice, part}
+use Rattle.prelude.specs.PartLaws.{part-cut, part-length}
+use Rattle.prelude.specs.LentLaws.{lent-back}
+
+-- an open list that was lent
+module _ (list : OpenList) (at width : ℕ) (row : List ℕ) (is : at ≡ openAt list) (wide : width ≡ listWidth list) (long : length row ≡ classWidth) where
+  inside : at + width ≤ length row
+  inside = omega (arith, list-inside list)
+
+  pub list-back : (f : List ℕ → List ℕ) (back : List ℕ) → ((s : List ℕ) → length (f s) ≡ length s) → back ≡ f (take (at + width - at) (drop at row))
+      → take at row ++ (back ++ drop (at + width - at) (drop at row)) ≡ splice (openAt list) (f (openOf list row)) row
+  list-back f back same e =
+      let cut : take (at + width - at) (drop at row) ≡ part at width row = part-cut at width row (at + width) refl in
+      lent-back at (at + width) row back (f (part at width row))
+      (omega (arith, same (part at width row), part-length at width row inside)) (e ∙ ap f cut)
+      ∙ ap₂ (λ (a w : ℕ). splice a (f (part a w row)) row) is wide
+
+-- how wide the row is
+pub common-row : (change : Change) (row : List ℕ) → length row ≡ rowWidth (tableFor change) → commonWidth < length row
+common-row change row e = omega (arith, narrow (tableFor change))
+  where
+    narrow : (t : TableId) → commonWidth < rowWidth t
+    narrow Attributes = omega arith
+    narrow Classes = omega arith
+
+pub wide-row : {change is : Change} (row : List ℕ) → change ≡ is → length row ≡ rowWidth (tableFor change) → length row ≡ rowWidth (tableFor is)
+wide-row row e l = l ∙ ap (λ (x : Change). rowWidth (tableFor x)) e

@@ -1,0 +1,57 @@
+// The open lists of a class.
+use change_read::carried::OpenList;
+use schema::layout::ATTRIBUTE_SET;
+use schema::layout::CLASS_SET;
+use schema::layout::FIXED_AUXILIARY;
+use schema::layout::FIXED_OPTIONAL;
+use schema::layout::FIXED_SUPERIOR;
+use schema::layout::OPEN_AUXILIARY;
+use schema::layout::OPEN_OPTIONAL;
+use schema::layout::OPEN_SUPERIOR;
+use schema::number::TableId;
+ghost use mathlib.Core.Path.{_≡_};
+ghost use Rattle.change_rows.specs.Lists.{listTable, openAt, fixedAt, listWidth};
+
+// The table whose rows a list names.
+pub fn list_table(list: OpenList) -> TableId
+    ensures { λ r. ⌜ r ≡ listTable list ⌝ }
+{
+    match list {
+        OpenList::Optional => TableId::Attributes,
+        OpenList::Auxiliary => TableId::Classes,
+        OpenList::Superior => TableId::Classes,
+    }
+}
+
+// Where it stands in a class row.
+pub fn open_at(list: OpenList) -> usize
+    ensures { λ r. ⌜ r ≡ openAt list ⌝ }
+{
+    match list {
+        OpenList::Optional => OPEN_OPTIONAL,
+        OpenList::Auxiliary => OPEN_AUXILIARY,
+        OpenList::Superior => OPEN_SUPERIOR,
+    }
+}
+
+// Where the fixed list of the same kind stands.
+pub fn fixed_at(list: OpenList) -> usize
+    ensures { λ r. ⌜ r ≡ fixedAt list ⌝ }
+{
+    match list {
+        OpenList::Optional => FIXED_OPTIONAL,
+        OpenList::Auxiliary => FIXED_AUXILIARY,
+        OpenList::Superior => FIXED_SUPERIOR,
+    }
+}
+
+// How wide both are.
+pub fn list_width(list: OpenList) -> usize
+    ensures { λ r. ⌜ r ≡ listWidth list ⌝ }
+{
+    match list {
+        OpenList::Optional => ATTRIBUTE_SET,
+        OpenList::Auxiliary => CLASS_SET,
+        OpenList::Superior => CLASS_SET,
+    }
+}
