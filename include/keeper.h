@@ -51,8 +51,8 @@ extern "C" {
 #define KEEPER_LONGEST_SHEET 410756
 
 /*
- * So many bytes of stack are enough for every call. This is measured, not proved: the most was 35,680 bytes, for a load
- * of a full schema in which each class names all others (docs/LAYOUT.md).
+ * So many bytes of stack are enough for every call. This is measured, not proved: the most was some 35,500 bytes, for
+ * a load or an audit of a full schema in which each class names all others (docs/LAYOUT.md).
  */
 #define KEEPER_STACK 65536
 
@@ -67,11 +67,14 @@ extern "C" {
 #define KEEPER_ATTRIBUTE_TABLE 1
 #define KEEPER_CLASS_TABLE 2
 
-/* The numbers that are no rule of the schema. */
+/*
+ * The numbers that are no rule of the schema. docs/NUMBERS.md says of every number what it means and what can be done
+ * about it. 7 to 11 and 30 are numbers of calls to come, and will be named here with them.
+ */
 #define KEEPER_DONE 0           /* done; or, audited, in order */
 #define KEEPER_SHORT_STORE 1    /* a lent store is shorter than its length: nothing but detail is written */
 #define KEEPER_BROKEN_SHAPE 2   /* counts, rows or unused rows hold bytes that no load could have left there */
-#define KEEPER_WRONG_CLOSURE 3  /* audit: every row is fine, but what is kept of what classes reach is not */
+#define KEEPER_NOT_IN_ORDER 3   /* audit: every row is fine, but the closure store is not what the rows give */
 #define KEEPER_UNREADABLE 4     /* the sheet cannot be read; place: the byte offset */
 #define KEEPER_NO_SUCH_ROW 5    /* the class asked for is not there */
 #define KEEPER_NO_FREE_ROW 6    /* the sheet has more rows than fit; table, and place: the limit */

@@ -2,17 +2,7 @@
 
 mod common;
 
-use common::{LENGTHS, Lent, PAST};
-
-const SHEET: [u8; 67] = [
-    0x01, 0x00, 0x01, 0x01, 0x30, 0x00, 0x3C, //
-    0x01, 0x00, 0x03, 0x74, 0x6F, 0x70, //
-    0x02, 0x00, 0x10, 0, 0, 0, 2, 0, 0, 0, 5, 0, 0, 0, 6, 0, 0, 0, 0, //
-    0x03, 0x00, 0x10, 0x11, 0x11, 0x11, 0x11, 0x11, 0x11, 0x11, 0x11, //
-    0x11, 0x11, 0x11, 0x11, 0x11, 0x11, 0x11, 0x11, //
-    0x04, 0x00, 0x04, 0x00, 0x00, 0x00, 0x10, //
-    0x10, 0x00, 0x01, 0x02, 0x11, 0x00, 0x02, 0x00, 0x00,
-];
+use common::{LENGTHS, Lent, PAPER_SHEET, PAST};
 
 /// The class store that the sheet gives, byte by byte.
 fn class_store() -> Vec<u8> {
@@ -31,7 +21,7 @@ fn class_store() -> Vec<u8> {
 #[test]
 fn it_is_loaded_into_exactly_these_bytes() {
     let mut lent = Lent::filled(0x77);
-    assert_eq!(lent.load(&SHEET), (0, 0, 0));
+    assert_eq!(lent.load(&PAPER_SHEET), (0, 0, 0));
     assert!(lent.attrs[..LENGTHS[0]].iter().all(|byte| *byte == 0));
     assert!(lent.classes[..LENGTHS[1]] == class_store());
     assert_eq!(lent.closure[0], 1);
@@ -46,7 +36,7 @@ fn it_is_loaded_into_exactly_these_bytes() {
 
 #[test]
 fn it_is_in_order_and_row_0_has_no_step_to_itself() {
-    let lent = Lent::loaded(&SHEET);
+    let lent = Lent::loaded(&PAPER_SHEET);
     assert_eq!(lent.audit(), (0, 0, 0));
     assert_eq!(lent.depth(0), (0, 0, 0));
     assert_eq!(lent.depth(1), (5, 0, 0));
@@ -55,10 +45,10 @@ fn it_is_in_order_and_row_0_has_no_step_to_itself() {
 
 #[test]
 fn it_is_written_back() {
-    let lent = Lent::loaded(&SHEET);
+    let lent = Lent::loaded(&PAPER_SHEET);
     let mut out = [PAST; 70];
     assert_eq!(lent.write(&mut out), (0, 0, 67));
-    assert_eq!(out[..67], SHEET);
+    assert_eq!(out[..67], PAPER_SHEET);
     assert_eq!(out[67..], [PAST; 3]);
     let mut short = [PAST; 66];
     assert_eq!(lent.write(&mut short), (31, 0, 67));
@@ -67,14 +57,17 @@ fn it_is_written_back() {
 
 #[test]
 fn it_is_listed_as_the_paper_lists_it() {
-    let text = reference::listing(&SHEET);
+    let text = reference::listing(&PAPER_SHEET);
     assert_eq!(text, b"no name oid must may\n0 top 2.5.6.0 0 0\n");
 }
 
 #[test]
 fn the_listing_tells_refusals_and_long_sheets() {
     assert_eq!(reference::listing(&[]), b"refused 4 0 0\n");
-    assert_eq!(reference::listing(&SHEET[..4]), b"no name oid must may\n");
+    assert_eq!(
+        reference::listing(&PAPER_SHEET[..4]),
+        b"no name oid must may\n"
+    );
     assert_eq!(reference::listing(&[0x01; 32_768]), b"refused 4 0 0\n");
     assert_eq!(reference::listing(&[0x01; 32_769]), b"too long\n");
 }

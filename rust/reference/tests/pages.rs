@@ -1,0 +1,216 @@
+//! The pages of the repository cite what is there: links lead to files, a name
+//! cited "in" a file stands in it, and every number has one name everywhere.
+
+use std::fs;
+use std::path::{Path, PathBuf};
+
+/// The top of the repository.
+fn top() -> PathBuf {
+    Path::new(env!("CARGO_MANIFEST_DIR")).join("../..")
+}
+
+fn text(path: &str) -> String {
+    let text = fs::read_to_string(top().join(path)).unwrap_or_default();
+    assert!(!text.is_empty(), "{path}");
+    text
+}
+
+/// A page: the folder that it stands in, and its words with single spaces, so
+/// that it does not matter where its lines end.
+fn pages() -> Vec<(String, String, String)> {
+    let mut paths = vec!["README.md".to_owned(), "CONTRIBUTING.md".to_owned()];
+    paths.push("rust/README.md".to_owned());
+    let docs = fs::read_dir(top().join("docs")).into_iter().flatten();
+    let names = docs.filter_map(|entry| Some(entry.ok()?.file_name().to_string_lossy().into()));
+    paths.extend(names.map(|name: String| format!("docs/{name}")));
+    let page = |path: String| {
+        let folder = path.rsplit_once('/').map_or("", |(folder, _)| folder);
+        let words: Vec<_> = text(&path).split_whitespace().map(str::to_owned).collect();
+        (path.clone(), folder.to_owned(), words.join(" "))
+    };
+    paths.into_iter().map(page).collect()
+}
+
+/// The file that a text begins with the path of: a link from a folder, or a
+/// path from the top.
+fn target(folder: &str, text: &str) -> Option<PathBuf> {
+    if let Some(link) = text.strip_prefix('[') {
+        let (_, rest) = link.split_once("](")?;
+        let (path, _) = rest.split_once(')')?;
+        let path = path.split('#').next()?;
+        return (!path.contains("://")).then(|| top().join(folder).join(path));
+    }
+    let of_path = |letter: char| letter.is_ascii_alphanumeric() || "/._-".contains(letter);
+    let end = text.find(|letter| !of_path(letter)).unwrap_or(text.len());
+    let path = text[..end].trim_end_matches('.');
+    let folders = ["crates/", "docs/", "include/", "examples/", "samples/"];
+    let is_path = folders.iter().any(|folder| path.starts_with(folder));
+    let named = !path.contains("NAME") && !text[end..].starts_with('*');
+    (is_path && named).then(|| top().join(path))
+}
+
+#[test]
+fn links_and_paths_lead_to_files() {
+    for (page, folder, words) in pages() {
+        let links = words.match_indices("](").map(|(at, _)| {
+            let from = words[..at].rfind('[').unwrap_or(at);
+            &words[from..]
+        });
+        let paths = words
+            .split(' ')
+            .map(|word| word.trim_start_matches(['`', '(']));
+        for text in links.chain(paths) {
+            let path = target(&folder, text);
+            let is_there = path.as_ref().is_none_or(|path| path.exists());
+            assert!(is_there, "{page}: {path:?}");
+        }
+    }
+}
+
+/// The names in backquotes at the end of a text, with commas and the like
+/// between them.
+fn cited(mut text: &str) -> Vec<&str> {
+    let mut names = Vec::new();
+    while let Some((rest, name)) = text
+        .strip_suffix('`')
+        .and_then(|text| text.rsplit_once('`'))
+    {
+        names.push(name);
+        let between = [", ", " and ", " with the key ", " with "];
+        let stripped = between.iter().find_map(|word| rest.strip_suffix(word));
+        text = stripped.unwrap_or("");
+    }
+    names
+}
+
+/// Whether a name stands in a text as a whole word.
+fn has_name(text: &str, name: &str) -> bool {
+    let of_name = |letter: char| letter.is_alphanumeric() || "_-′".contains(letter);
+    text.match_indices(name).any(|(at, _)| {
+        let before = text[..at].chars().next_back();
+        let after = text[at + name.len()..].chars().next();
+        !before.is_some_and(of_name) && !after.is_some_and(of_name)
+    })
+}
+
+#[test]
+fn a_name_cited_in_a_file_stands_in_it() {
+    let mut count = 0;
+    for (page, folder, words) in pages() {
+        for (at, _) in words.match_indices(" in ") {
+            let Some(path) = target(&folder, &words[at + 4..]) else {
+                continue;
+            };
+            let file = fs::read_to_string(&path).unwrap_or_default();
+            for name in cited(&words[..at]) {
+                let name = name.rsplit("::").next().unwrap_or(name);
+                assert!(has_name(&file, name), "{page}: {name} in {path:?}");
+                count += 1;
+            }
+        }
+    }
+    assert!(count > 200, "{count} names");
+}
+
+/// Number and name of each `pub const NAME: u8 = NUMBER;`.
+fn refusals() -> Vec<(u64, String)> {
+    let code = text("crates/schema/src/refusal.rt");
+    let constants = code.lines().filter_map(|line| {
+        let (name, number) = line.strip_prefix("pub const ")?.split_once(": u8 = ")?;
+        let number = number.strip_suffix(';')?.parse().ok()?;
+        Some((number, name.to_owned()))
+    });
+    constants.collect()
+}
+
+/// NAME_TAKEN as nameTaken.
+fn camel(name: &str) -> String {
+    let mut words = name.split('_');
+    let first = words.next().unwrap_or_default().to_lowercase();
+    let rest = words.map(|word| word[..1].to_owned() + &word[1..].to_lowercase());
+    first + &rest.collect::<String>()
+}
+
+#[test]
+fn every_number_has_its_section_under_its_name() {
+    let page = text("docs/NUMBERS.md");
+    let headings: Vec<_> = page
+        .lines()
+        .filter(|line| line.starts_with("## "))
+        .collect();
+    let named = refusals();
+    let expected: Vec<_> = named
+        .iter()
+        .map(|(n, name)| format!("## {n} {name}"))
+        .collect();
+    assert_eq!(headings, expected);
+    assert!(named.iter().map(|(number, _)| *number).eq(0..=31));
+    let parts = [
+        "Do",
+        "Calls",
+        "Table and place",
+        "Definition",
+        "Code",
+        "Theorem",
+    ];
+    for section in page.split("\n## ").skip(1) {
+        let lines = section.lines().filter_map(|line| line.strip_prefix("- "));
+        let given: Vec<_> = lines.filter_map(|line| line.split(':').next()).collect();
+        assert_eq!(given, parts, "{section}");
+    }
+}
+
+#[test]
+fn definitions_and_header_have_the_same_names() {
+    let definitions = text("crates/schema/specs/Refusals.antt");
+    let header = text("include/keeper.h");
+    for (number, name) in refusals() {
+        let definition = format!("\n{} = {number}\n", camel(&name));
+        assert!(definitions.contains(&definition), "{name}");
+        let to_come = matches!(number, 7..=11 | 30);
+        let define = format!("\n#define KEEPER_{name} {number}");
+        assert_eq!(header.contains(&define), !to_come, "{name}");
+    }
+}
+
+/// The files of definitions that a file brings in: its lines
+/// "use Rattle.CRATE.specs.FILE..", without those for types that code declares.
+fn brought_in(path: &str) -> Vec<String> {
+    let code = text(path);
+    let uses = code.lines().filter_map(|line| {
+        let (name, rest) = line.strip_prefix("use Rattle·")?.split_once(".specs.")?;
+        let name = name.trim_end_matches("·specs");
+        let end = rest.find(['.', ' ']).unwrap_or(rest.len());
+        let file = &rest[..end];
+        (file != "declared").then(|| format!("crates/{name}/specs/{file}.antt"))
+    });
+    uses.collect()
+}
+
+/// "What must be believed" lists what the promises bring in, each file once,
+/// and no file of laws is among it.
+#[test]
+fn what_must_be_believed_is_what_the_promises_bring_in() {
+    let mut found = vec!["crates/keeper_promises/specs/Promises.antt".to_owned()];
+    let mut next = 0;
+    while next < found.len() {
+        for path in brought_in(&found[next]) {
+            if !found.contains(&path) {
+                found.push(path);
+            }
+        }
+        next += 1;
+    }
+    found.sort();
+    let page = text("docs/PROOFS.md");
+    let section = page.split("## What must be believed\n").nth(1);
+    let section = section.and_then(|rest| rest.split("\nFor what stands beside").next());
+    let listed = section.unwrap_or_default().lines().filter_map(|line| {
+        let (_, link) = line.strip_prefix("- [")?.split_once("](../")?;
+        Some(link.split_once(')')?.0.to_owned())
+    });
+    let mut listed: Vec<String> = listed.collect();
+    listed.sort();
+    assert_eq!(listed, found);
+    assert!(!found.iter().any(|path| path.contains("Laws")));
+}
