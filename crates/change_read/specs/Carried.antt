@@ -1,6 +1,5 @@
 -- What a change carries, in the scratch row that it was read into. Document 01: "42 to 4A begin with field 20, the target, any u16; then 0A and 0B
--- (an end not given
--- becomes absent), or 01, or 21 (one byte: 15, 17, 19) and 22, the entry, any u16"
+-- (an end not given becomes absent), or 01, or 21 (one byte: 15, 17, 19) and 22, the entry, any u16"
 use mathlib.Core.Bool.{cond}
 use mathlib.Core.List.{List}
 use Prim.Native.Nat.{ℕ, _+_}

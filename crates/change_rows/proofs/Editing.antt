@@ -6,7 +6,6 @@ use mathlib.Core.List.{List, _++_}
 use mathlib.Core.Path.{ap₂, _≡_, _∙_, ap, ap₂, refl}
 use Rattle.change_read.specs.declared.read.Change.{Change}
 use Rattle.change_read.specs.declared.carried.OpenList.{OpenList}
-use Rattle.change_read.specs.declared.carried.OpenList.the-variants.{Optional, Auxiliary, Superior}
 use Rattle.schema.specs.declared.number.TableId.the-variants.{Attributes, Classes}
 use lib.ListN.{drop}
 use Rattle.change_rows.specs.Lists.{openAt, listWidth, openOf}

@@ -19,7 +19,7 @@ use Rattle.schema.specs.Layout.{rowWidth, rowsAt, storeLength}
 use Rattle.prelude.specs.Part.{Bytes, splice}
 use Rattle.prelude.specs.BigEndianLaws.{bytes-length, bytes-of-number}
 use Rattle.prelude.specs.PartLaws.{part-length, row-fits}
-use Rattle.prelude.specs.SpliceLaws.{set-splice, splice-apart, splice-length, splice-over, splice-part, splice-undo, splice-front}
+use Rattle.prelude.specs.SpliceLaws.{splice-apart, splice-length, splice-over, splice-part, splice-undo, splice-front}
 use Rattle.prelude.specs.SaysLaws.{true-or-false}
 use Rattle.change_read.specs.declared.read.Change.{Change}
 use Rattle.change_read.specs.Carried.{targetOf}

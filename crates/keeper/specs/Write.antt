@@ -1,6 +1,5 @@
 -- Write: the stores as a sheet. Document 01: "0 done; .. for a write 0 and the length"; "31 write: output too short; place is the length needed".
--- Stores in shape
--- but not in order are written too (docs/DECISIONS.md, R40).
+-- Stores in shape but not in order are written too (docs/DECISIONS.md, R40).
 use mathlib.Core.Bool.{cond}
 use mathlib.Core.List.{List, [], _∷_, _++_}
 use Prim.Native.Nat.{ℕ}

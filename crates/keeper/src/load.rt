@@ -1,6 +1,5 @@
 // Load: a sheet into the stores. Document 01: "Load never looks at what stood in the stores; it reads left to right and gives 4 or 6, whichever comes
-// first, then
-// judges 12 to 29; refused by 4 or more, it leaves every store byte zero."
+// first, then judges 12 to 29; refused by 4 or more, it leaves every store byte zero."
 use graph::closure::refresh_all;
 use rules::judge::judge;
 use rules::row::Added;

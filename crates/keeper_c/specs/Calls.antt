@@ -1,6 +1,5 @@
 -- The calls as C sees them: the number is returned, table and place stand in the first two numbers of `detail`. Each says what the keeper's own
--- definition says; a
--- `detail` too short for both counts as a short store: "1 a lent store is shorter than its length", and nothing is altered.
+-- definition says; a `detail` too short for both counts as a short store: "1 a lent store is shorter than its length", and nothing is altered.
 use mathlib.Core.Bool.{Bool, cond}
 use mathlib.Core.List.{List}
 use Prim.Native.Nat.{ℕ}
@@ -8,6 +7,7 @@ use lib.Dec.{ltb}
 use lib.ListN.{length, set}
 use Rattle.schema.specs.Store.{Stores, Result}
 use Rattle.schema.specs.declared.answer.Answer.{Answer}
+use Rattle.schema.specs.Refusals as refusal
 use Rattle.keeper.specs.Audit.{audit}
 use Rattle.keeper.specs.Depth.{depth}
 use Rattle.keeper.specs.Load.{load}
@@ -33,10 +33,10 @@ unfoldable pub answered : Answer → List ℕ → Told
 answered a detail = told (a .number) (set (set detail 0 (a .table)) 1 (a .place))
 
 unfoldable pub auditCall : Stores → List ℕ → Told
-auditCall s detail = cond (isShort detail) (told 1 detail) (answered (audit s) detail)
+auditCall s detail = cond (isShort detail) (told refusal.shortStore detail) (answered (audit s) detail)
 
 unfoldable pub depthCall : Stores → ℕ → List ℕ → Told
-depthCall s c detail = cond (isShort detail) (told 1 detail) (answered (depth s c) detail)
+depthCall s c detail = cond (isShort detail) (told refusal.shortStore detail) (answered (depth s c) detail)
 
 -- what a load tells, and the stores as it leaves them
 pub record Loaded : Type 0 where
@@ -50,7 +50,7 @@ abbrev pub loadedBy : Result → List ℕ → Loaded
 loadedBy r detail = loaded (answered (r .answer) detail) (r .left)
 
 unfoldable pub loadCall : List ℕ → Stores → List ℕ → Loaded
-loadCall sheet s detail = cond (isShort detail) (loaded (told 1 detail) s) (loadedBy (load sheet s) detail)
+loadCall sheet s detail = cond (isShort detail) (loaded (told refusal.shortStore detail) s) (loadedBy (load sheet s) detail)
 
 -- what a write tells, and the output as it leaves it
 pub record Wrote : Type 0 where
@@ -64,4 +64,4 @@ abbrev pub wroteBy : Written → List ℕ → Wrote
 wroteBy w detail = wrote (answered (w .answer) detail) (w .output)
 
 unfoldable pub writeCall : Stores → List ℕ → List ℕ → Wrote
-writeCall s output detail = cond (isShort detail) (wrote (told 1 detail) output) (wroteBy (write s output) detail)
+writeCall s output detail = cond (isShort detail) (wrote (told refusal.shortStore detail) output) (wroteBy (write s output) detail)

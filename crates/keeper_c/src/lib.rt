@@ -1,6 +1,5 @@
 // The keeper's calls for C (include/keeper.h). Each returns the answer's number and writes its table and place into `detail`. A `detail` that is too
-// short for
-// both counts as a store that is too short: number 1, and nothing is altered.
+// short for both counts as a store that is too short: number 1, and nothing is altered.
 use keeper::audit::audit;
 use keeper::depth::depth;
 use keeper::load::load;

@@ -1,6 +1,6 @@
 -- A load comes from the sheet alone. Document 01: "Load never looks at what stood in the stores"; demand 3: "The rows in its stores are those that
--- sheet and changes
--- alone give: at first as the sheet reads". docs/DECISIONS.md, R36: only the first bytes count; the rest is neither looked at nor written.
+-- sheet and changes alone give: at first as the sheet reads". docs/DECISIONS.md, R36: only the first bytes count; the rest is neither looked at nor
+-- written.
 use mathlib.Core.Bool.{Bool, true, false, cond}
 use mathlib.Core.List.{List, []}
 use mathlib.Core.Path.{_≡_, refl, sym, ap, subst, _∙_}

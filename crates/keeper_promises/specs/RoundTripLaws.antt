@@ -8,13 +8,11 @@ use native.Mathlib.Omega.{arith}
 use lib.ListN.{length}
 use Rattle.prelude.specs.Part.{Bytes, part, splice}
 use Rattle.prelude.specs.SpliceLaws.{part-splice-same}
-use Rattle.schema.specs.declared.number.TableId.{TableId}
-use Rattle.schema.specs.declared.number.TableId.the-variants.{Attributes, Classes}
+use Rattle.schema.specs.declared.number.TableId.the-variants.{Classes}
 use Rattle.schema.specs.Answers.{passed}
 use Rattle.schema.specs.Layout.{closureLength}
 use Rattle.schema.specs.Store.{LongEnough, Result, Stores, result, schemaOf, stores}
 use Rattle.tables.specs.Same.{SameRows}
-use Rattle.tables_shape.specs.Shape.{storesFormed}
 use Rattle.graph.specs.FreshLaws.{fresh-bytes}
 use Rattle.graph.specs.Graph.{closureRows}
 use Rattle.graph.specs.SameLaws.{closure-rows-same}

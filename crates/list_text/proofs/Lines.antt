@@ -15,7 +15,6 @@ use Rattle.schema.specs.Layout.{commonWidth, nameLimit, arcLimit}
 use Rattle.schema.specs.Row.{nameLength, nameOf, arcCount, arcOf}
 use Rattle.schema.specs.Store.{Table, tableIn}
 use Rattle.schema.specs.declared.number.TableId.the-variants.{Classes}
-use Rattle.schema.specs.Answers.{refused}
 use Rattle.schema.specs.StoreLaws.{table-row-wide}
 use Rattle.list_text.specs.Text.{ascii, decimal, word, textLine}
 use Rattle.list_text.specs.TextLaws.{word-length}

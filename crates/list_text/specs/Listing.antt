@@ -19,7 +19,6 @@ use Rattle.schema.specs.Layout.{nameLimit, arcLimit, attributeSet, demandedAt, 
 use Rattle.schema.specs.Row.{nameOf, arcCount, arcOf}
 use Rattle.schema.specs.Store.{Table, closureAt, Result, tableIn}
 use Rattle.schema.specs.declared.number.TableId.the-variants.{Classes}
-use Rattle.schema.specs.Answers.{refused}
 use Rattle.tables.specs.Shaped.{Bounded}
 use Rattle.tables.specs.Filled.{emptyStores}
 use Rattle.graph.specs.Graph.{Collects, listsMandatory, listsOptional, demands, allows, inherits}

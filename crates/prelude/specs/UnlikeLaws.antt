@@ -1,12 +1,11 @@
 -- What it means that a number is none of some keys.
 use mathlib.Core.Bool.{Bool, true, false, _||_, false≢true}
 use mathlib.Core.List.{List, [], _∷_}
-use mathlib.Core.Logic.{⊎-elim}
 use mathlib.Core.Path.{_≡_, refl, ap₂, sym, ap, _∙_}
 use Prim.Native.Nat.{ℕ, zero, suc, _≤_}
 use native.Mathlib.Omega.{arith}
 use lib.Dec.{eqb}
-use Rattle.prelude.specs.SaysLaws.{says-eq, says-or, says-test, says-false}
+use Rattle.prelude.specs.SaysLaws.{says-eq, says-false}
 use Rattle.prelude.specs.Unlike.{Unlike, among, countdown}
 
 pub unlike-among : (n : ℕ) (keys : List ℕ) → Unlike n keys → among keys n ≡ false

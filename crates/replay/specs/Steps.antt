@@ -1,8 +1,6 @@
 -- The steps of a script, read at a place. "Steps, numbers most significant byte first: 01 load (u32 length, sheet), .. 04 audit, 05 write (u32 length
--- of the output
--- lent ..), 06 depth (u16), 07 poke (u8 store 0..2, u32 offset, u8 byte), 08 resize (u8 store, u32 length; ..)." A step that is cut, has an unknown
--- code, names no
--- store or asks for more than the longest stops the player.
+-- of the output lent ..), 06 depth (u16), 07 poke (u8 store 0..2, u32 offset, u8 byte), 08 resize (u8 store, u32 length; ..)." A step that is cut,
+-- has an unknown code, names no store or asks for more than the longest stops the player.
 use mathlib.Core.Bool.{Bool, cond}
 use mathlib.Core.List.{List}
 use Prim.Native.Nat.{ℕ, _+_, _-_, _≤_, _<_}

@@ -1,6 +1,5 @@
 // Plays a replay script from standard input: loads, audits, writes, depths, pokes and resizes. Each step prints a line. The script, every store and
-// every output has
-// at most 64 KiB, since there is no heap; a step that is cut, unknown or asks for more ends the play, with no line of its own.
+// every output has at most 64 KiB, since there is no heap; a step that is cut, unknown or asks for more ends the play, with no line of its own.
 mod hash;
 mod play;
 mod step;
@@ -47,8 +46,8 @@ fn start(attributes: &mut [u8], classes: &mut [u8], closure: &mut [u8]) -> Lengt
 }
 
 // The line of a step: "name, number, table, place (poke, resize: 0 0 0), then an FNV-1a 64 hash of all bytes of each store in 16 hex digits; write
-// adds the hash
-// of the whole output lent". No contract can say which bytes a call of C's writes, so the functions that print have none; the gate compares what is printed.
+// adds the hash of the whole output lent". No contract can say which bytes a call of C's writes, so the functions that print have none; the gate
+// compares what is printed.
 
 fn say_name(step: Step) {
     match step {

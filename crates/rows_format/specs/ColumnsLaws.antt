@@ -1,11 +1,10 @@
 -- Laws of columns and tables. Nothing here goes by encodings: a field that is taken and a field that is absent each leave a well-formed cell that tells
 -- which it was, and a well-formed cell is one of the two.
 use mathlib.Core.Path.{_≡_, refl, sym, ap, _∙_}
-use mathlib.Core.Bool.{Bool, true, false, not, _&&_, false≢true, true≢false}
+use mathlib.Core.Bool.{true, false, not, false≢true, true≢false}
 use mathlib.Core.List.{List, [], _∷_, _++_}
 use Prim.Native.Nat.{ℕ, zero, suc, _+_, _≤_, _<_}
 use native.Mathlib.Omega.{arith}
-use lib.Dec.{eqb}
 use lib.ListN.{length, getD, drop, length-append, length-drop}
 use lib.Seq.{drop-at}
 use Rattle.prelude.specs.BytesLaws.{drop-bytes}
@@ -13,7 +12,7 @@ use Rattle.prelude.specs.SaysLaws.{says-and, says-eq, says-false, says-test}
 use Rattle.prelude.specs.Part.{part, splice, zeros, Bytes}
 use Rattle.prelude.specs.PartLaws.{zeros-at, zeros-zero, zero-zeros}
 use Rattle.prelude.specs.SpliceLaws.{part-splice-before, part-splice-same, part-splice-after}
-use Rattle.rows_format.specs.Encodings.{accepts, image, room, stored, sound, skippable}
+use Rattle.rows_format.specs.Encodings.{accepts, image, room, stored, sound}
 use Rattle.rows_format.specs.EncodingsLaws.{room-small, Accepts, says-accepts, Holds, says-holds, image-length, stored-image}
 use Rattle.rows_format.specs.EncodingsLaws.{image-holds, accepts-stored, image-stored, stored-short, stored-bytes, image-nonzero}
 use Rattle.wire.specs.Wire.{fieldBytes}

@@ -1,12 +1,11 @@
 -- Laws of the encodings. A value that is accepted is stored as the bytes of a cell, these can be stored, and they stand for the value; bytes that can
 -- be stored stand for a value that is accepted, and are what it is stored as.
 use mathlib.Core.Path.{_≡_, refl, ap, _∙_}
-use mathlib.Core.Bool.{Bool, true, false, false≢true}
+use mathlib.Core.Bool.{true, false, false≢true}
 use mathlib.Core.List.{List, [], _∷_, append-nil}
 use Prim.Native.Nat.{ℕ, _+_, _-_, _*_, _/_, _%_, _≤_, _<_}
 use native.Mathlib.Omega.{arith}
 use native.Mathlib.Numerals.{add-one}
-use lib.Dec.{leb, ltb}
 use lib.ListN.{length, getD, drop, take, length-drop, take-append-drop}
 use lib.Seq.{take-append-seam, drop-append-seam, length-take-le}
 use Rattle.prelude.specs.BytesLaws.{digits-bytes}

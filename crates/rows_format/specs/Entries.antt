@@ -1,8 +1,8 @@
 -- Set entries. Document 01: "the seven sets in the order above, two bytes an entry, strictly rising, not empty".
-use mathlib.Core.Bool.{Bool, true, false, _&&_, _||_}
+use mathlib.Core.Bool.{Bool, true, _&&_}
 use mathlib.Core.List.{List, [], _∷_, _++_}
 use Prim.Native.Nat.{ℕ, suc, _+_, _*_}
-use lib.Dec.{leb, ltb, eqb}
+use lib.Dec.{leb, ltb}
 use Rattle.prelude.specs.BigEndian.{bigEndianBytes}
 
 -- the numbers of two bytes each

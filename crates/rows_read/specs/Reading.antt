@@ -1,4 +1,4 @@
--- Reading a row by its table of rules, one field after the other. Document 01: "whose values are fields in rising tag order, each once"; "Number 4
+-- Reading a row by its table of columns, one field after the other. Document 01: "whose values are fields in rising tag order, each once"; "Number 4
 -- tells the first field that cannot be accepted (the innermost; out of order counts) by its tag's offset; a missing field, where the rest of its
 -- value is sound, by the end of that value; leftover bytes by their start."
 -- It goes through the table and not through the bytes: a column takes the field in front, refuses it, or leaves it to the next column. A field that no

@@ -1,6 +1,4 @@
 -- A row that is asked for by its number, which says its table.
-use mathlib.Core.Bool.{Bool}
-use mathlib.Core.List.{List}
 use mathlib.Core.Path.{_≡_}
 use Prim.Native.Nat.{ℕ, _<_}
 use Rattle.schema.specs.declared.number.TableId.{TableId}
@@ -8,7 +6,6 @@ use Rattle.schema.specs.declared.number.RowId.{RowId}
 use Rattle.schema.specs.Numbers.{rowId, tableOf, numberOf}
 use Rattle.schema.specs.NumbersLaws.{id-table, id-number}
 use Rattle.schema.specs.Answers.{brokenBy}
-use Rattle.schema.specs.declared.answer.Answer.{Answer}
 use Rattle.schema.specs.Store.{Schema, table}
 use Rattle.rules.specs.declared.row.Added.{Added}
 use Rattle.rules.specs.Rules.{breaks}

@@ -1,12 +1,12 @@
 -- "Meets every rule" says the same as the list of tests: no row breaks any.
-use mathlib.Core.Bool.{Bool, true, false, _||_, false≢true}
+use mathlib.Core.Bool.{Bool, true, false, false≢true}
 use mathlib.Core.List.{List}
 use mathlib.Core.Logic.{inl, inr, ⊎-elim, _↔_}
 use mathlib.Core.Path.{_≡_, refl, sym, _∙_}
 use Prim.Native.Nat.{ℕ, _<_}
 use borrow.Fn.PlainCycle.{is}
 use Rattle.prelude.specs.Says.{Says}
-use Rattle.prelude.specs.SaysLaws.{says-and, says-or, says-eq, says-lt, says-test, says-split, says-false, says-fails, neither}
+use Rattle.prelude.specs.SaysLaws.{says-and, says-or, says-eq, says-lt, says-test, says-split, says-false, says-fails}
 use Rattle.prelude.specs.BelowLaws.{says-any}
 use Rattle.schema.specs.declared.number.TableId.{TableId}
 use Rattle.schema.specs.declared.number.TableId.the-variants.{Attributes, Classes}

@@ -1,7 +1,6 @@
 -- The schema rules 12 to 29, each once: its number, and which rows break it. The order of the list is the order of judging.
 use mathlib.Core.Bool.{Bool, false, cond, not, _&&_, _||_}
 use mathlib.Core.List.{List, [], _∷_}
-use mathlib.Core.Path.{_≡_}
 use Prim.Native.Nat.{ℕ}
 use lib.Dec.{eqb}
 use Rattle.prelude.specs.First.{Case, _when_}

@@ -8,7 +8,7 @@ use native.Mathlib.Numerals.{add-one}
 use lib.Dec.{eqb}
 use lib.ListN.{length, getD, drop, drop-of-length-le}
 use lib.Seq.{drop-cons}
-use Rattle.prelude.specs.SaysLaws.{says-eq, says-split, says-false, neither}
+use Rattle.prelude.specs.SaysLaws.{says-eq, says-split, neither}
 use Rattle.prelude.specs.First.{Case, _when_, firstOf}
 use Rattle.prelude.specs.FirstLaws.{first-hit, first-miss, first-none}
 use Rattle.prelude.specs.Unlike.{Unlike, among}

@@ -1,6 +1,5 @@
 // The answer of a call. Document 01: "Every answer has a number, a table (0 none, 1 attribute, 2 class) and a place; what is not named below is 0."
-// Answers are
-// made by these constructors alone.
+// Answers are made by these constructors alone.
 use crate::number::RowId;
 use crate::number::TableId;
 use crate::number::number_of;

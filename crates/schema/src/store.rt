@@ -42,7 +42,7 @@ pub fn store_of<'a>(table: TableId, attributes: &'a [u8], classes: &'a [u8]) -> 
     }
 }
 
-// A row of either table: the one place that turns a number into an offset.
+// A row of either table, by its number.
 pub fn row(store: &[u8], id: RowId) -> &[u8]
     requires { ⌜ (storeLength (tableOf id) ≤ length (now store)) × (numberOf id < limit (tableOf id)) ⌝ }
     ensures { λ r. ⌜ now r ≡ tableIn (tableOf id) (now (store .entry)) .row (numberOf id) ⌝ }

@@ -1,6 +1,5 @@
 -- Reading a whole sheet, from left to right. Document 01: "Sheet: field 01 holding 01, attribute rows 20, class rows 30, whose values are fields in
--- rising tag
--- order, each once." A sheet gives rows, and where it cannot be read a place; no store is in it.
+-- rising tag order, each once." A sheet gives rows, and where it cannot be read a place; no store is in it.
 use mathlib.Core.Bool.{_&&_, Bool, cond, false, true}
 use mathlib.Core.List.{_++_, List, [], _∷_}
 use Prim.Native.Nat.{_-_, suc, zero, ℕ}

@@ -1,6 +1,5 @@
 -- Stores that are longer than their lengths (docs/DECISIONS.md, R36): their shape is that of their first bytes. "Only the first bytes count; the rest
--- is neither
--- looked at nor written."
+-- is neither looked at nor written."
 use mathlib.Core.Bool.{_&&_, Bool}
 use mathlib.Core.List.{List}
 use mathlib.Core.Logic.{⊎-elim}

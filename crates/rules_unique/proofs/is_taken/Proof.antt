@@ -2,10 +2,8 @@ use Rattle.rules_unique.specs.Unique.{taken, hasKey}
 use Rattle.rules_unique.specs.UniqueLaws.{schema-keyed}
 use Rattle.tables.specs.ShapedLaws.{shaped-within}
 use Rattle.schema.specs.Numbers.{tableOf, numberOf}
-use Rattle.schema.specs.declared.number.TableId.{TableId}
 use mathlib.Core.Path.{sym, ap, _∙_}
 use borrow.Author.Tests.{not-true, not-false}
-use native.Mathlib.Omega.{arith}
 use borrow.Author.Needs.{needs}
 use Rattle.rules_unique.proofs.is_taken.Statement.{statement}
 use Rattle.rules_unique.proofs.is_taken.Tie as tie

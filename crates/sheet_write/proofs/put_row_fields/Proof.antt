@@ -3,8 +3,8 @@ use Rattle.prelude.specs.WrittenLaws.{Writing, writing-none, writing-room, writ
 use Rattle.schema.specs.Store.{tableIn}
 use Rattle.schema.specs.StoreLaws.{id-within, id-row}
 use lib.ListN.{length}
-use mathlib.Core.Path.{ap, sym, refl, _≡_, _∙_}
-use Prim.Native.Nat.{_≤_, _-_, _+_}
+use mathlib.Core.Path.{ap, sym, _∙_}
+use Prim.Native.Nat.{_-_}
 use native.Mathlib.Omega.{arith}
 use borrow.Author.Needs.{needs}
 use Rattle.sheet_write.proofs.put_row_fields.Statement.{statement}

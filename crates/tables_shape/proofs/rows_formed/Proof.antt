@@ -3,10 +3,8 @@ use native.Mathlib.Omega.{arith}
 use Rattle.schema.specs.StoreLaws.{table-row-wide, id-row, id-within}
 use mathlib.Core.Path.{_≡_, sym, ap, _∙_}
 use mathlib.Core.Bool.{true}
-use Prim.Native.Nat.{ℕ, _-_, _≤_}
+use Prim.Native.Nat.{_-_, _≤_}
 use Rattle.prelude.specs.BelowLaws.{all-zero, all-more, all-not, all-end}
-use Rattle.schema.specs.Numbers.{tableOf, numberOf, rowId}
-use Rattle.schema.specs.NumbersLaws.{id-table, id-number}
 use Rattle.schema.specs.Store.{tableIn}
 use Rattle.schema.specs.StoreLaws.{table-row-wide}
 use Rattle.rows_read.specs.WellFormed.{wellFormed}

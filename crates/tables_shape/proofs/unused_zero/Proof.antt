@@ -1,7 +1,4 @@
 use native.Mathlib.Omega.{arith}
-use mathlib.Core.Path.{ap₂, _∙_}
-use Prim.Native.Nat.{ℕ, _+_, _*_, _-_}
-use Rattle.prelude.specs.Part.{part, isZero}
 use Rattle.tables_shape.proofs.Checking.{unused-room}
 use borrow.Author.Needs.{needs}
 use Rattle.tables_shape.proofs.unused_zero.Statement.{statement}

@@ -1,7 +1,6 @@
 use Rattle.prelude.specs.Part.{part}
 use mathlib.Core.Path.{ap, _∙_}
 use Prim.Native.Nat.{ℕ}
-use native.Mathlib.Omega.{arith}
 use borrow.Author.Needs.{needs}
 use Rattle.change_read.proofs.carried.added_row.Statement.{statement}
 use Rattle.change_read.proofs.carried.added_row.Tie as tie

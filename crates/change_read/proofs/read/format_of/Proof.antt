@@ -1,5 +1,4 @@
 use Rattle.change_read.specs.Reading.{formatOf}
-use native.Mathlib.Omega.{arith}
 use borrow.Author.Needs.{needs}
 use Rattle.change_read.proofs.read.format_of.Statement.{statement}
 use Rattle.change_read.proofs.read.format_of.Tie as tie

@@ -1,12 +1,12 @@
 use mathlib.Core.Path.{refl}
 use native.Mathlib.Omega.{arith}
 use borrow.Author.Needs.{needs}
-use Rattle.schema.specs.Answers.{refused}
 use Rattle.list_text.specs.Text.{ascii, decimal}
 use Rattle.list_text.specs.TextLaws.{word-length}
 use Rattle.list_text.proofs.Lines.{refused-length, refused-written}
 use Rattle.list_text.proofs.Room.{refused-short}
 use Rattle.list_text.proofs.list.put_refused.Statement.{statement}
+use Rattle.schema.specs.Answers.{answer}
 use Rattle.list_text.proofs.list.put_refused.Tie as tie
 
 slice-aggregate-put-word : tie.Need-slice-aggregate-put-word

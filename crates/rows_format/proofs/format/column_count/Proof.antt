@@ -1,5 +1,4 @@
 use Rattle.rows_format.specs.Formats.{columnsOf, rangeColumns, nameColumns, targetColumns, entryColumns, mayBeDefunct, neverDefunct}
-use native.Mathlib.Omega.{arith}
 use borrow.Author.Needs.{needs}
 use Rattle.rows_format.proofs.format.column_count.Statement.{statement}
 use Rattle.rows_format.proofs.format.column_count.Tie as tie

@@ -1,5 +1,4 @@
 use Rattle.rows_format.specs.Formats.{columnsOf}
-use native.Mathlib.Omega.{arith}
 use borrow.Author.Needs.{needs}
 use Rattle.rows_format.proofs.format.column_of.Statement.{statement}
 use Rattle.rows_format.proofs.format.column_of.Tie as tie

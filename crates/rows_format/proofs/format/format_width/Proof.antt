@@ -1,5 +1,4 @@
 use Rattle.rows_format.specs.Formats.{formatWidth}
-use native.Mathlib.Omega.{arith}
 use borrow.Author.Needs.{needs}
 use Rattle.rows_format.proofs.format.format_width.Statement.{statement}
 use Rattle.rows_format.proofs.format.format_width.Tie as tie

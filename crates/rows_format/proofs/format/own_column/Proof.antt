@@ -1,5 +1,4 @@
 use Rattle.rows_format.specs.Formats.{ownColumns}
-use native.Mathlib.Omega.{arith}
 use borrow.Author.Needs.{needs}
 use Rattle.rows_format.proofs.format.own_column.Statement.{statement}
 use Rattle.rows_format.proofs.format.own_column.Tie as tie

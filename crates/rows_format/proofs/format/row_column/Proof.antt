@@ -2,7 +2,6 @@ use mathlib.Core.Path.{sym, _∙_}
 use lib.ListN.{List·getD-append}
 use Rattle.rows_format.specs.Formats.{commonColumns, ownColumns, noColumn}
 use Rattle.rows_format.proofs.Arms.{common-long, common-past}
-use native.Mathlib.Omega.{arith}
 use borrow.Author.Needs.{needs}
 use Rattle.rows_format.proofs.format.row_column.Statement.{statement}
 use Rattle.rows_format.proofs.format.row_column.Tie as tie

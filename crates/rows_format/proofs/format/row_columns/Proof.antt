@@ -1,6 +1,5 @@
 use mathlib.Core.Path.{refl}
 use Rattle.rows_format.specs.Formats.{commonColumns, attributeColumns, classColumns, ownColumns}
-use native.Mathlib.Omega.{arith}
 use borrow.Author.Needs.{needs}
 use Rattle.rows_format.proofs.format.row_columns.Statement.{statement}
 use Rattle.rows_format.proofs.format.row_columns.Tie as tie

@@ -7,7 +7,7 @@ use borrow.Author.Needs.{needs}
 use Rattle.sets.specs.Sets.{setOf}
 use Rattle.prelude.specs.Unlike.{among}
 use Rattle.rows_format.specs.Entries.{entries}
-use Rattle.rows_read.proofs.Entering.{insert-begin, insertAll, Within, insert-turn, insert-done, within-this, within-rest}
+use Rattle.rows_read.proofs.Entering.{insert-begin, insertAll, Within, insert-turn, insert-done, within-rest}
 use Rattle.rows_read.proofs.entries.store_entries.Statement.{statement}
 use Rattle.rows_read.proofs.entries.store_entries.Tie as tie
 

@@ -1,6 +1,5 @@
 use Rattle.rows_format.specs.Formats.{formatWidth}
 use Rattle.rows_read.specs.ObjectClass.{finished}
-use native.Mathlib.Omega.{arith}
 use borrow.Author.Needs.{needs}
 use Rattle.rows_read.proofs.read.finish.Statement.{statement}
 use Rattle.rows_read.proofs.read.finish.Tie as tie

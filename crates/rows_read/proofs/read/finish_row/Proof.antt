@@ -1,6 +1,4 @@
 use Rattle.rows_read.specs.ObjectClass.{finishedRow}
-use Rattle.schema.specs.Layout.{rowWidth}
-use native.Mathlib.Omega.{arith}
 use borrow.Author.Needs.{needs}
 use Rattle.rows_read.proofs.read.finish_row.Statement.{statement}
 use Rattle.rows_read.proofs.read.finish_row.Tie as tie

@@ -1,5 +1,4 @@
 use Rattle.rows_read.specs.WellFormed.{isFinished}
-use native.Mathlib.Omega.{arith}
 use borrow.Author.Needs.{needs}
 use Rattle.rows_read.proofs.wellformed.is_finished.Statement.{statement}
 use Rattle.rows_read.proofs.wellformed.is_finished.Tie as tie

@@ -1,13 +1,11 @@
 use Rattle.schema.specs.StoreLaws.{schema-count}
-use Prim.Native.Nat.{ℕ, _≤_, _-_, _<_}
-use mathlib.Core.Path.{_≡_, sym, ap, _∙_}
+use Prim.Native.Nat.{_≤_, _-_}
+use mathlib.Core.Path.{_≡_, sym, _∙_}
 use mathlib.Core.Bool.{false}
-use mathlib.Core.List.{List}
 use Rattle.prelude.specs.Below.{anyBelow}
 use Rattle.prelude.specs.BelowLaws.{any-zero, any-more, any-end, first-found, first-absent}
 use Rattle.rules.specs.Rules.{breaks}
-use Rattle.schema.specs.Store.{schemaIn, table, storeOf, tableIn, countIn}
-use Rattle.schema.specs.StoreLaws.{schema-table}
+use Rattle.schema.specs.Store.{schemaIn, table}
 use Rattle.tables.specs.ShapedLaws.{shaped-table}
 use Rattle.rules.proofs.Asked.{breaks-at, row-there}
 use native.Mathlib.Omega.{arith}

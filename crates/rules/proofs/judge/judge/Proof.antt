@@ -1,6 +1,5 @@
 use Rattle.rules.specs.Rules.{numbered}
 use Rattle.rules.specs.Judge.{judged}
-use native.Mathlib.Omega.{arith}
 use borrow.Author.Needs.{needs}
 use Rattle.rules.proofs.judge.judge.Statement.{statement}
 use Rattle.rules.proofs.judge.judge.Tie as tie

@@ -1,4 +1,4 @@
-use mathlib.Core.Path.{_≡_, _∙_}
+use mathlib.Core.Path.{_∙_}
 use Rattle.rules.specs.Rules.{schemaRules}
 use Rattle.rules.specs.JudgeLaws.{answer-attribute, answer-class, answer-none}
 use Rattle.schema.specs.Store.{schemaIn}

@@ -1,10 +1,10 @@
-use Rattle.rules.specs.Rules.{Rule, numbered, schemaRules, commonNumbers}
+use Rattle.rules.specs.Rules.{numbered, schemaRules, commonNumbers}
 use Rattle.prelude.specs.Unlike.{among}
 use Rattle.rules.specs.RulesLaws.{strays, numbered-unlike}
 use Rattle.tables.specs.ShapedLaws.{shaped-wide}
 use Rattle.schema.specs.Store.{schemaIn}
-use Rattle.schema.specs.declared.number.TableId.the-variants.{Attributes, Classes}
-use mathlib.Core.List.{List, [], _∷_}
+use Rattle.schema.specs.declared.number.TableId.the-variants.{Classes}
+use mathlib.Core.List.{[], _∷_}
 use mathlib.Core.Path.{sym, refl}
 use Rattle.schema.specs.Refusals as refusal
 use native.Mathlib.Omega.{arith}

@@ -1,5 +1,4 @@
 use Rattle.rules.specs.Rules.{numbered}
-use native.Mathlib.Omega.{arith}
 use borrow.Author.Needs.{needs}
 use Rattle.rules.proofs.row.first_broken.Statement.{statement}
 use Rattle.rules.proofs.row.first_broken.Tie as tie

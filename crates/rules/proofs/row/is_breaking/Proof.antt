@@ -1,5 +1,5 @@
 use Rattle.rules.specs.Rules.{numbered}
-use Rattle.tables.specs.ShapedLaws.{shaped-wide, shaped-within, shaped-bounded}
+use Rattle.tables.specs.ShapedLaws.{shaped-within}
 use Rattle.rules_unique.specs.UniqueLaws.{schema-keyed}
 use Rattle.schema.specs.Numbers.{tableOf, numberOf}
 use native.Mathlib.Omega.{arith}

@@ -1,6 +1,3 @@
-use Rattle.schema.specs.Numbers.{tableOf, numberOf}
-use Rattle.schema.specs.Store.{table, schemaIn}
-use native.Mathlib.Omega.{arith}
 use borrow.Author.Needs.{needs}
 use Rattle.rules.proofs.row.own_breaks.Statement.{statement}
 use Rattle.rules.proofs.row.own_breaks.Tie as tie

@@ -1,7 +1,6 @@
 use mathlib.Core.Path.{sym, _∙_}
 use borrow.Author.Tests.{not-true, not-false}
 use Rattle.rules_class.specs.Live.{namesDead}
-use native.Mathlib.Omega.{arith}
 use borrow.Author.Needs.{needs}
 use Rattle.rules_class.proofs.live.names_dead.Statement.{statement}
 use Rattle.rules_class.proofs.live.names_dead.Tie as tie

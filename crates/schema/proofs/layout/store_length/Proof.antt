@@ -1,4 +1,3 @@
-use native.Mathlib.Omega.{arith}
 use borrow.Author.Needs.{needs}
 use Rattle.schema.proofs.layout.store_length.Statement.{statement}
 use Rattle.schema.proofs.layout.store_length.Tie as tie

@@ -1,4 +1,3 @@
-use Rattle.schema.specs.Numbers.{tableOf, numberOf, limit}
 use borrow.Author.Needs.{needs}
 use Rattle.schema.proofs.store.schema_row.Statement.{statement}
 use Rattle.schema.proofs.store.schema_row.Tie as tie

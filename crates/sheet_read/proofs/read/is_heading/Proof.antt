@@ -1,6 +1,5 @@
 use borrow.Author.Tests.{eq-eqb, ne-eqb}
 use Rattle.sheet_read.specs.Reading.{isHeading}
-use native.Mathlib.Omega.{arith}
 use borrow.Author.Needs.{needs}
 use Rattle.sheet_read.proofs.read.is_heading.Statement.{statement}
 use Rattle.sheet_read.proofs.read.is_heading.Tie as tie

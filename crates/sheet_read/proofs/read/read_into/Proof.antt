@@ -1,13 +1,12 @@
 use Prim.Native.Nat.{_-_}
-use lib.ListN.{length, take, drop}
-use Rattle.sheet_read.proofs.Steps.{front-within, front-zeros, front-long, front-back, front-room, read-in-yes, read-in-no}
-use mathlib.Core.Path.{sym, ap, ap₂, _∙_}
-use Rattle.prelude.specs.Part.{zeros}
+use lib.ListN.{length, drop}
+use Rattle.sheet_read.proofs.Steps.{front-within, front-zeros, front-back, front-room, read-in-yes, read-in-no}
+use mathlib.Core.Path.{ap}
 use Rattle.rows_format.specs.Formats.{formatWidth}
-use Rattle.sheet_read.specs.Held.{storeWith}
-use Rattle.sheet_read.proofs.Steps.{front-within, front-zeros, front-long, front-back, front-room}
+use Rattle.sheet_read.proofs.Steps.{front-within, front-zeros, front-back, front-room}
 use Rattle.prelude.specs.PartLaws.{zeros-length}
 use Rattle.schema.specs.Layout.{rowWidth}
+use Rattle.schema.specs.Store.{table}
 use lib.ListN.{length}
 use native.Mathlib.Omega.{arith}
 use borrow.Author.Needs.{needs}

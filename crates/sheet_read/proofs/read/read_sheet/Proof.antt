@@ -1,11 +1,11 @@
 use Rattle.prelude.specs.Part.{splice, zeros}
 use Rattle.sheet_read.proofs.Steps.{held-few}
-use Rattle.sheet_read.proofs.Walk.{Reading, reading-begun, emptied-lent, left-emptied, reading-end, reading-stop, reading-forward, reading-on}
+use Rattle.sheet_read.proofs.Walk.{Reading, reading-begun, left-emptied, reading-end, reading-stop, reading-forward, reading-on}
 use mathlib.Core.Bool.{true, false}
-use mathlib.Core.Path.{_≡_, refl, sym, ap, _∙_}
+use mathlib.Core.Path.{_≡_, refl, ap, _∙_}
 use lib.ListN.{length}
-use Prim.Native.Nat.{ℕ, _-_, _≤_}
-use Rattle.sheet_read.proofs.Walk.{Reading, reading-start, reading-end, reading-stop, reading-forward, reading-on}
+use Prim.Native.Nat.{_-_}
+use Rattle.sheet_read.proofs.Walk.{Reading, reading-end, reading-stop, reading-forward, reading-on}
 use native.Mathlib.Omega.{arith}
 use borrow.Author.Needs.{needs}
 use Rattle.sheet_read.proofs.read.read_sheet.Statement.{statement}

@@ -1,5 +1,4 @@
 use Rattle.sheet_read.specs.Held.{roomTurn}
-use native.Mathlib.Omega.{arith}
 use borrow.Author.Needs.{needs}
 use Rattle.sheet_read.proofs.read.room_turn.Statement.{statement}
 use Rattle.sheet_read.proofs.read.room_turn.Tie as tie

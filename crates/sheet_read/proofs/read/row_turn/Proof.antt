@@ -1,5 +1,4 @@
 use Rattle.sheet_read.specs.Reading.{rowTurn}
-use native.Mathlib.Omega.{arith}
 use borrow.Author.Needs.{needs}
 use Rattle.sheet_read.proofs.read.row_turn.Statement.{statement}
 use Rattle.sheet_read.proofs.read.row_turn.Tie as tie

@@ -1,5 +1,4 @@
 use Rattle.sheet_read.specs.Reading.{rowsOpen}
-use native.Mathlib.Omega.{arith}
 use borrow.Author.Needs.{needs}
 use Rattle.sheet_read.proofs.read.rows_open.Statement.{statement}
 use Rattle.sheet_read.proofs.read.rows_open.Tie as tie

@@ -1,7 +1,5 @@
-use borrow.Author.Tests.{eq-eqb, ne-eqb}
+use borrow.Author.Tests.{ne-eqb}
 use Rattle.sheet_read.specs.Reading.{sheetTag}
-use native.Mathlib.Omega.{arith}
-use borrow.Author.Needs.{needs}
 use Rattle.sheet_read.proofs.read.sheet_tag.Statement.{statement}
 use Rattle.sheet_read.proofs.read.sheet_tag.Tie as tie
 

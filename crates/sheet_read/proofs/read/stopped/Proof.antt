@@ -1,5 +1,4 @@
 use Rattle.sheet_read.specs.Reading.{stopped}
-use native.Mathlib.Omega.{arith}
 use borrow.Author.Needs.{needs}
 use Rattle.sheet_read.proofs.read.stopped.Statement.{statement}
 use Rattle.sheet_read.proofs.read.stopped.Tie as tie

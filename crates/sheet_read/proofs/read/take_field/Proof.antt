@@ -1,5 +1,5 @@
 use Rattle.sheet_read.specs.Held.{roomIn}
-use mathlib.Core.Path.{_≡_, sym, ap, _∙_}
+use mathlib.Core.Path.{sym, ap, _∙_, _≡_}
 use Prim.Native.Nat.{ℕ}
 use lib.ListN.{length}
 use Rattle.wire.specs.WireLaws.{field-is}

@@ -1,6 +1,5 @@
 use mathlib.Core.Path.{sym, _∙_}
 use Rattle.sheet_read.proofs.Steps.{heading-late, heading-yes, heading-no}
-use native.Mathlib.Omega.{arith}
 use borrow.Author.Needs.{needs}
 use Rattle.sheet_read.proofs.read.take_heading.Statement.{statement}
 use Rattle.sheet_read.proofs.read.take_heading.Tie as tie

@@ -1,7 +1,6 @@
 use mathlib.Core.Path.{refl, ap, _∙_}
 use Rattle.prelude.specs.Part.{zeros}
 use Rattle.sheet_read.specs.Reading.{rowTurn}
-use native.Mathlib.Omega.{arith}
 use borrow.Author.Needs.{needs}
 use Rattle.sheet_read.proofs.read.take_row.Statement.{statement}
 use Rattle.sheet_read.proofs.read.take_row.Tie as tie

@@ -1,7 +1,6 @@
 use mathlib.Core.Path.{sym, ap, _∙_}
-use Rattle.sheet_read.specs.Reading.{Rows, step, takeTableRow, takeTagged}
+use Rattle.sheet_read.specs.Reading.{step, takeTableRow, takeTagged}
 use Rattle.sheet_read.proofs.Steps.{as-step, same-step, tagged-heading, tagged-row, tagged-late, tagged-unknown}
-use native.Mathlib.Omega.{arith}
 use borrow.Author.Needs.{needs}
 use Rattle.sheet_read.proofs.read.take_tagged.Statement.{statement}
 use Rattle.sheet_read.proofs.read.take_tagged.Tie as tie
