@@ -47,11 +47,6 @@ module _ (change : Change) (r s : List ℕ) (ok : Applicable change r s) (fixed 
       (lent-back at (at + w) s back new (omega (arith, long, wide)) (e ∙ ap (editedRow change r) lent)
       ∙ ap₂ (λ (x y : ℕ). splice (rowsAt + x * y) new s) wide is)
 
--- no row is wider than a class row
-pub narrow-row : (t : TableId) → rowWidth t ≤ classWidth
-narrow-row Attributes = omega arith
-narrow-row Classes = omega arith
-
 -- a row that was put last
 pub added-store : (change : Change) (r s : List ℕ) {new after : List ℕ} {t : TableId} → isAddition change ≡ true → t ≡ tableFor change
     → new ≡ addedRow t r → after ≡ plusIn t new s → after ≡ storeAfter change r s

@@ -10,7 +10,7 @@ use Rattle.schema.specs.declared.number.TableId.the-variants.{Attributes, Class
 use lib.ListN.{drop}
 use Rattle.change_rows.specs.Lists.{openAt, listWidth, openOf}
 use Rattle.change_rows.specs.Rows.{tableFor}
-use Rattle.change_rows.specs.RowsLaws.{list-inside}
+use Rattle.change_rows.specs.RowsLaws.{list-inside, common-narrow}
 use Rattle.schema.specs.Layout.{rowWidth, classWidth, commonWidth}
 use Rattle.schema.specs.declared.number.TableId.{TableId}
 use Rattle.prelude.specs.Part.{splice, part}
@@ -32,11 +32,4 @@ module _ (list : OpenList) (at width : ℕ) (row : List ℕ) (is : at ≡ openAt
 
 -- how wide the row is
 pub common-row : (change : Change) (row : List ℕ) → length row ≡ rowWidth (tableFor change) → commonWidth < length row
-common-row change row e = omega (arith, narrow (tableFor change))
-  where
-    narrow : (t : TableId) → commonWidth < rowWidth t
-    narrow Attributes = omega arith
-    narrow Classes = omega arith
-
-pub wide-row : {change is : Change} (row : List ℕ) → change ≡ is → length row ≡ rowWidth (tableFor change) → length row ≡ rowWidth (tableFor is)
-wide-row row e l = l ∙ ap (λ (x : Change). rowWidth (tableFor x)) e
+common-row change row e = omega (arith, common-narrow (tableFor change))

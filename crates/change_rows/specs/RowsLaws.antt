@@ -1,9 +1,9 @@
 -- How wide the row is that a change leaves.
 use lib.ListN.{length}
 use native.Mathlib.Omega.{arith}
-use Prim.Native.Nat.{_+_, _≤_, ℕ}
+use Prim.Native.Nat.{_+_, _≤_, ℕ, _<_}
 use mathlib.Core.List.{List, [], _∷_}
-use mathlib.Core.Path.{_∙_, _≡_}
+use mathlib.Core.Path.{_∙_, _≡_, ap}
 use mathlib.Core.Logic.{_⊎_, inl, inr}
 use mathlib.Core.Bool.{true, false≢true}
 use Rattle.change_read.specs.declared.carried.OpenList.the-variants.{Optional, Auxiliary, Superior}
@@ -15,18 +15,37 @@ use Rattle.schema.specs.declared.number.TableId.the-variants.{Attributes, Class
 use Rattle.schema.specs.declared.number.TableId.{TableId}
 use Rattle.schema.specs.Layout.{attributeWidth, classWidth, commonWidth, defunctAt, nameAt, nameLimit, rangeLowerAt, rowWidth}
 use Rattle.change_rows.specs.Rows.{editedRow, isAddition, tableFor}
-use Rattle.change_rows.specs.Lists.{listWidth, openAt, openOf}
+use Rattle.change_rows.specs.Lists.{listWidth, openAt, openOf, fixedAt}
 use Rattle.rows_format.specs.Formats.{newLowerAt, newNameAt}
 use Rattle.prelude.specs.PartLaws.{part-length}
 use Rattle.prelude.specs.Part.{splice}
 use Rattle.prelude.specs.SpliceLaws.{splice-length}
 use Rattle.sets.specs.SetsLaws.{with-length, without-length}
 
+-- how wide the target's row is, by what the change is
+pub wide-row : {change is : Change} (row : List ℕ) → change ≡ is → length row ≡ rowWidth (tableFor change) → length row ≡ rowWidth (tableFor is)
+wide-row row e l = l ∙ ap (λ (x : Change). rowWidth (tableFor x)) e
+
+-- every row is wider than what all rows begin with, and none is wider than a class row
+pub common-narrow : (t : TableId) → commonWidth < rowWidth t
+common-narrow Attributes = omega arith
+common-narrow Classes = omega arith
+
+pub narrow-row : (t : TableId) → rowWidth t ≤ classWidth
+narrow-row Attributes = omega arith
+narrow-row Classes = omega arith
+
 -- an open list lies within a class row
 pub list-inside : (list : OpenList) → openAt list + listWidth list ≤ classWidth
 list-inside Optional = omega arith
 list-inside Auxiliary = omega arith
 list-inside Superior = omega arith
+
+-- so does the fixed one
+pub fixed-inside : (list : OpenList) → fixedAt list + listWidth list ≤ classWidth
+fixed-inside Optional = omega arith
+fixed-inside Auxiliary = omega arith
+fixed-inside Superior = omega arith
 
 -- a list that is as wide as it was, put back
 list-wide : (list : OpenList) (new old : List ℕ) → length new ≡ length (openOf list old) → length old ≡ classWidth

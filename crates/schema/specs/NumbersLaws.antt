@@ -1,6 +1,6 @@
 -- What reading a class number tells, and the parts of a row's number.
-use mathlib.Core.Bool.{Bool, true, false, false≢true}
-use mathlib.Core.Path.{_≡_, refl, sym, ap}
+use mathlib.Core.Bool.{Bool, true, false, false≢true, cond}
+use mathlib.Core.Path.{_≡_, refl, sym, ap, _∙_}
 use Prim.Native.Nat.{ℕ, _≤_, _<_}
 use native.Mathlib.Omega.{arith}
 use lib.Dec.{ltb}
@@ -10,8 +10,10 @@ use Rattle.prelude.specs.SaysLaws.{says-eq, says-and}
 use Rattle.schema.specs.declared.number.ClassNumber.{ClassNumber}
 use Rattle.schema.specs.declared.number.ClassRead.the-variants.{Class, Beyond}
 use Rattle.schema.specs.declared.number.TableId.{TableId}
+use Rattle.schema.specs.declared.number.NumberRead.the-variants as number
 use Rattle.schema.specs.declared.number.TableId.the-variants.{Attributes, Classes}
-use Rattle.schema.specs.Numbers.{classLimit, attributeLimit, limit, classRead, rowId, tableOf, numberOf, sameTable, sameRow, SameRow}
+use Rattle.schema.specs.Numbers.{classLimit, attributeLimit, limit, classRead, rowId, tableOf, numberOf, sameTable, sameRow, SameRow, numberRead}
+use Rattle.schema.specs.declared.number.RowId.{RowId}
 
 pub class-is : (n : ℕ) (c : ClassNumber) → classRead n ≡ Class c → (n ≡ c .0) × (n < classLimit)
 class-is n c e = go (ltb n classLimit) refl
@@ -26,6 +28,22 @@ class-beyond n e = go (ltb n classLimit) refl
     go : (b : Bool) → ltb n classLimit ≡ b → classLimit ≤ n
     go true q = let no : _≡_ {A = ℕ} 0 1 = cc in absurd (omega arith)
     go false q = ltb-false n classLimit q
+
+-- a number of either table
+pub number-is : (t : TableId) (n : ℕ) {id : RowId} → numberRead t n ≡ number.Row id → (id ≡ rowId t n) × (n < limit t)
+number-is t n {id} e = go (ltb n (limit t)) refl
+  where
+    go : (b : Bool) → ltb n (limit t) ≡ b → (id ≡ rowId t n) × (n < limit t)
+    go true q = (let same : number.Row id ≡ number.Row (rowId t n) = sym e ∙ ap (λ (b : Bool). cond b (number.Row (rowId t n)) number.Beyond) q in cc,
+        ltb-true n (limit t) q)
+    go false q = let no : _≡_ {A = ℕ} 0 1 = cc (sym e ∙ ap (λ (b : Bool). cond b (number.Row (rowId t n)) number.Beyond) q) in absurd (omega arith)
+
+pub number-beyond : (t : TableId) (n : ℕ) → numberRead t n ≡ number.Beyond → limit t ≤ n
+number-beyond t n e = go (ltb n (limit t)) refl
+  where
+    go : (b : Bool) → ltb n (limit t) ≡ b → limit t ≤ n
+    go true q = let no : _≡_ {A = ℕ} 0 1 = cc (sym e ∙ ap (λ (b : Bool). cond b (number.Row (rowId t n)) number.Beyond) q) in absurd (omega arith)
+    go false q = ltb-false n (limit t) q
 
 pub id-table : (t : TableId) (k : ℕ) → tableOf (rowId t k) ≡ t
 id-table Attributes k = refl

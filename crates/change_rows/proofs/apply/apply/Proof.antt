@@ -2,10 +2,11 @@ use native.Mathlib.Omega.{arith}
 use mathlib.Core.Path.{_∙_, ap, sym}
 use borrow.Author.Needs.{needs}
 use Rattle.change_rows.proofs.apply.apply.Statement.{statement}
-use Rattle.change_rows.proofs.Applying.{lent-wide, narrow-row, added-store, edited-back, row-inside}
+use Rattle.change_rows.proofs.Applying.{lent-wide, added-store, edited-back, row-inside}
 use Rattle.prelude.specs.PartLaws.{part-length}
 use Rattle.schema.specs.Layout.{rowWidth}
 use Rattle.change_rows.specs.Rows.{tableFor}
+use Rattle.change_rows.specs.RowsLaws.{narrow-row}
 use Rattle.change_rows.proofs.apply.apply.Tie as tie
 
 table-for-requires : tie.Need-table-for-requires

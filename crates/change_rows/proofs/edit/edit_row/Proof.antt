@@ -5,8 +5,9 @@ use mathlib.Core.Path.{ap, _∙_, sym}
 use mathlib.Core.Bool.{true≢false}
 use borrow.Author.Needs.{needs}
 use Rattle.change_rows.proofs.edit.edit_row.Statement.{statement}
-use Rattle.change_rows.proofs.Editing.{wide-row, common-row}
+use Rattle.change_rows.proofs.Editing.{common-row}
 use Rattle.change_rows.specs.Rows.{editedRow, isAddition}
+use Rattle.change_rows.specs.RowsLaws.{wide-row}
 use Rattle.prelude.specs.PartLaws.{part-short}
 use Rattle.prelude.specs.SpliceLaws.{set-splice}
 use Rattle.schema.specs.Layout.{defunctAt, nameLimit}

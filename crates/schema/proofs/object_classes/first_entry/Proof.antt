@@ -9,6 +9,7 @@ use Rattle.prelude.specs.Below.{anyBelow}
 use Rattle.prelude.specs.BelowLaws.{any-zero, any-more, any-end, first-found, first-absent}
 use Rattle.schema.specs.ObjectClasses.{entryCount, entrySyntax}
 use Rattle.schema.specs.ObjectClassesLaws.{entry-length}
+use Rattle.schema.specs.Store.{table}
 use Rattle.schema.proofs.object_classes.first_entry.Statement.{statement}
 use Rattle.schema.proofs.object_classes.first_entry.Tie as tie
 

@@ -1,0 +1,58 @@
+use native.Mathlib.Omega.{arith}
+use mathlib.Core.Path.{_∙_, ap, ap₂}
+use borrow.Author.Needs.{needs}
+use Rattle.change_asked.proofs.asked.in_open.Statement.{statement}
+use Rattle.change_rows.specs.RowsLaws.{list-inside}
+use Rattle.change_rows.specs.Lists.{openOf}
+use Rattle.sets.specs.Sets.{member}
+use Rattle.prelude.specs.Part.{part}
+use Rattle.change_asked.proofs.asked.in_open.Tie as tie
+
+list-of-requires : tie.Need-list-of-requires
+list-of-requires c κs = search needs
+
+open-at-requires : tie.Need-open-at-requires
+open-at-requires c κs = search needs
+
+list-width-requires : tie.Need-list-width-requires
+list-width-requires c κs = search needs
+
+part-of-requires : tie.Need-part-of-requires
+part-of-requires c κs =
+    let c₁ = c .before in
+    let c₂ = c₁ .before in
+    let start = c₂ .before .before .before in
+    omega (arith, c₁ .open-at .ensures, c .list-width .ensures, list-inside (c₂ .list-of .result), start .pre .1)
+
+entry-of-requires : tie.Need-entry-of-requires
+entry-of-requires c κs = search needs
+
+cast-has : tie.Need-cast-has
+cast-has c = search needs
+
+has-requires : tie.Need-has-requires
+has-requires c κs = search needs
+
+returns : tie.Need-returns
+returns c =
+    let c₁ = c .before in
+    let c₂ = c₁ .before in
+    let c₃ = c₂ .before in
+    let c₄ = c₃ .before in
+    let c₅ = c₄ .before in
+    let start = c₅ .before .before .before in
+    c .has .ensures ∙ ap₂ member (c₂ .part-of .ensures ∙ ap₂ (λ a w. part a w (start .args .row .now)) (c₄ .open-at .ensures) (c₃ .list-width .ensures)
+    ∙ ap (λ l. openOf l (start .args .row .now)) (c₅ .list-of .ensures)) (c₁ .entry-of .ensures)
+
+pub in-open-spec : {M : Type 1} → statement M
+in-open-spec =
+    tie.close
+    (tie.spec
+    list-of-requires
+    open-at-requires
+    list-width-requires
+    part-of-requires
+    entry-of-requires
+    cast-has
+    has-requires
+    returns)

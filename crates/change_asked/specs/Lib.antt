@@ -1,0 +1,4 @@
+-- Numbers 5 to 11: what a change asks of the schema before it.
+pub mod Needed
+pub mod Asked
+pub mod AskedLaws
