@@ -4,9 +4,9 @@ use mathlib.Core.List.{List}
 use Prim.Native.Nat.{ℕ, suc, _≤_}
 use lib.Dec.{eqb, ltb}
 use lib.ListN.{length, getD}
-use Rattle.prelude.specs.Part.{rowAt}
+use Rattle.prelude.specs.Part.{rowAt, part}
 use Rattle.prelude.specs.BigEndian.{bigEndian}
-use Rattle.schema.specs.Layout.{rowsAt, rowWidth, closureWidth, storeLength, closureLength}
+use Rattle.schema.specs.Layout.{rowsAt, rowWidth, closureWidth, storeLength, closureLength, allowedAt, attributeSet, classSet, demandedAt, reachedAt}
 use Rattle.schema.specs.declared.number.TableId.{TableId}
 use Rattle.schema.specs.declared.number.TableId.the-variants.{Attributes, Classes}
 use Rattle.schema.specs.declared.answer.Answer.{Answer}
@@ -65,6 +65,16 @@ schemaIn a c = schema (tableIn Attributes a) (tableIn Classes c)
 -- the three kept sets of class c as they stand in the closure store
 abbrev pub closureAt : List ℕ → ℕ → List ℕ
 closureAt s c = rowAt 0 closureWidth s c
+
+-- each of them: classes reached, mandatory attributes, optional attributes
+abbrev pub reachedIn : List ℕ → ℕ → List ℕ
+reachedIn s c = part reachedAt classSet (closureAt s c)
+
+abbrev pub demandedIn : List ℕ → ℕ → List ℕ
+demandedIn s c = part demandedAt attributeSet (closureAt s c)
+
+abbrev pub allowedIn : List ℕ → ℕ → List ℕ
+allowedIn s c = part allowedAt attributeSet (closureAt s c)
 
 -- the three stores that every call is lent
 pub record Stores : Type 0 where
