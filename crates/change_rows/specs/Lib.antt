@@ -4,3 +4,4 @@ pub mod Rows
 pub mod RowsLaws
 pub mod Stores
 pub mod StoresLaws
+pub mod FormedLaws

@@ -269,6 +269,14 @@ without-length n s = set-length (length s) (λ k. member s k && not (eqb k n))
 
 -- ---- what the tests say, of every number
 
+pub with-bytes : (n : ℕ) (s : List ℕ) (i : ℕ) → getD (withMember n s) i 0 < 256
+unfolding withMember
+with-bytes n s i = set-bytes (length s) (λ k. member s k || eqb k n) i
+
+pub without-bytes : (n : ℕ) (s : List ℕ) (i : ℕ) → getD (withoutMember n s) i 0 < 256
+unfolding withoutMember
+without-bytes n s i = set-bytes (length s) (λ k. member s k && not (eqb k n)) i
+
 pub bit-zeros : (n k : ℕ) → bit (zeros n) k ≡ 0
 unfolding bit
 bit-zeros n k = ap (λ (x : ℕ). digit x (k % 8)) (zeros-at n (k / 8)) ∙ no-digit (k % 8)

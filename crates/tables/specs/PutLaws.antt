@@ -9,7 +9,7 @@ use native.Mathlib.Omega.{arith}
 use lib.ListN.{length, getD}
 use Rattle.prelude.specs.Part.{rowAt, splice}
 use Rattle.prelude.specs.PartLaws.{row-fits}
-use Rattle.prelude.specs.SpliceLaws.{splice-length, splice-at-before, part-splice-before, part-splice-same, part-splice-after}
+use Rattle.prelude.specs.SpliceLaws.{splice-length, splice-at-before, part-splice-before, part-splice-same, part-splice-after, splice-at-after}
 use Rattle.prelude.specs.BigEndianLaws.{bytes-length, number-of-bytes, two-bytes}
 use Rattle.schema.specs.Numbers.{limit}
 use Rattle.schema.specs.Layout.{rowsAt, rowWidth, storeLength}
@@ -17,6 +17,7 @@ use Rattle.schema.specs.Store.{withRow, plusRow, countIn, tableIn}
 use Rattle.schema.specs.StoreLaws.{with-count, with-same, with-other, plus-count, plus-last, plus-other}
 use Rattle.schema.specs.declared.number.TableId.{TableId}
 use Rattle.schema.specs.declared.number.TableId.the-variants.{Attributes, Classes}
+use Rattle.schema.specs.NumbersLaws.{apart}
 use Rattle.tables.specs.Filled.{countBytes, putIn, plusIn}
 use Rattle.tables.specs.Same.{Same}
 
@@ -123,6 +124,18 @@ module _ (t : TableId) (row s : List ℕ) (long : storeLength t ≤ length s) (r
   pub plus-counted : countIn t (plusIn t row s) ≡ suc (countIn t s)
   unfolding plusIn
   plus-counted = written-count t (countIn t s + 1) (putIn t (countIn t s) row s) (omega arith) ∙ add-one (countIn t s)
+
+  -- the byte beside the count of classes is not written
+  pub plus-beside : t ≡ Classes → getD (plusIn t row s) 1 0 ≡ getD s 1 0
+  unfolding plusIn
+  plus-beside e =
+      splice-at-after 0 (countBytes t (countIn t s + 1)) (putIn t (countIn t s) row s) (count-fits t (countIn t s + 1) (putIn t (countIn t s) row s) put-long) 1
+      (one t e)
+      ∙ put-byte t (countIn t s) row s long room wide 1 (omega arith)
+    where
+      one : (u : TableId) → u ≡ Classes → 0 + length (countBytes u (countIn t s + 1)) ≤ 1
+      one Attributes q = absurd (apart q)
+      one Classes q = omega arith
 
   -- the table has become that with the row added
   pub plus-same : Same (tableIn t (plusIn t row s)) (plusRow (tableIn t s) row)

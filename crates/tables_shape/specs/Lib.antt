@@ -2,4 +2,5 @@
 pub mod Shape
 pub mod ShapeLaws
 pub mod FilledShapeLaws
+pub mod PutShapeLaws
 pub mod FrontLaws
