@@ -1,6 +1,5 @@
 -- A row by its typed number, and what is asked of it.
 use native.Mathlib.Omega.{arith}
-use lib.ListN.{length}
 use Prim.Native.Nat.{_<_, ℕ, _≤_}
 use mathlib.Core.List.{List}
 use mathlib.Core.Path.{_≡_, subst, sym, _∙_, ap, refl}
@@ -15,7 +14,6 @@ use Rattle.schema.specs.declared.number.RowId.{RowId}
 use Rattle.schema.specs.Store.{Schema, schemaIn, table, tableIn, Table, storeOf}
 use Rattle.schema.specs.Numbers.{numberOf, tableOf, limit, rowId}
 use Rattle.schema.specs.declared.number.TableId.{TableId}
-use Rattle.schema.specs.Layout.{rowWidth}
 use Rattle.schema.specs.NumbersLaws.{id-number, id-table}
 use Rattle.prelude.specs.Below.{anyBelow}
 use Rattle.change_asked.specs.Needed.{classNeeds, needed}

@@ -3,7 +3,6 @@ use lib.Dec.{leb, ltb}
 use Prim.Native.Nat.{ℕ}
 use mathlib.Core.Bool.{Bool, _&&_, _||_, false, not}
 use mathlib.Core.List.{List, [], _∷_}
-use Rattle.schema.specs.declared.number.TableId.the-variants.{Attributes, Classes}
 use Rattle.schema.specs.Store.{Schema, table, Table}
 use Rattle.schema.specs.Row.{isBase, isDefunct}
 use Rattle.schema.specs.Numbers.{limit}

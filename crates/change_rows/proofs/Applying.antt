@@ -9,9 +9,8 @@ use mathlib.Core.Logic.{inl}
 use Rattle.change_read.specs.declared.read.Change.the-variants.{Add, SetRange, Rename, Deactivate, Reactivate, AddEntry, RemoveEntry}
 use Rattle.change_read.specs.declared.read.Change.{Change}
 use Rattle.change_read.specs.Carried.{addedRow, targetOf}
-use Rattle.schema.specs.declared.number.TableId.the-variants.{Attributes, Classes}
 use Rattle.schema.specs.declared.number.TableId.{TableId}
-use Rattle.schema.specs.Layout.{classWidth, rowWidth, rowsAt}
+use Rattle.schema.specs.Layout.{rowWidth, rowsAt}
 use Rattle.schema.specs.Numbers.{limit}
 use Rattle.schema.specs.Store.{tableIn}
 use Rattle.change_rows.specs.Stores.{Applicable, storeAfter}

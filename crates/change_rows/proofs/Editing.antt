@@ -6,13 +6,11 @@ use mathlib.Core.List.{List, _++_}
 use mathlib.Core.Path.{ap₂, _≡_, _∙_, ap, ap₂, refl}
 use Rattle.change_read.specs.declared.read.Change.{Change}
 use Rattle.change_read.specs.declared.carried.OpenList.{OpenList}
-use Rattle.schema.specs.declared.number.TableId.the-variants.{Attributes, Classes}
 use lib.ListN.{drop}
 use Rattle.change_rows.specs.Lists.{openAt, listWidth, openOf}
 use Rattle.change_rows.specs.Rows.{tableFor}
 use Rattle.change_rows.specs.RowsLaws.{list-inside, common-narrow}
 use Rattle.schema.specs.Layout.{rowWidth, classWidth, commonWidth}
-use Rattle.schema.specs.declared.number.TableId.{TableId}
 use Rattle.prelude.specs.Part.{splice, part}
 use Rattle.prelude.specs.PartLaws.{part-cut, part-length}
 use Rattle.prelude.specs.LentLaws.{lent-back}

@@ -18,7 +18,7 @@ use Rattle.schema.specs.declared.number.TableId.the-variants.{Attributes, Class
 use Rattle.schema.specs.declared.number.TableId.{TableId}
 use Rattle.schema.specs.Layout.{attributeSet, classSet, classWidth, commonWidth, defunctAt, openAuxiliaryAt, openOptionalAt, openSuperiorAt, rowWidth}
 use Rattle.schema.specs.Layout.{attributeWidth, nameAt, nameLimit, rangeLowerAt, rangeUpperAt}
-use Rattle.rows_format.specs.declared.format.Format.the-variants.{Row, Range, Name}
+use Rattle.rows_format.specs.declared.format.Format.the-variants.{Row}
 use Rattle.rows_format.specs.declared.column.Presence.the-variants as presence
 use Rattle.rows_format.specs.declared.column.Encoding.the-variants.{Entries}
 use Rattle.rows_format.specs.Formats.{attributeColumns, classColumns, columnsOf, commonColumns, mayBeDefunct, ownColumns, column, newLowerAt, newNameAt}

@@ -8,7 +8,6 @@ use Prim.Native.Nat.{ℕ, _+_, _*_, _≤_, _<_}
 use native.Mathlib.Decide.{ℕ-discrete}
 use native.Mathlib.Omega.{arith}
 use lib.ListN.{length, getD}
-use borrow.Fn.PlainCycle.{is}
 use Rattle.prelude.specs.Says.{Says}
 use Rattle.prelude.specs.SaysLaws.{says-and, says-or, says-eq, says-le, says-test, says-iff, says-same, says-true, says-false, says-not-test}
 use Rattle.prelude.specs.BelowLaws.{says-any}

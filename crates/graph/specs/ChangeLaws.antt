@@ -6,11 +6,9 @@ use mathlib.Core.Path.{_≡_, sym, _∙_}
 use Prim.Native.Nat.{ℕ, suc, _<_}
 use native.Mathlib.Omega.{arith}
 use lib.Dec.{eqb}
-use borrow.Fn.PlainCycle.{is}
 use Rattle.prelude.specs.SaysLaws.{says-and, says-or, says-eq, says-iff, says-same, says-test, says-fails}
 use Rattle.prelude.specs.Below.{anyBelow, Some}
 use Rattle.prelude.specs.BelowLaws.{says-any, last-or-less}
-use Rattle.tables.specs.Named.{lists}
 use Rattle.graph.specs.Walk.{Reach, Grown, Extended}
 use Rattle.graph.specs.WalkLaws.{off-walk, walk-split, walk-to, widen, reach-grown, grown-keep, reach-old, reach-new}
 use Rattle.graph.specs.BringsLaws.{off-same, brings-apart, brings-grown, brings-keep, brings-old, brings-new, brings-listed}

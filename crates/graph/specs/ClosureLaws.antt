@@ -8,7 +8,6 @@ use native.Mathlib.Decide.{ℕ-discrete, decLt}
 use native.Mathlib.Omega.{arith}
 use lib.Dec.{eqb}
 use lib.ListN.{length, length-append}
-use borrow.Fn.PlainCycle.{is}
 use Rattle.prelude.specs.Says.{Says}
 use Rattle.prelude.specs.SaysLaws.{says-and, says-or, says-not, says-eq, says-test, says-iff, says-same, says-true, says-false, true-or-false}
 use Rattle.prelude.specs.Below.{anyBelow}

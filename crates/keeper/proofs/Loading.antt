@@ -9,7 +9,7 @@ use Rattle.prelude.specs.Part.{splice, zeros, Bytes}
 use Rattle.schema.specs.declared.answer.Answer.{Answer}
 use Rattle.schema.specs.declared.number.TableId.{TableId}
 use Rattle.schema.specs.declared.number.TableId.the-variants.{Attributes, Classes}
-use Rattle.schema.specs.Answers.{refused, answer}
+use Rattle.schema.specs.Answers.{refused}
 use Rattle.schema.specs.Layout.{storeLength, closureLength}
 use Rattle.schema.specs.Store.{Stores, stores, Result, LongEnough, result, anyShort, schemaIn, tableIn}
 use Rattle.schema.specs.StoreLaws.{long-enough}
@@ -24,7 +24,6 @@ use Rattle.sheet_read.specs.ReadingLaws.{Sound, sheet-sound}
 use Rattle.rules.specs.declared.row.Added.the-variants.{Nothing}
 use Rattle.rules.specs.Judge.{judged}
 use Rattle.rules.specs.SameLaws.{judged-same}
-use Rattle.rules.specs.Pieces.{classes}
 use Rattle.keeper.specs.LoadLaws.{held-length, held-emptied, both-shaped, both-readable, both-same, read-judged, load-short, load-accepted}
 use Rattle.keeper.specs.LoadLaws.{load-rejected}
 use Rattle.keeper.specs.Load.{emptied, filled, readAnswer, load, ReadAndJudged}

@@ -7,7 +7,6 @@ use Rattle.schema.specs.declared.answer.Answer.{Answer}
 use Rattle.schema.specs.Answers.{passed}
 use Rattle.tables.specs.Shaped.{Shaped}
 use Rattle.graph.specs.Graph.{Readable}
-use Rattle.sheet_read.specs.Reading.{rows}
 use Rattle.sheet_write.specs.Writing.{Writable}
 use Rattle.tables_shape.specs.ShapeLaws.{says-formed, formed-shaped, formed-readable}
 use Rattle.keeper.specs.Answering.{firstAnswer, NoneRefuses, shapeAnswers, InShape}

@@ -28,7 +28,6 @@ use Rattle.sheet_read.specs.Reading.{Rows, SheetOut, rowsIn, schemaFrom, sheetA
 use Rattle.sheet_read.specs.ReadingLaws.{Sound, all-at}
 use Rattle.rules.specs.declared.row.Added.the-variants.{Nothing}
 use Rattle.rules.specs.Judge.{judged}
-use Rattle.rules.specs.Pieces.{classes}
 use Rattle.tables_shape.specs.FilledShapeLaws.{filled-formed}
 use Rattle.tables_shape.specs.Shape.{storesFormed, tableFormed}
 use Rattle.tables_shape.specs.ShapeLaws.{formed-readable, formed-shaped}

@@ -48,8 +48,8 @@ use Rattle.schema.specs.Refusals as refusal
 number-of : {x y : Answer} → x ≡ y → x .number ≡ y .number
 number-of e = ap (λ (x : Answer). x .number) e
 
-zero-reads : (r : SheetRead) (x : Rows) → readAnswer (sheetOut r x) .number ≡ 0 → (r ≡ Read) × Meets (schemaFrom x)
-zero-reads Read x e = (refl, meets (schemaFrom x) .0 (judged-zero Nothing (schemaFrom x) .0 (number-of (read-judged x) ∙ e)))
+zero-reads : (r : SheetRead) (x : Rows) → readAnswer (sheetOut r x) .number ≡ 0 → (r ≡ Read) × Meets Nothing (schemaFrom x)
+zero-reads Read x e = (refl, meets Nothing (schemaFrom x) .0 (judged-zero Nothing (schemaFrom x) .0 (number-of (read-judged x) ∙ e)))
 zero-reads (Bad at) x e = let n : _≡_ {A = ℕ} 4 0 = number-of (read-bad x at) ∙ e in absurd (omega arith)
 zero-reads (Full t) x e = let n : _≡_ {A = ℕ} 6 0 = number-of (read-full x t) ∙ e in absurd (omega arith)
 
@@ -64,7 +64,7 @@ module _ (sheet : List ℕ) where
   by-judging e = by-reading e ∙ sym (read-judged (out .rows))
 
   accepted-answer : Acceptable sheet → readAnswer out ≡ passed
-  accepted-answer h = by-judging (h .reads) ∙ judged-passed Nothing (schemaFrom (out .rows)) (meets (schemaFrom (out .rows)) .1 (h .rules))
+  accepted-answer h = by-judging (h .reads) ∙ judged-passed Nothing (schemaFrom (out .rows)) (meets Nothing (schemaFrom (out .rows)) .1 (h .rules))
 
   module _ (s : Stores) where
     -- ---- accepted
@@ -120,10 +120,10 @@ module _ (sheet : List ℕ) where
             yes-answer : judged Nothing (schemaFrom (out .rows)) .number ≡ 0 → load sheet s .answer ≡ judged Nothing (schemaFrom (out .rows))
             yes-answer z = ap (λ (x : Result). x .answer) (load-accepted sheet s (not-short s h) (number-of (by-judging e) ∙ z)) ∙ by-judging e
 
-        pub load-rule : ¬ Meets (schemaFrom (out .rows)) → FirstBroken (schemaFrom (out .rows)) (schemaRules Nothing) (load sheet s .answer)
+        pub load-rule : ¬ Meets Nothing (schemaFrom (out .rows)) → FirstBroken (schemaFrom (out .rows)) (schemaRules Nothing) (load sheet s .answer)
         load-rule d =
             subst (FirstBroken (schemaFrom (out .rows)) (schemaRules Nothing)) (sym judged-answer)
-            (⊎-elim (λ k. absurd (d (meets (schemaFrom (out .rows)) .0 k))) (λ f. f) (judged-first Nothing (schemaFrom (out .rows))))
+            (⊎-elim (λ k. absurd (d (meets Nothing (schemaFrom (out .rows)) .0 k))) (λ f. f) (judged-first Nothing (schemaFrom (out .rows))))
 
         pub load-least : (n : ℕ) (t : TableId) (k : ℕ) → k < table t (schemaFrom (out .rows)) .count → breaks Nothing (schemaFrom (out .rows)) n t k ≡ true
             → load sheet s .answer .number ≤ n
@@ -149,7 +149,7 @@ module _ (sheet : List ℕ) where
           record {
             long = record { attributes = l .attributes; classes = l .classes; closure = omega (arith, k, room) };
             shape = says-formed _ _ (l .attributes) (l .classes) .holds (both-formed x sound (s .attributes) (s .classes) lent);
-            rules = meets _ .0 (kept-same (λ t. same-symmetric (same t)) Nothing (meets (schemaFrom x) .1 (h .rules)));
+            rules = meets Nothing _ .0 (kept-same (λ t. same-symmetric (same t)) Nothing (meets Nothing (schemaFrom x) .1 (h .rules)));
             fresh = says-fresh _ (splice 0 rows (s .closure)) .holds
                 (fresh-same (same Classes) (splice 0 rows (s .closure)) ∙ bytes-fresh (tableFrom (x .classes)) (s .closure) room);
           }

@@ -29,11 +29,11 @@ use Rattle.keeper_promises.specs.Promises.{Fresh, InOrder, Shape, SomeSh
 use Rattle.schema.specs.Refusals as refusal
 
 -- the judge's 0, and that every rule is met
-pub judged-meets : (s : Stores) → judged Nothing (schemaOf s) .number ≡ 0 → Meets (schemaOf s)
-judged-meets s z = meets (schemaOf s) .0 (judged-zero Nothing (schemaOf s) .0 z)
+pub judged-meets : (s : Stores) → judged Nothing (schemaOf s) .number ≡ 0 → Meets Nothing (schemaOf s)
+judged-meets s z = meets Nothing (schemaOf s) .0 (judged-zero Nothing (schemaOf s) .0 z)
 
-pub meets-judged : (s : Stores) → Meets (schemaOf s) → judged Nothing (schemaOf s) .number ≡ 0
-meets-judged s h = judged-zero Nothing (schemaOf s) .1 (meets (schemaOf s) .1 h)
+pub meets-judged : (s : Stores) → Meets Nothing (schemaOf s) → judged Nothing (schemaOf s) .number ≡ 0
+meets-judged s h = judged-zero Nothing (schemaOf s) .1 (meets Nothing (schemaOf s) .1 h)
 
 module _ (s : Stores) where
   abbrev verdict : Answer
@@ -101,19 +101,19 @@ module _ (s : Stores) where
     unfolding audit
     in-shape = append-passed (shapeAnswers s) deeper passed (passed-shape s (has-shape long shape))
 
-    audit-judged : ¬ Meets (schemaOf s) → audit s ≡ verdict
+    audit-judged : ¬ Meets Nothing (schemaOf s) → audit s ≡ verdict
     audit-judged d = in-shape ∙ first-refused verdict _ passed (λ z. d (judged-meets s z))
 
-    pub audit-rule : ¬ Meets (schemaOf s) → FirstBroken (schemaOf s) (schemaRules Nothing) (audit s)
+    pub audit-rule : ¬ Meets Nothing (schemaOf s) → FirstBroken (schemaOf s) (schemaRules Nothing) (audit s)
     audit-rule d =
         subst (FirstBroken (schemaOf s) (schemaRules Nothing)) (sym (audit-judged d))
-        (⊎-elim (λ k. absurd (d (meets (schemaOf s) .0 k))) (λ f. f) (judged-first Nothing (schemaOf s)))
+        (⊎-elim (λ k. absurd (d (meets Nothing (schemaOf s) .0 k))) (λ f. f) (judged-first Nothing (schemaOf s)))
 
-    pub audit-least : ¬ Meets (schemaOf s) → (n : ℕ) (t : TableId) (k : ℕ) → k < table t (schemaOf s) .count → breaks Nothing (schemaOf s) n t k
+    pub audit-least : ¬ Meets Nothing (schemaOf s) → (n : ℕ) (t : TableId) (k : ℕ) → k < table t (schemaOf s) .count → breaks Nothing (schemaOf s) n t k
         ≡ true → audit s .number ≤ n
     audit-least d n t k l e = omega (arith, ap (λ (x : Answer). x .number) (audit-judged d), judged-least Nothing (schemaOf s) n t k l e)
 
-    pub audit-three : Meets (schemaOf s) → ¬ Fresh s → audit s ≡ refused refusal.notInOrder
+    pub audit-three : Meets Nothing (schemaOf s) → ¬ Fresh s → audit s ≡ refused refusal.notInOrder
     audit-three k d =
         let e : fresh ≡ false = says-false (says-fresh (schemaOf s .classes) (s .closure)) d in
         in-shape ∙ first-passed verdict _ passed (meets-judged s k)

@@ -49,13 +49,13 @@ Fresh s = (c : ℕ) → c < classLimit → closureAt (s .closure) c ≡ closureR
 pub record InOrder (s : Stores) : Type 0 where
   pub long : LongEnough s
   pub shape : Shape s
-  pub rules : Meets (schemaOf s)
+  pub rules : Meets Nothing (schemaOf s)
   pub fresh : Fresh s
 
 -- a sheet that a load accepts: it reads, and the rows that it gives meet every rule
 pub record Acceptable (sheet : List ℕ) : Type 0 where
   pub reads : readSheet sheet .answer ≡ Read
-  pub rules : Meets (schemaFrom (readSheet sheet .rows))
+  pub rules : Meets Nothing (schemaFrom (readSheet sheet .rows))
 
 -- both have their lengths, and the bytes up to these are the same (docs/DECISIONS.md, R36: only the first bytes of a longer store count)
 pub record Alike (s t : Stores) : Type 0 where
@@ -120,7 +120,7 @@ pub record Demand2 : Type 0 where
       ≡ result (unreadable at) (emptied s)
   pub load-full : (sheet : List ℕ) (s : Stores) → LongEnough s → (t : TableId) → readSheet sheet .answer ≡ Full t → load sheet s ≡ result (full t) (emptied s)
   -- the sheet reads, and some row breaks a rule: the first that is broken, "the table and lowest row that break the rule found, attributes first"
-  pub load-rule : (sheet : List ℕ) (s : Stores) → LongEnough s → readSheet sheet .answer ≡ Read → ¬ Meets (schemaFrom (readSheet sheet .rows))
+  pub load-rule : (sheet : List ℕ) (s : Stores) → LongEnough s → readSheet sheet .answer ≡ Read → ¬ Meets Nothing (schemaFrom (readSheet sheet .rows))
       → FirstBroken (schemaFrom (readSheet sheet .rows)) (schemaRules Nothing) (load sheet s .answer)
   -- it is the smallest: no row of the sheet breaks a rule of a smaller number
   pub load-least : (sheet : List ℕ) (s : Stores) → LongEnough s → readSheet sheet .answer ≡ Read → (n : ℕ) (t : TableId) (k : ℕ)
@@ -131,11 +131,11 @@ pub record Demand2 : Type 0 where
   pub audit-done : (s : Stores) → InOrder s → audit s ≡ passed
   pub audit-one : (s : Stores) → SomeShort s → audit s ≡ refused refusal.shortStore
   pub audit-two : (s : Stores) → LongEnough s → ¬ Shape s → audit s ≡ refused refusal.brokenShape
-  pub audit-rule : (s : Stores) → LongEnough s → Shape s → ¬ Meets (schemaOf s) → FirstBroken (schemaOf s) (schemaRules Nothing) (audit s)
-  pub audit-least : (s : Stores) → LongEnough s → Shape s → ¬ Meets (schemaOf s) → (n : ℕ) (t : TableId) (k : ℕ) → k < table t (schemaOf s) .count
+  pub audit-rule : (s : Stores) → LongEnough s → Shape s → ¬ Meets Nothing (schemaOf s) → FirstBroken (schemaOf s) (schemaRules Nothing) (audit s)
+  pub audit-least : (s : Stores) → LongEnough s → Shape s → ¬ Meets Nothing (schemaOf s) → (n : ℕ) (t : TableId) (k : ℕ) → k < table t (schemaOf s) .count
       → breaks Nothing (schemaOf s) n t k ≡ true → audit s .number ≤ n
   -- "3 .. Audit: only kept sets are wrong"
-  pub audit-three : (s : Stores) → LongEnough s → Shape s → Meets (schemaOf s) → ¬ Fresh s → audit s ≡ refused refusal.notInOrder
+  pub audit-three : (s : Stores) → LongEnough s → Shape s → Meets Nothing (schemaOf s) → ¬ Fresh s → audit s ≡ refused refusal.notInOrder
   -- write: "0 and the length"; the output too short: nothing is written, and the place is the length needed
   pub write-one : (s : Stores) (out : List ℕ) → SomeShort s → write s out ≡ written (refused refusal.shortStore) out
   pub write-two : (s : Stores) (out : List ℕ) → LongEnough s → ¬ Shape s → write s out ≡ written (refused refusal.brokenShape) out

@@ -55,8 +55,8 @@ module _ (s : Stores) (h : InOrder s) (bytes : OfBytes s) where
   written-acceptable =
       record {
         reads = ap (λ (x : SheetOut). x .answer) read-again;
-        rules = subst (λ (x : SheetOut). Meets (schemaFrom (x .rows))) (sym read-again)
-            (meets (schemaFrom held) .0 (kept-same same-rows Nothing (meets (schemaOf s) .1 (h .rules))));
+        rules = subst (λ (x : SheetOut). Meets Nothing (schemaFrom (x .rows))) (sym read-again)
+            (meets Nothing (schemaFrom held) .0 (kept-same same-rows Nothing (meets Nothing (schemaOf s) .1 (h .rules))));
       }
 
   -- and their closure is the one that stood in the stores

@@ -1,7 +1,7 @@
 -- Laws of the first case that holds, for every list of cases.
 use mathlib.Core.Path.{_≡_, refl, sym, _∙_}
-use mathlib.Core.Bool.{true, false}
-use mathlib.Core.Logic.{_⊎_, inl, inr, ⊎-elim, _↔_}
+use mathlib.Core.Bool.{true, false, false≢true}
+use mathlib.Core.Logic.{_⊎_, inl, inr, ⊎-elim, _↔_, ⊎-map}
 use mathlib.Core.List.{List, [], _∷_, _++_}
 use Prim.Native.Nat.{ℕ, _≤_, _<_}
 use native.Mathlib.Omega.{arith}
@@ -66,7 +66,7 @@ first-among (FirstHolds.there e h) = Among.there (first-among h)
 
 -- ---- where the numbers rise, the first is the smallest
 
-among-above : {n : ℕ} (m : ℕ) (cs : List Case) → Rising m cs → Among n cs → m < n
+pub among-above : {n : ℕ} (m : ℕ) (cs : List Case) → Rising m cs → Among n cs → m < n
 among-above m (c ∷ cs) r (Among.here e q) = omega (arith, r .0)
 among-above m (c ∷ cs) r (Among.there a) = omega (arith, r .0, among-above (c .number) cs (r .1) a)
 
@@ -98,3 +98,22 @@ append-first p q d = first-is (append-hit p q (other-first p d))
 
 pub append-second : (p q : List Case) → NonZero p → firstOf p ≡ 0 → firstOf (p ++ q) ≡ firstOf q
 append-second p q z e = append-miss p q (zero-iff-none p z .0 e)
+
+-- two lists one after the other
+pub among-append : {n : ℕ} (p q : List Case) → Among n (p ++ q) → Among n p ⊎ Among n q
+among-append [] q a = inr a
+among-append (c ∷ p) q (Among.here e i) = inl (Among.here e i)
+among-append (c ∷ p) q (Among.there a) = ⊎-map Among.there (λ x. x) (among-append p q a)
+
+pub among-left : {n : ℕ} {p : List Case} (q : List Case) → Among n p → Among n (p ++ q)
+among-left q (Among.here e i) = Among.here e i
+among-left q (Among.there a) = Among.there (among-left q a)
+
+pub among-right : {n : ℕ} (p : List Case) {q : List Case} → Among n q → Among n (p ++ q)
+among-right [] a = a
+among-right (c ∷ p) a = Among.there (among-right p a)
+
+-- where no condition holds, none is among them
+pub none-among : {n : ℕ} {cs : List Case} → NoneHolds cs → ¬ (Among n cs)
+none-among h (Among.here e q) = false≢true (sym (h .0) ∙ e)
+none-among h (Among.there a) = none-among (h .1) a

@@ -8,7 +8,6 @@ use native.Mathlib.Omega.{arith}
 use lib.ListN.{length}
 use Rattle.prelude.specs.Part.{part, Bytes}
 use Rattle.schema.specs.declared.number.TableId.{TableId}
-use Rattle.schema.specs.Answers.{answer}
 use Rattle.schema.specs.Layout.{rowWidth}
 use Rattle.rows_format.specs.declared.format.Format.{Format}
 use Rattle.rows_format.specs.Columns.{wellFormedBy, writeBy}

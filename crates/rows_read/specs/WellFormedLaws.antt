@@ -24,7 +24,7 @@ use Rattle.rows_format.specs.declared.column.Encoding.the-variants.{Counted}
 use Rattle.rows_format.specs.declared.column.Presence.the-variants.{Optional}
 use Rattle.rows_format.specs.declared.format.Format.{Format}
 use Rattle.rows_format.specs.declared.format.Format.the-variants.{Row}
-use Rattle.rows_format.specs.Encodings.{image, room, passes, sound, skippable}
+use Rattle.rows_format.specs.Encodings.{image, room, sound, skippable}
 use Rattle.rows_format.specs.EncodingsLaws.{says-accepts, says-holds}
 use Rattle.rows_format.specs.Columns.{lead, mark, required, possible, columnWidth, takes}
 use Rattle.rows_format.specs.Columns.{cellOf, cellAt, hasValue, wellFormedCell, wellFormedBy, soundColumn, clear}

@@ -6,7 +6,7 @@ pub mod JudgeLaws
 pub mod Meets
 pub mod MeetsLaws
 pub mod SameLaws
-pub mod Change
-pub mod ChangeLaws
+pub mod RowChange
+pub mod RowChangeLaws
 pub mod ReadLaws
 pub mod Pieces

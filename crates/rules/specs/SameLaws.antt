@@ -33,6 +33,7 @@ use Rattle.rules.specs.declared.row.Added.the-variants.{Nothing, Class, 
 use Rattle.rules.specs.Rules.{Rule, ofAttributes, ofClasses, barred, schemaRules, rowCases, Each, _&_, attributeNotLive, classNotLive, entryDead}
 use Rattle.rules.specs.Judge.{judgeTable, judgeRule, judgeRules, judged, AllKept}
 use Rattle.rules.specs.JudgeLaws.{judged-zero}
+use Rattle.rules.specs.Rules.{breaks}
 
 -- the rows that are there break the rule in one schema as they do in the other
 abbrev SameBreaks : Schema → Schema → (Schema → TableId → ℕ → Bool) → Type 0

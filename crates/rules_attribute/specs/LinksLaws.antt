@@ -5,7 +5,6 @@ use mathlib.Core.Logic.{_⊎_}
 use mathlib.Core.Path.{_≡_}
 use Prim.Native.Nat.{ℕ, _%_, _<_}
 use native.Mathlib.Decide.{ℕ-discrete}
-use borrow.Fn.PlainCycle.{is}
 use Rattle.prelude.specs.Says.{Says}
 use Rattle.prelude.specs.SaysLaws.{says, says-and, says-not, says-eq, says-false, says-fails}
 use Rattle.prelude.specs.Below.{Some}

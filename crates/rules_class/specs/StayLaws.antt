@@ -7,7 +7,6 @@ use mathlib.Core.Path.{_≡_, ap, _∙_}
 use Prim.Native.Nat.{ℕ, _<_}
 use native.Mathlib.Decide.{ℕ-discrete, decLt}
 use native.Mathlib.Omega.{arith}
-use borrow.Fn.PlainCycle.{is}
 use Rattle.prelude.specs.SaysLaws.{says-false, says-fails}
 use Rattle.schema.specs.Numbers.{limit}
 use Rattle.schema.specs.Row.{isDefunct}

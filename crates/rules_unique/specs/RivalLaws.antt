@@ -3,7 +3,6 @@ use mathlib.Core.Bool.{false, true, _||_}
 use mathlib.Core.Logic.{_⊎_, inl, inr, ⊎-elim}
 use mathlib.Core.Path.{_≡_, sym}
 use Prim.Native.Nat.{ℕ, _<_}
-use borrow.Fn.PlainCycle.{is}
 use Rattle.prelude.specs.SaysLaws.{says-or, says-iff, says-same, says-fails, says-split}
 use Rattle.prelude.specs.Below.{anyBelow, Some}
 use Rattle.prelude.specs.BelowLaws.{says-any}
@@ -15,7 +14,7 @@ use Rattle.schema.specs.Store.{Schema, table}
 use Rattle.tables.specs.Changed.{ChangedRow}
 use Rattle.tables.specs.ChangedLaws.{row-old, row-other}
 use Rattle.rules_unique.specs.declared.Key.{Key}
-use Rattle.rules_unique.specs.Unique.{Counting, taken, Clash, Rival, clash}
+use Rattle.rules_unique.specs.Unique.{Counting, taken, Clash, Rival}
 use Rattle.rules_unique.specs.UniqueLaws.{says-taken, clash-turned}
 
 module _ (counts : Counting) (key : Key) {t : TableId} {k : ℕ} {m n : Schema} (h : ChangedRow t k m n)

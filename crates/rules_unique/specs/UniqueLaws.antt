@@ -5,7 +5,6 @@ use mathlib.Core.Logic.{_⊎_, inl, inr, ⊎-elim}
 use mathlib.Core.Path.{_≡_, sym, _∙_}
 use Prim.Native.Nat.{ℕ, _<_, _≤_}
 use native.Mathlib.Omega.{arith}
-use borrow.Fn.PlainCycle.{is}
 use Rattle.prelude.specs.Says.{Says}
 use Rattle.prelude.specs.SaysLaws.{says, says-and, says-or, says-not, says-test, says-iff}
 use Rattle.prelude.specs.Below.{Some}

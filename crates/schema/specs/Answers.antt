@@ -8,7 +8,6 @@ use Rattle.schema.specs.declared.number.NumberRead.{NumberRead}
 use Rattle.schema.specs.declared.number.TableId.{TableId}
 use Rattle.schema.specs.declared.number.TableId.the-variants.{Attributes, Classes}
 use Rattle.schema.specs.Numbers.{limit}
-use Rattle.schema.specs.Store.{table}
 use Rattle.schema.specs.declared.number.NumberRead.the-variants as number
 use Rattle.schema.specs.Refusals as refusal
 

@@ -18,7 +18,6 @@ use Rattle.wire.specs.declared.FieldRead.{FieldRead}
 use Rattle.wire.specs.Wire.{fieldAt}
 use Rattle.schema.specs.declared.number.TableId.the-variants.{Attributes, Classes}
 use Rattle.schema.specs.declared.number.TableId.{TableId}
-use Rattle.schema.specs.Answers.{answer}
 use Rattle.schema.specs.Store.{countIn, storeOf}
 use Rattle.schema.specs.Numbers.{limit}
 use Rattle.schema.specs.Layout.{rowWidth, storeLength, classWidth}

@@ -10,7 +10,6 @@ use Rattle.prelude.specs.SpliceLaws.{splice-length, splice-over}
 use Rattle.prelude.specs.PartLaws.{zeros-length}
 use Rattle.schema.specs.declared.number.TableId.the-variants.{Attributes, Classes}
 use Rattle.schema.specs.declared.number.TableId.{TableId}
-use Rattle.schema.specs.Answers.{answer}
 use Rattle.schema.specs.Layout.{storeLength}
 use Rattle.tables.specs.Filled.{filledStore}
 use Rattle.tables.specs.FilledLaws.{store-empty, store-length}

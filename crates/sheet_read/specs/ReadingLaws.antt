@@ -15,7 +15,6 @@ use Rattle.wire.specs.WireLaws.{field-is}
 use Rattle.wire.specs.Wire.{fieldAt}
 use Rattle.schema.specs.declared.number.TableId.the-variants.{Attributes, Classes}
 use Rattle.schema.specs.declared.number.TableId.{TableId}
-use Rattle.schema.specs.Answers.{answer}
 use Rattle.schema.specs.Numbers.{limit}
 use Rattle.schema.specs.Layout.{rowWidth}
 use Rattle.tables.specs.FilledLaws.{wide-append}

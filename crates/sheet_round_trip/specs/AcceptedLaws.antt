@@ -16,7 +16,6 @@ use Rattle.wire.specs.WireLaws.{field-is, field-back}
 use Rattle.schema.specs.declared.number.TableId.{TableId}
 use Rattle.schema.specs.declared.number.TableId.the-variants.{Attributes, Classes}
 use Rattle.schema.specs.Layout.{rowWidth}
-use Rattle.schema.specs.Answers.{answer}
 use Rattle.rows_format.specs.declared.format.Format.{Format}
 use Rattle.rows_format.specs.Columns.{writeBy}
 use Rattle.rows_format.specs.Formats.{columnsOf}

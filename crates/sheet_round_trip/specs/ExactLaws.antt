@@ -12,7 +12,6 @@ use Rattle.wire.specs.declared.FieldRead.{FieldRead}
 use Rattle.wire.specs.declared.FieldRead.the-variants.{Field, End, Bad}
 use Rattle.wire.specs.Wire.{fieldAt}
 use Rattle.schema.specs.declared.number.TableId.{TableId}
-use Rattle.rows_format.specs.Encodings.{holds, passes}
 use Rattle.rows_read.specs.WellFormed.{standsExactly}
 use Rattle.sheet_read.specs.declared.read.SheetTag.{SheetTag}
 use Rattle.sheet_read.specs.declared.read.SheetTag.the-variants.{Heading, Row, Unknown}

@@ -20,7 +20,7 @@ use Rattle.schema.specs.Store.{Table, Schema, tableIn}
 use Rattle.schema.specs.StoreLaws.{table-row-length}
 use Rattle.rows_format.specs.declared.format.Format.the-variants.{Row}
 use Rattle.rows_format.specs.Columns.{wellFormedBy, writeBy}
-use Rattle.rows_format.specs.Formats.{columnsOf, formatWidth, bytes}
+use Rattle.rows_format.specs.Formats.{columnsOf, formatWidth}
 use Rattle.rows_format.specs.ShortLaws.{written-short}
 use Rattle.rows_read.specs.WellFormedLaws.{formed-parts}
 use Rattle.rows_write.proofs.Writing.{field-put}

@@ -41,7 +41,7 @@ use Rattle.rules.specs.Rules.{ofRows, ofAttributes, ofClasses, barred, e
 use Rattle.rules.specs.RulesLaws.{each-numbered, cases-agree, attribute-nothing, class-nothing}
 use Rattle.rules.specs.Judge.{judged, broken, brokenCases, Kept, AllKept}
 use Rattle.rules.specs.JudgeLaws.{judge-number}
-use Rattle.rules.specs.Change.{Change}
+use Rattle.rules.specs.RowChange.{RowChange}
 use Rattle.schema.specs.Refusals as refusal
 
 -- a row that is not active is defunct
@@ -103,7 +103,7 @@ module _ (k : ℕ) (m n : Schema) where
     unfolding numbered
     class-was j l = sym (class-nothing (m .classes) j) ∙ was refusal.classNotLive Classes j l
 
-    module _ (t : TableId) (h : Change t k m n) where
+    module _ (t : TableId) (h : RowChange t k m n) where
       -- the other rows are as they were
       old : (u : TableId) (j : ℕ) → j < table u n .count → ¬ (SameRow t k u j) → j < table u m .count
       old u j l d = row-old (h .changed) u j d l
@@ -161,21 +161,21 @@ module _ (k : ℕ) (m n : Schema) where
     -- ---- rules that look at more than one row of a table: by the table that was changed
 
     -- of classes only, by the classes' table
-    classes-stay : (f : Table → ℕ → Bool) → ((j : ℕ) → j < m .classes .count → f (m .classes) j ≡ false) → (t : TableId) (h : Change t k m n)
+    classes-stay : (f : Table → ℕ → Bool) → ((j : ℕ) → j < m .classes .count → f (m .classes) j ≡ false) → (t : TableId) (h : RowChange t k m n)
         → (t ≡ Classes → (j : ℕ) → j < n .classes .count → ¬ (j ≡ k) → f (n .classes) j ≡ false) → Stays t (ofClasses (λ x. f (x .classes)))
     classes-stay f e t h g Attributes j l d = refl
     classes-stay f e Attributes h g Classes j l d = let q = h .changed .rest Classes apart in rw q (e j (rw q at l))
     classes-stay f e Classes h g Classes j l d = g refl j l (λ q. d (refl, sym q))
 
     category-kept : (kind : ClassList) → ((j : ℕ) → j < m .classes .count → categoryWrong kind (m .classes) (m .classes .row j) ≡ false)
-        → (t : TableId) (h : Change t k m n)
+        → (t : TableId) (h : RowChange t k m n)
         → t ≡ Classes → (j : ℕ) → j < n .classes .count → ¬ (j ≡ k) → categoryWrong kind (n .classes) (n .classes .row j) ≡ false
     category-kept kind e Attributes h q j l d = absurd (apart q)
     category-kept kind e Classes h q j l d =
         let was = h .changed .own .old j l d in
         category-stays (h .changed .own) j was d (class-was j was) (λ there. h .fixed there .0) kind (e j was)
 
-    inheritance-kept : (t : TableId) (h : Change t k m n) → t ≡ Classes → (j : ℕ) → j < n .classes .count → ¬ (j ≡ k)
+    inheritance-kept : (t : TableId) (h : RowChange t k m n) → t ≡ Classes → (j : ℕ) → j < n .classes .count → ¬ (j ≡ k)
         → inheritanceWrong (n .classes) j ≡ false
     unfolding numbered
     inheritance-kept Attributes h q j l d = absurd (apart q)
@@ -184,14 +184,14 @@ module _ (k : ℕ) (m n : Schema) where
         inheritance-stays (h .changed .own) j before d (class-was j before) (λ there. h .fixed there .0)
         (was refusal.categoryMisfit Classes j before)
 
-    chain-kept : (t : TableId) (h : Change t k m n) → t ≡ Classes → (j : ℕ) → j < n .classes .count → ¬ (j ≡ k) → chainWrong (n .classes) j ≡ false
+    chain-kept : (t : TableId) (h : RowChange t k m n) → t ≡ Classes → (j : ℕ) → j < n .classes .count → ¬ (j ≡ k) → chainWrong (n .classes) j ≡ false
     unfolding numbered
     chain-kept Attributes h q j l d = absurd (apart q)
     chain-kept Classes h q j l d = chain-stays (h .changed .own) (λ there. h .fixed there .1) j
         (was refusal.chainAstray Classes j (h .changed .own .old j l d))
 
     -- rule 23
-    naming-kept : (t : TableId) (h : Change t k m n) → Stays t (ofClasses (λ x j. namingWrong (x .attributes) (namingOf (x .classes .row j))))
+    naming-kept : (t : TableId) (h : RowChange t k m n) → Stays t (ofClasses (λ x j. namingWrong (x .attributes) (namingOf (x .classes .row j))))
     unfolding numbered
     naming-kept t h Attributes j l d = refl
     naming-kept Attributes h Classes j l d =
@@ -205,7 +205,7 @@ module _ (k : ℕ) (m n : Schema) where
         rw (h .changed .rest Attributes (λ q. apart (sym q)), same Classes h Classes j l d) (was refusal.namingUnfit Classes j (old Classes h Classes j l d))
 
     -- rule 29: a back link whose forward link has become defunct is defunct
-    forward-kept : (t : TableId) (h : Change t k m n) → Stays t (ofAttributes (λ a j. forwardMissing a (a .row j)))
+    forward-kept : (t : TableId) (h : RowChange t k m n) → Stays t (ofAttributes (λ a j. forwardMissing a (a .row j)))
     unfolding numbered
     forward-kept t h Classes j l d = refl
     forward-kept Classes h Attributes j l d = let q = h .changed .rest Attributes (λ q. apart (sym q)) in rw q
@@ -229,7 +229,7 @@ module _ (k : ℕ) (m n : Schema) where
 
     -- ---- all rows and the changed row alone: the same rules are broken
 
-    module _ (t : TableId) (h : Change t k m n) (added : Added) (at : AddedAt added t k) where
+    module _ (t : TableId) (h : RowChange t k m n) (added : Added) (at : AddedAt added t k) where
       alone : (number : ℕ) → Stays t (numbered (schemaRules added) number .breaks)
           → broken n (numbered (schemaRules added) number) ≡ numbered (schemaRules added) number .breaks n t k
       alone number s = stays-alone t (h .changed .own .here) (numbered (schemaRules added) number .breaks) s
@@ -262,11 +262,11 @@ module _ (k : ℕ) (m n : Schema) where
           & tt
 
 -- so the number that the judge of all rows finds is that of the first rule that the changed row breaks
-pub changed-alone : (added : Added) (t : TableId) (k : ℕ) (m n : Schema) → Change t k m n → AddedAt added t k → AllKept Nothing m
+pub changed-alone : (added : Added) (t : TableId) (k : ℕ) (m n : Schema) → RowChange t k m n → AddedAt added t k → AllKept Nothing m
     → brokenCases (schemaRules added) n ≡ rowCases (schemaRules added) n t k
 changed-alone added t k m n h at kept = cases-agree (broken n) (λ r. r .breaks n t k) (schemaRules added) (each-alone k m n kept t h added at)
 
-pub changed-number : (added : Added) (t : TableId) (k : ℕ) (m n : Schema) → Change t k m n → AddedAt added t k → AllKept Nothing m
+pub changed-number : (added : Added) (t : TableId) (k : ℕ) (m n : Schema) → RowChange t k m n → AddedAt added t k → AllKept Nothing m
     → judged added n .number ≡ firstOf (rowCases (schemaRules added) n t k)
 unfolding judged
 changed-number added t k m n h at kept = judge-number (schemaRules added) n ∙ ap firstOf (changed-alone added t k m n h at kept)

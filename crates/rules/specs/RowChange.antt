@@ -28,7 +28,7 @@ Fixed Attributes old new = (syntaxOf new ≡ syntaxOf old) × (isSingleValued ne
 Fixed Classes old new = (categoryOf new ≡ categoryOf old) × (superclassOf new ≡ superclassOf old)
 
 -- row k of table t was changed or added: m has become n
-pub record Change (t : TableId) (k : ℕ) (m n : Schema) : Type 0 where
+pub record RowChange (t : TableId) (k : ℕ) (m n : Schema) : Type 0 where
   pub changed : ChangedRow t k m n
   pub few : table t n .count ≤ limit t
   pub fixed : k < table t m .count → Fixed t (table t m .row k) (table t n .row k)

@@ -1,0 +1,1 @@
+// What a change comes to, from rows alone: definitions and laws, no code.
