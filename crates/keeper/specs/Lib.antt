@@ -4,6 +4,7 @@ pub mod AnsweringLaws
 pub mod Load
 pub mod LoadLaws
 pub mod Write
+pub mod Order
 pub mod Audit
 pub mod Depth
 pub mod CheckedLaws

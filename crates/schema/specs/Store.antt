@@ -85,8 +85,17 @@ pub record Stores : Type 0 where
 abbrev pub stores : List ℕ → List ℕ → List ℕ → Stores
 stores a c k = record { attributes = a; classes = c; closure = k }
 
+-- the store of a table
+abbrev pub tableStore : TableId → Stores → List ℕ
+tableStore t s = storeOf t (s .attributes) (s .classes)
+
 abbrev pub schemaOf : Stores → Schema
 schemaOf s = schemaIn (s .attributes) (s .classes)
+
+-- the stores with that of one table replaced
+abbrev pub withStore : TableId → List ℕ → Stores → Stores
+withStore Attributes x s = stores x (s .classes) (s .closure)
+withStore Classes x s = stores (s .attributes) x (s .closure)
 
 -- what a call comes to: its answer, and the stores as it leaves them
 pub record Result : Type 0 where

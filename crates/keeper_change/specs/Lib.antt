@@ -1,0 +1,4 @@
+-- The change calls, each as one definition of its answer and of the bytes that it leaves.
+pub mod Made
+pub mod MadeLaws
+pub mod Plain
