@@ -94,5 +94,5 @@ pub data Condition (change : Change) (r : List ℕ) (m : Schema) : ℕ → Type 
   addedBaseRow : isAddition change ≡ true → isBase (addedRow (tableFor change) r) ≡ true → Condition change r m refusal.addedBaseRow
   entryConflict : Conflict change r (targetRow change r m) → Condition change r m refusal.entryConflict
   stillNeeded : DeactivatedNeeded change (targetOf r) m → Condition change r m refusal.stillNeeded
-  rule : (name : RuleName) → ¬ (Met (addedBy change r m) name (schemaAfter change r m)) → Condition change r m (ruleNumber name)
+  rule : (name : RuleName) → ¬ (Met (addedBy change r (m .classes .count)) name (schemaAfter change r m)) → Condition change r m (ruleNumber name)
   mandatoryDiffers : DemandDiffers (m .classes) (schemaAfter change r m .classes) → Condition change r m refusal.mandatoryDiffers

@@ -21,8 +21,8 @@ use Rattle.change_model.specs.Model.{changeCases, addedBy, changeNumber,
 use Rattle.prelude.specs.Says.{Says}
 use Rattle.prelude.specs.BelowLaws.{says-any}
 use Rattle.prelude.specs.SaysLaws.{says-eq, says-le, says-lt, says-never, says-not, says-not-test, says-or, says-test, says-and, says-iff}
-use Rattle.prelude.specs.First.{Among, Case, _when_, Rising}
-use Rattle.prelude.specs.FirstLaws.{among-append, among-left, first-among, first-least, first-or-none, none-zero, other-first, among-right, among-above}
+use Rattle.prelude.specs.First.{Among, _when_, Rising}
+use Rattle.prelude.specs.FirstLaws.{among-append, among-left, first-among, first-least, first-or-none, none-zero, other-first, among-right}
 use Rattle.prelude.specs.FirstLaws.{none-among, rising-nonzero, zero-iff-none}
 use Rattle.change_asked.specs.Asked.{baseAdded, baseTouched, stateWrong, tableFull, targetAbsent, askedCases, targetRow}
 use Rattle.change_asked.specs.Needed.{classNeeds, linkNeeds, needed}
@@ -163,10 +163,10 @@ module _ (change : Change) (r : List ℕ) (m : Schema) where
       at q (Condition.stillNeeded (says-still change (targetOf r) m .holds e))
 
   result-condition : {x : ℕ} → Among x (resultCases change r m) → Condition change r m x
-  result-condition a = ⊎-elim broken thirty (among-append (brokenCases (schemaRules (addedBy change r m)) result) _ a)
+  result-condition a = ⊎-elim broken thirty (among-append (brokenCases (schemaRules (addedBy change r (m .classes .count))) result) _ a)
     where
-      broken : {x : ℕ} → Among x (brokenCases (schemaRules (addedBy change r m)) result) → Condition change r m x
-      broken b = let u = among-unmet (addedBy change r m) result b in at (u .1) (Condition.rule (u .0) (u .2))
+      broken : {x : ℕ} → Among x (brokenCases (schemaRules (addedBy change r (m .classes .count))) result) → Condition change r m x
+      broken b = let u = among-unmet (addedBy change r (m .classes .count)) result b in at (u .1) (Condition.rule (u .0) (u .2))
 
       thirty : {x : ℕ} → Among x ((refusal.mandatoryDiffers when mandatoryDiffers (m .classes) (result .classes)) ∷ []) → Condition change r m x
       thirty (Among.here e q) = at q (Condition.mandatoryDiffers (says-differs (m .classes) (result .classes) .holds e))
@@ -188,9 +188,9 @@ module _ (change : Change) (r : List ℕ) (m : Schema) where
   condition-among (Condition.stillNeeded d) =
       Among.there (Among.there (Among.there (Among.there (Among.there (Among.there (Among.here (says-still change (targetOf r) m .passes d) refl))))))
   condition-among (Condition.rule name unmet) =
-      among-right (askedCases change r m) (among-left _ (unmet-among (addedBy change r m) result name unmet))
+      among-right (askedCases change r m) (among-left _ (unmet-among (addedBy change r (m .classes .count)) result name unmet))
   condition-among (Condition.mandatoryDiffers d) =
-      among-right (askedCases change r m) (among-right (brokenCases (schemaRules (addedBy change r m)) result)
+      among-right (askedCases change r m) (among-right (brokenCases (schemaRules (addedBy change r (m .classes .count))) result)
       (Among.here (says-differs (m .classes) (result .classes) .passes d) refl))
 
   -- ---- the answer's number

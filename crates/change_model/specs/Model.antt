@@ -24,21 +24,21 @@ use Rattle.change_rows.specs.Lists.{listTable}
 use Rattle.change_rows.specs.Rows.{numberFor, schemaAfter, tableFor}
 use Rattle.schema.specs.Refusals as refusal
 
--- what the change adds that a rule binds by itself
-abbrev pub addedBy : Change → List ℕ → Schema → Added
-addedBy (Add Attributes) r m = Nothing
-addedBy (Add Classes) r m = Class (record { 0 = m .classes .count })
-addedBy SetRange r m = Nothing
-addedBy (Rename t) r m = Nothing
-addedBy (Deactivate t) r m = Nothing
-addedBy (Reactivate t) r m = Nothing
-addedBy AddEntry r m = Entry (record { 0 = targetOf r }) (listTable (listOf r)) (entryOf r)
-addedBy RemoveEntry r m = Nothing
+-- what the change adds, to a schema of n classes, that a rule binds by itself: a class, or an entry of a list
+abbrev pub addedBy : Change → List ℕ → ℕ → Added
+addedBy (Add Attributes) r n = Nothing
+addedBy (Add Classes) r n = Class (record { 0 = n })
+addedBy SetRange r n = Nothing
+addedBy (Rename t) r n = Nothing
+addedBy (Deactivate t) r n = Nothing
+addedBy (Reactivate t) r n = Nothing
+addedBy AddEntry r n = Entry (record { 0 = targetOf r }) (listTable (listOf r)) (entryOf r)
+addedBy RemoveEntry r n = Nothing
 
 -- "12 to 29 schema rules below", of the whole result; "30 some present class's mandatory set would differ"
 abbrev pub resultCases : Change → List ℕ → Schema → List Case
 resultCases change r m =
-    brokenCases (schemaRules (addedBy change r m)) (schemaAfter change r m)
+    brokenCases (schemaRules (addedBy change r (m .classes .count))) (schemaAfter change r m)
     ++ ((refusal.mandatoryDiffers when mandatoryDiffers (m .classes) (schemaAfter change r m .classes)) ∷ [])
 
 -- numbers 5 to 30, row for row

@@ -1,4 +1,5 @@
 -- The change calls, each as one definition of its answer and of the bytes that it leaves.
 pub mod Made
 pub mod MadeLaws
+pub mod Judged
 pub mod Plain

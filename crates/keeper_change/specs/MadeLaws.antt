@@ -3,20 +3,21 @@ use lib.ListN.{length}
 use native.Mathlib.Omega.{arith}
 use Prim.Native.Nat.{_<_, _≤_, ℕ}
 use mathlib.Core.List.{List, []}
-use mathlib.Core.Path.{_≡_, ap, refl, subst}
+use mathlib.Core.Path.{_≡_, ap, refl, subst, sym}
 use mathlib.Core.Logic.{_⊎_, inl, inr}
-use mathlib.Core.Bool.{false, true}
+use mathlib.Core.Bool.{false, true, cond}
 use Rattle.schema.specs.declared.number.TableId.the-variants.{Attributes, Classes}
 use Rattle.schema.specs.Store.{LongEnough, Stores, Table, countIn, schemaOf, table, tableIn, tableStore, withStore, withTable}
 use Rattle.schema.specs.declared.number.TableId.{TableId}
-use Rattle.schema.specs.Numbers.{limit}
+use Rattle.schema.specs.Numbers.{limit, numberOf, tableOf}
 use Rattle.schema.specs.Layout.{rowWidth, storeLength}
 use Rattle.schema.specs.StoreLaws.{table-row-length}
-use Rattle.change_rows.specs.Stores.{Applicable, storeAfter}
+use Rattle.schema.specs.NumbersLaws.{id-number, id-table}
+use Rattle.change_rows.specs.Stores.{Applicable, storeAfter, rowChanged, restored}
 use Rattle.change_rows.specs.FormedLaws.{edited-formed}
 use Rattle.change_rows.specs.RowsLaws.{edited-wide}
 use Rattle.change_rows.specs.Rows.{editedRow, isAddition, schemaAfter, tableAfter, tableFor}
-use Rattle.prelude.specs.Part.{Bytes}
+use Rattle.prelude.specs.Part.{Bytes, part}
 use Rattle.prelude.specs.SaysLaws.{true-or-false}
 use Rattle.change_read.specs.declared.read.Change.{Change}
 use Rattle.change_read.specs.ChangeLaws.{Reads, change-length}
@@ -30,7 +31,8 @@ use Rattle.tables.specs.PutLaws.{plus-length, plus-same, put-length, put-same}
 use Rattle.tables.specs.SameLaws.{same-reflexive}
 use Rattle.change_asked.specs.AskedLaws.{asked-room, asked-there}
 use Rattle.change_asked.specs.Asked.{firstAsked}
-use Rattle.keeper_change.specs.Made.{rowsMade}
+use Rattle.keeper_change.specs.Made.{rowsMade, rowsBack}
+use Rattle.keeper_change.specs.declared.rows.Before.{Before}
 
 -- the stores of a table and of the other
 formed-table : (t : TableId) (s : Stores) → StoresFormed (s .attributes) (s .classes) → TableFormed t (tableStore t s)
@@ -62,6 +64,29 @@ replaced-same Attributes new u s h Attributes = h
 replaced-same Attributes new u s h Classes = same-reflexive (tableIn Classes (s .classes))
 replaced-same Classes new u s h Attributes = same-reflexive (tableIn Attributes (s .attributes))
 replaced-same Classes new u s h Classes = h
+
+-- the change is made in the store of its table, and taken back there
+pub made-in : (t : TableId) (change : Change) (r : List ℕ) (s : Stores) → tableFor change ≡ t
+    → withStore t (storeAfter change r (tableStore t s)) s ≡ rowsMade change r s
+unfolding rowsMade
+made-in t change r s e = ap (λ (u : TableId). withStore u (storeAfter change r (tableStore u s)) s) (sym e)
+
+pub back-in : (t : TableId) (b : Before) (s : Stores) → tableOf (b .id) ≡ t
+    → withStore t (restored t (numberOf (b .id)) (b .count) (part 0 (rowWidth t) (b .row)) (tableStore t s)) s ≡ rowsBack b s
+unfolding rowsBack
+back-in t b s e =
+    ap (λ (u : TableId). withStore u (restored u (numberOf (b .id)) (b .count) (part 0 (rowWidth u) (b .row)) (tableStore u s)) s) (sym e)
+
+-- the row that a change is about lies within its table
+pub row-within : (change : Change) (r s : List ℕ) → Applicable change r s → numberOf (rowChanged change r s) < limit (tableFor change)
+row-within change r s ok = rw (id-number (tableFor change) (cond (isAddition change) (countIn (tableFor change) s) (targetOf r))) (go (true-or-false (isAddition change)))
+  where
+    go : (isAddition change ≡ true) ⊎ (isAddition change ≡ false) → cond (isAddition change) (countIn (tableFor change) s) (targetOf r) < limit (tableFor change)
+    go (inl e) = rw e (ok .room e)
+    go (inr e) = rw e (ok .within e)
+
+pub row-table : (change : Change) (r s : List ℕ) → tableOf (rowChanged change r s) ≡ tableFor change
+row-table change r s = id-table (tableFor change) _
 
 -- ---- a change that was read, of which numbers 5 to 11 say nothing
 

@@ -236,3 +236,8 @@ unfolding judged
 judged-least added m n t k l e =
     let rs = schemaRules added in
     omega (arith, judge-number rs m, first-least 0 n (brokenCases rs m) (rising added m) (among-broken rs m n t k l e))
+
+-- the judge's number is that of the first rule that some row breaks
+pub judged-number : (added : Added) (m : Schema) → judged added m .number ≡ firstOf (brokenCases (schemaRules added) m)
+unfolding judged
+judged-number added m = judge-number (schemaRules added) m

@@ -40,14 +40,14 @@ use Rattle.rules_attribute.specs.LinksLaws.{says-forward, says-forward-missing}
 use Rattle.rules_attribute.specs.Syntax.{objectClassWrong}
 use Rattle.rules_attribute.specs.Links.{forwardMissing}
 use Rattle.rules_class.specs.Live.{notLive, classWrong, SuperclassEarly, listsItself, superclassLate, namingWrong}
-use Rattle.rules_class.specs.LiveLaws.{says-not-live, says-class-wrong, says-naming-wrong, says-lists-itself, says-superclass-late}
+use Rattle.rules_class.specs.LiveLaws.{says-not-live, says-naming-wrong, says-lists-itself, says-superclass-late}
 use Rattle.rules_class.specs.Category.{class88, abstract, listCategory, categoryWrong, inheritanceWrong}
 use Rattle.rules_class.specs.CategoryLaws.{says-category-wrong, says-inheritance-wrong}
 use Rattle.rules_class.specs.Chain.{chainLimit}
 use Rattle.rules_class.specs.ChainLaws.{says-chain, says-chain-wrong}
 use Rattle.rules.specs.declared.row.Added.the-variants.{Nothing}
 use Rattle.rules.specs.Rules.{ofAttributes, ofClasses, schemaRules, numbered, _&_, attributeNotLive, classNotLive, entryDead, barred, Each, Rule}
-use Rattle.rules.specs.RulesLaws.{each-numbered, attribute-nothing, class-nothing}
+use Rattle.rules.specs.RulesLaws.{each-numbered}
 use Rattle.rules.specs.Judge.{Kept, AllKept, breaksIn, broken, brokenCases, judged}
 use Rattle.schema.specs.Refusals as refusal
 use Rattle.rules.specs.Meets.{Apart, NumbersApart, NamedLive, EntryLive, NotItself, Fitting, Legal, RuleName, ruleNumber, Met, Meets}

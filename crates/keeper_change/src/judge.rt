@@ -1,0 +1,62 @@
+// What a change adds that a rule binds by itself, and the judgement of the whole result.
+use change_read::carried::entry_of;
+use change_read::carried::list_of;
+use change_read::carried::target_of;
+use change_read::read::Change;
+use change_rows::list::list_table;
+use graph::demand::demands_differ;
+use rules::judge::judge;
+use rules::row::Added;
+use schema::number::ClassNumber;
+use schema::number::TableId;
+use schema::refusal::DONE;
+use schema::refusal::MANDATORY_DIFFERS;
+ghost use mathlib.Core.List.{List};
+ghost use mathlib.Core.Path.{_≡_};
+ghost use Prim.Native.Nat.{_≤_};
+ghost use lib.ListN.{length};
+ghost use Rattle.schema.specs.Numbers.{classLimit};
+ghost use Rattle.schema.specs.Layout.{classWidth, closureLength};
+ghost use Rattle.schema.specs.Store.{schemaIn};
+ghost use Rattle.tables.specs.Shaped.{Shaped};
+ghost use Rattle.change_model.specs.Model.{addedBy};
+ghost use Rattle.keeper_change.specs.Judged.{judgedWhole};
+
+// What a change adds, to a schema of n classes.
+pub fn added_by(change: Change, scratch: &[u8], n: usize) -> Added
+    requires { ⌜ length (now scratch) ≡ classWidth ⌝ }
+    ensures { λ r. ⌜ r ≡ addedBy change (now (scratch .entry)) n ⌝ }
+{
+    match change {
+        Change::Add(table) => match table {
+            TableId::Attributes => Added::Nothing,
+            TableId::Classes => Added::Class(ClassNumber(n)),
+        },
+        Change::SetRange => Added::Nothing,
+        Change::Rename(_) => Added::Nothing,
+        Change::Deactivate(_) => Added::Nothing,
+        Change::Reactivate(_) => Added::Nothing,
+        Change::AddEntry => Added::Entry {
+            class: ClassNumber(target_of(scratch) as usize),
+            table: list_table(list_of(scratch)),
+            number: entry_of(scratch) as usize,
+        },
+        Change::RemoveEntry => Added::Nothing,
+    }
+}
+
+// The first of 12 to 29 that some row of the result breaks, 30 where one of the first n classes would demand other attributes than it kept, or 0.
+pub fn judged_whole<'a>(added: Added, attributes: &'a [u8], classes: &'a [u8], closure: &[u8], n: usize) -> u8
+    requires { ⌜ Shaped (now attributes) (now classes) × (closureLength ≤ length (now closure)) × (n ≤ classLimit) ⌝ }
+    ensures { λ r. ⌜ r ≡ judgedWhole added (schemaIn (now (attributes .entry)) (now (classes .entry))) (now (closure .entry)) n ⌝ }
+{
+    let broken = judge(added, attributes, classes);
+    let number = broken.number;
+    if number != DONE {
+        return number;
+    }
+    if demands_differ(classes, closure, n) {
+        return MANDATORY_DIFFERS;
+    }
+    DONE
+}
