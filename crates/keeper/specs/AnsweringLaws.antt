@@ -71,6 +71,17 @@ zero-iff-pass answers last z = (passes answers, λ h. ap (λ (x : Answer). x .nu
         ⊎-elim (λ d. absurd (d (sym (ap (λ (x : Answer). x .number) (first-refused a answers last d)) ∙ e)))
         (λ q. (q, passes answers (sym (ap (λ (x : Answer). x .number) (first-passed a answers last q)) ∙ e))) (refuses-or-not a)
 
+-- a list that refuses does so whatever comes last, and one that passes gives what comes last
+pub refused-any : (answers : List Answer) (a b : Answer) → a .number ≡ 0 → ¬ (firstAnswer answers a .number ≡ 0) → firstAnswer answers a ≡ firstAnswer answers b
+refused-any [] a b z d = absurd (d (ap (λ (x : Answer). x .number) (first-last a) ∙ z))
+refused-any (c ∷ answers) a b z d =
+    ⊎-elim (λ r. first-refused c answers a r ∙ sym (first-refused c answers b r))
+    (λ e. first-passed c answers a e ∙ refused-any answers a b z (λ f. d (ap (λ (x : Answer). x .number) (first-passed c answers a e) ∙ f))
+    ∙ sym (first-passed c answers b e)) (refuses-or-not c)
+
+pub passed-any : (answers : List Answer) (a b : Answer) → a .number ≡ 0 → firstAnswer answers a .number ≡ 0 → firstAnswer answers b ≡ b
+passed-any answers a b z e = passed-last answers b (zero-iff-pass answers a z .0 e)
+
 -- ---- two lists one after the other: a group of answers that a function of its own finds
 
 pub append-passed : (p q : List Answer) (last : Answer) → NoneRefuses p → firstAnswer (p ++ q) last ≡ firstAnswer q last

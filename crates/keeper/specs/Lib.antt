@@ -9,3 +9,4 @@ pub mod Audit
 pub mod Depth
 pub mod CheckedLaws
 pub mod EndLaws
+pub mod OrderLaws

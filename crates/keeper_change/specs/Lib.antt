@@ -3,3 +3,4 @@ pub mod Made
 pub mod MadeLaws
 pub mod Judged
 pub mod Plain
+pub mod PlainLaws

@@ -3,15 +3,20 @@ use lib.Dec.{eqb}
 use Prim.Native.Nat.{ℕ}
 use mathlib.Core.List.{List}
 use mathlib.Core.Bool.{cond}
+use mathlib.Core.Path.{_≡_}
 use Rattle.change_read.specs.declared.read.ChangeRead.the-variants.{Read, Bad}
 use Rattle.change_read.specs.declared.read.ChangeRead.{ChangeRead}
-use Rattle.change_read.specs.Reading.{readChange}
+use Rattle.change_read.specs.Reading.{readChange, changeOut}
+use Rattle.change_read.specs.declared.read.Change.{Change}
 use Rattle.schema.specs.declared.answer.Answer.{Answer}
 use Rattle.schema.specs.Store.{Result, Stores, schemaOf, result}
+use Rattle.schema.specs.Answers.{passed}
 use Rattle.change_model.specs.Model.{answerTo}
 use Rattle.keeper.specs.Answering.{firstAnswer}
 use Rattle.keeper.specs.Order.{orderAnswers}
 use Rattle.keeper_change.specs.Made.{rowsMade, refreshed}
+use Rattle.prelude.specs.Part.{Bytes}
+use Rattle.change_asked.specs.Asked.{firstAsked}
 use Rattle.schema.specs.Refusals as refusal
 
 -- "The smallest number whose condition holds": 1, 2, 3, then 4, then those of the model
@@ -30,3 +35,17 @@ plainRead read r s =
 
 unfoldable pub plainChange : List ℕ → Stores → Result
 plainChange x s = plainRead (readChange x .answer) (readChange x .row) s
+
+-- ---- what the code knows on its way
+
+-- a change that was read from bytes, and stores in order
+pub record InOrderFor (change : Change) (r : List ℕ) (s : Stores) : Type 0 where
+  pub text : List ℕ
+  pub bytes : Bytes text
+  pub reads : readChange text ≡ changeOut (Read change) r
+  pub order : firstAnswer (orderAnswers s) passed ≡ passed
+
+-- and that numbers 5 to 11 let it pass
+pub record Judged (change : Change) (r : List ℕ) (s : Stores) : Type 0 where
+  pub stores : InOrderFor change r s
+  pub asked : firstAsked change r (schemaOf s) ≡ refusal.done

@@ -5,6 +5,7 @@ use mathlib.Core.Logic.{_⊎_, inl, inr, ⊎-elim, _↔_, ⊎-map}
 use mathlib.Core.List.{List, [], _∷_, _++_}
 use Prim.Native.Nat.{ℕ, _≤_, _<_}
 use native.Mathlib.Omega.{arith}
+use native.Mathlib.Decide.{ℕ-discrete}
 use Rattle.prelude.specs.SaysLaws.{true-or-false}
 use Rattle.prelude.specs.First.{Case, firstOf, NoneHolds, FirstHolds, Among, NonZero, Rising}
 
@@ -117,3 +118,11 @@ among-right (c ∷ p) a = Among.there (among-right p a)
 pub none-among : {n : ℕ} {cs : List Case} → NoneHolds cs → ¬ (Among n cs)
 none-among h (Among.here e q) = false≢true (sym (h .0) ∙ e)
 none-among h (Among.there a) = none-among (h .1) a
+
+-- two lists one after the other give what others give that give the same
+pub append-cong : (p q u v : List Case) → NonZero p → NonZero u → firstOf p ≡ firstOf u → firstOf q ≡ firstOf v → firstOf (p ++ q) ≡ firstOf (u ++ v)
+append-cong p q u v zp zu e f = go (ℕ-discrete (firstOf p) 0)
+  where
+    go : Dec (firstOf p ≡ 0) → firstOf (p ++ q) ≡ firstOf (u ++ v)
+    go (yes z) = append-second p q zp z ∙ f ∙ sym (append-second u v zu (sym e ∙ z))
+    go (no d) = append-first p q d ∙ e ∙ sym (append-first u v (λ z. d (e ∙ z)))

@@ -1,0 +1,126 @@
+use native.Mathlib.Omega.{arith}
+use mathlib.Core.Path.{_∙_, ap, ap₂, subst, sym, subst₂}
+use borrow.Author.Needs.{needs}
+use Rattle.keeper_change.proofs.plain.plain_judged.Statement.{statement}
+use Rattle.keeper_change.proofs.Whole.{classes-few, closure-long, judged-at, made-readable, made-shaped, number-found, applicable, in-shape, back}
+use Rattle.keeper_change.proofs.Whole.{judged-done, judged-refused, restorable, refreshed-made, store-bytes}
+use Rattle.graph.specs.Graph.{Readable}
+use Rattle.keeper_change.specs.Made.{Restorable, rowsBack}
+use Rattle.tables.specs.Shaped.{Shaped}
+use Rattle.schema.specs.Numbers.{numberOf, tableOf}
+use Rattle.schema.specs.Store.{stores}
+use Rattle.schema.specs.Answers.{changed}
+use Rattle.change_rows.specs.Rows.{tableFor}
+use Rattle.keeper_change.proofs.plain.plain_judged.Tie as tie
+
+save-requires : tie.Need-save-requires
+save-requires c κs =
+    let start = c .before .before .before .before .before .before in
+    applicable (start .args .change) (start .args .scratch .now) (stores (start .args .attributes .now) (start .args .classes .now) (start .args .closure .now)) (start .pre)
+
+row-count-requires : tie.Need-row-count-requires
+row-count-requires c κs =
+    let start = c .before .before .before .before .before .before .before .before in
+    in-shape (start .args .change) (start .args .scratch .now) (stores (start .args .attributes .now) (start .args .classes .now) (start .args .closure .now)) (start .pre .stores) .long .classes
+
+make-requires : tie.Need-make-requires
+make-requires c κs =
+    let start = c .before .before .before .before .before .before .before .before .before .before .before in
+    applicable (start .args .change) (start .args .scratch .now) (stores (start .args .attributes .now) (start .args .classes .now) (start .args .closure .now)) (start .pre)
+
+added-by-requires : tie.Need-added-by-requires
+added-by-requires c κs =
+    let start = c .before .before .before .before .before .before .before .before .before .before .before .before .before .before .before .before in
+    applicable (start .args .change) (start .args .scratch .now) (stores (start .args .attributes .now) (start .args .classes .now) (start .args .closure .now)) (start .pre) .carried
+
+judged-whole-requires : tie.Need-judged-whole-requires
+judged-whole-requires c κs =
+    let c₁ = c .before .before .before .before .before .before .before .before in
+    let c₂ = c₁ .before .before .before in
+    let start = c₂ .before .before .before .before .before .before .before .before .before in
+    (subst (λ x. Shaped (x .attributes) (x .classes)) (sym (c₁ .make .ensures (start .args .closure .now))) (made-shaped (start .args .change) (start .args .scratch .now) (stores (start .args .attributes .now) (start .args .classes .now) (start .args .closure .now)) (start .pre)), closure-long (start .args .change) (start .args .scratch .now) (stores (start .args .attributes .now) (start .args .classes .now) (start .args .closure .now)) (start .pre), omega (arith, c₂ .row-count .ensures, classes-few (start .args .change) (start .args .scratch .now) (stores (start .args .attributes .now) (start .args .classes .now) (start .args .closure .now)) (start .pre)))
+
+undo-requires : tie.Need-undo-requires
+undo-requires c κs =
+    let c₁ = c .before .before .before .before .before .before .before .before .before .before .before .before in
+    let c₂ = c₁ .before .before .before .before .before in
+    let start = c₂ .before .before .before .before .before .before .before in
+    subst₂ (λ b x. Restorable b (x .attributes) (x .classes)) (sym (c₂ .save .ensures)) (sym (c₁ .make .ensures (start .args .closure .now))) (restorable (start .args .change) (start .args .scratch .now) (stores (start .args .attributes .now) (start .args .classes .now) (start .args .closure .now)) (start .pre))
+
+refused-requires : tie.Need-refused-requires
+refused-requires c κs = search needs
+
+same-length : tie.Need-same-length
+same-length c = search needs
+
+same-length-2 : tie.Need-same-length-2
+same-length-2 c = search needs
+
+same-length-3 : tie.Need-same-length-3
+same-length-3 c = search needs
+
+returns : tie.Need-returns
+returns c =
+    let c₁ = c .before .before .before .before .before in
+    let c₂ = c₁ .before .before .before in
+    let c₃ = c₂ .before in
+    let c₄ = c₃ .before .before .before .before in
+    let c₅ = c₄ .before .before .before .before .before in
+    let c₆ = c₅ .before .before .before in
+    let c₇ = c₆ .before .before in
+    let c₈ = c₇ .before .before .before .before in
+    let c₉ = c₈ .before in
+    let start = c₉ .before .before in
+    judged-refused (start .args .change) (start .args .scratch .now) (stores (start .args .attributes .now) (start .args .classes .now) (start .args .closure .now)) (start .pre) _ _ _ (number-found (start .args .change) (start .args .scratch .now) (stores (start .args .attributes .now) (start .args .classes .now) (start .args .closure .now)) (start .pre) _ (c₃ .judged-whole .ensures ∙ judged-at (start .args .change) (start .args .scratch .now) (stores (start .args .attributes .now) (start .args .classes .now) (start .args .closure .now)) (start .pre) (c₅ .make .ensures (start .args .closure .now)) (c₆ .row-count .ensures) (c₄ .added-by .ensures))) (c₂ .if1 .taken) (c .refused .ensures) (c₁ .undo .ensures (start .args .closure .now) ∙ ap₂ rowsBack (c₇ .save .ensures) (c₅ .make .ensures (start .args .closure .now)) ∙ back (start .args .change) (start .args .scratch .now) (stores (start .args .attributes .now) (start .args .classes .now) (start .args .closure .now)) (start .pre) (store-bytes (tableFor (start .args .change)) (start .args .attributes .now) (start .args .classes .now) (λ i. c₉ .slice-known .given i .fits) (λ i. c₈ .slice-known2 .given i .fits)))
+
+refresh-all-requires : tie.Need-refresh-all-requires
+refresh-all-requires c κs =
+    let c₁ = c .before .before .before .before .before .before .before .before .before .before .before .before in
+    let start = c₁ .before .before .before .before .before .before .before .before .before .before .before .before in
+    (subst (λ x. Readable (x .classes)) (sym (c₁ .make .ensures (start .args .closure .now))) (made-readable (start .args .change) (start .args .scratch .now) (stores (start .args .attributes .now) (start .args .classes .now) (start .args .closure .now)) (start .pre)), closure-long (start .args .change) (start .args .scratch .now) (stores (start .args .attributes .now) (start .args .classes .now) (start .args .closure .now)) (start .pre))
+
+changed-requires : tie.Need-changed-requires
+changed-requires c κs = search needs
+
+same-length-4 : tie.Need-same-length-4
+same-length-4 c = search needs
+
+same-length-5 : tie.Need-same-length-5
+same-length-5 c = search needs
+
+same-length-6 : tie.Need-same-length-6
+same-length-6 c = search needs
+
+returns-2 : tie.Need-returns-2
+returns-2 c =
+    let c₁ = c .before .before .before in
+    let c₂ = c₁ .before .before .before in
+    let c₃ = c₂ .before in
+    let c₄ = c₃ .before .before .before .before in
+    let c₅ = c₄ .before .before .before .before .before in
+    let c₆ = c₅ .before .before .before in
+    let c₇ = c₆ .before .before in
+    let start = c₇ .before .before .before .before .before .before .before in
+    judged-done (start .args .change) (start .args .scratch .now) (stores (start .args .attributes .now) (start .args .classes .now) (start .args .closure .now)) (start .pre) _ _ _ (number-found (start .args .change) (start .args .scratch .now) (stores (start .args .attributes .now) (start .args .classes .now) (start .args .closure .now)) (start .pre) _ (c₃ .judged-whole .ensures ∙ judged-at (start .args .change) (start .args .scratch .now) (stores (start .args .attributes .now) (start .args .classes .now) (start .args .closure .now)) (start .pre) (c₅ .make .ensures (start .args .closure .now)) (c₆ .row-count .ensures) (c₄ .added-by .ensures))) (c₂ .if1 .left) (c .changed .ensures ∙ ap (λ b. changed (tableOf (b .id)) (numberOf (b .id))) (c₇ .save .ensures)) (refreshed-made (stores (start .args .attributes .now) (start .args .classes .now) (start .args .closure .now)) (c₅ .make .ensures (start .args .closure .now)) (c₁ .refresh-all .ensures))
+
+pub plain-judged-spec : {M : Type 1} → statement M
+plain-judged-spec =
+    tie.close
+    (tie.spec
+    save-requires
+    row-count-requires
+    make-requires
+    added-by-requires
+    judged-whole-requires
+    undo-requires
+    refused-requires
+    same-length
+    same-length-2
+    same-length-3
+    returns
+    refresh-all-requires
+    changed-requires
+    same-length-4
+    same-length-5
+    same-length-6
+    returns-2)

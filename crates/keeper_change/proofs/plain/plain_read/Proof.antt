@@ -1,0 +1,56 @@
+use borrow.Author.Needs.{needs}
+use Rattle.keeper_change.proofs.plain.plain_read.Statement.{statement}
+use Rattle.keeper_change.proofs.Whole.{asked-refused, plain-asked}
+use Rattle.schema.specs.Store.{stores}
+use Rattle.keeper_change.proofs.plain.plain_read.Tie as tie
+
+first-asked-requires : tie.Need-first-asked-requires
+first-asked-requires c κs =
+    let start = c .before .before .before .before .before .before in
+    plain-asked (start .args .change) (start .args .scratch .now) (stores (start .args .attributes .now) (start .args .classes .now) (start .args .closure .now)) (start .pre)
+
+refused-requires : tie.Need-refused-requires
+refused-requires c κs = search needs
+
+same-length : tie.Need-same-length
+same-length c = search needs
+
+same-length-2 : tie.Need-same-length-2
+same-length-2 c = search needs
+
+returns : tie.Need-returns
+returns c =
+    let c₁ = c .before in
+    let c₂ = c₁ .before in
+    let start = c₂ .before .before .before .before .before .before .before in
+    asked-refused (start .args .change) (start .args .scratch .now) (stores (start .args .attributes .now) (start .args .classes .now) (start .args .closure .now)) (start .pre) _ _ (c₂ .first-asked .ensures) (c₁ .if1 .taken) (c .refused .ensures)
+
+plain-judged-requires : tie.Need-plain-judged-requires
+plain-judged-requires c κs = search needs
+
+same-length-3 : tie.Need-same-length-3
+same-length-3 c = search needs
+
+same-length-4 : tie.Need-same-length-4
+same-length-4 c = search needs
+
+same-length-5 : tie.Need-same-length-5
+same-length-5 c = search needs
+
+returns-2 : tie.Need-returns-2
+returns-2 c = search needs
+
+pub plain-read-spec : {M : Type 1} → statement M
+plain-read-spec =
+    tie.close
+    (tie.spec
+    first-asked-requires
+    refused-requires
+    same-length
+    same-length-2
+    returns
+    plain-judged-requires
+    same-length-3
+    same-length-4
+    same-length-5
+    returns-2)
