@@ -82,7 +82,10 @@ fn in_open(scratch: &[u8], row: &[u8]) -> bool
     ensures { λ r. ⌜ r ≡ member (openOf (listOf (now (scratch .entry))) (now (row .entry))) (entryOf (now (scratch .entry))) ⌝ }
 {
     let list = list_of(scratch);
-    has(part_of(row, open_at(list), list_width(list)), entry_of(scratch) as usize)
+    has(
+        part_of(row, open_at(list), list_width(list)),
+        entry_of(scratch) as usize,
+    )
 }
 
 // Whether the fixed list does.
@@ -91,7 +94,10 @@ fn in_fixed(scratch: &[u8], row: &[u8]) -> bool
     ensures { λ r. ⌜ r ≡ member (fixedOf (listOf (now (scratch .entry))) (now (row .entry))) (entryOf (now (scratch .entry))) ⌝ }
 {
     let list = list_of(scratch);
-    has(part_of(row, fixed_at(list), list_width(list)), entry_of(scratch) as usize)
+    has(
+        part_of(row, fixed_at(list), list_width(list)),
+        entry_of(scratch) as usize,
+    )
 }
 
 // Whether the entry is in the list already, or, to be removed, is not.
@@ -147,7 +153,13 @@ fn addition_asked(table: TableId, scratch: &[u8], store: &[u8]) -> u8
 }
 
 // What any other change asks of a target that is there: 7, 8, 10 and 11.
-fn target_asked<'a>(change: Change, scratch: &[u8], id: RowId, attributes: &'a [u8], classes: &'a [u8]) -> u8
+fn target_asked<'a>(
+    change: Change,
+    scratch: &[u8],
+    id: RowId,
+    attributes: &'a [u8],
+    classes: &'a [u8],
+) -> u8
     requires { ⌜ Shaped (now attributes) (now classes) × (length (now scratch) ≡ classWidth) × (tableOf id ≡ tableFor change)
         × (numberOf id < table (tableOf id) (schemaIn (now attributes) (now classes)) .count) ⌝ }
     ensures { λ r. ⌜ r ≡ targetAsked change (now (scratch .entry)) (numberOf id) (schemaIn (now (attributes .entry)) (now (classes .entry))) ⌝ }
@@ -169,7 +181,12 @@ fn target_asked<'a>(change: Change, scratch: &[u8], id: RowId, attributes: &'a [
 }
 
 // The first of numbers 5 to 11 whose condition holds, or 0.
-pub fn first_asked<'a>(change: Change, scratch: &[u8], attributes: &'a [u8], classes: &'a [u8]) -> u8
+pub fn first_asked<'a>(
+    change: Change,
+    scratch: &[u8],
+    attributes: &'a [u8],
+    classes: &'a [u8],
+) -> u8
     requires { ⌜ Shaped (now attributes) (now classes) × (length (now scratch) ≡ classWidth) ⌝ }
     ensures { λ r. ⌜ r ≡ firstAsked change (now (scratch .entry)) (schemaIn (now (attributes .entry)) (now (classes .entry))) ⌝ }
 {

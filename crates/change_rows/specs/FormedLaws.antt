@@ -45,7 +45,8 @@ set-formed tag n at cell l b = go (true-or-false (isZero cell))
   where
     go : (isZero cell ≡ true) ⊎ (isZero cell ≡ false) → cond (not (isZero cell)) (not (isEmpty (drop 0 cell))) (isZero cell) ≡ true
     go (inl q) = rw q
-    go (inr q) = rw q (ap not (says-false (says-empty cell) (λ e. says-fails (says-zero cell) q (bit-ext cell (zeros (length cell)) (sym (zeros-length (length cell))) b
+    go (inr q) = rw q (ap not (says-false (says-empty cell) (λ e. says-fails (says-zero cell) q (bit-ext cell (zeros (length cell)) (sym
+        (zeros-length (length cell))) b
         (λ i. (rw (zeros-at (length cell) i) (omega arith))) (λ k. e k ∙ sym (bit-zeros (length cell) k))))))
 
 -- a cell of what every row begins with becomes another
@@ -127,7 +128,8 @@ edited-formed (Deactivate t) x r row b reads (inr h) = state-formed t 1 row (inr
 edited-formed (Reactivate t) x r row b reads (inr h) = state-formed t 0 row (inl refl) (h .0) (h .1)
 edited-formed AddEntry x r row b reads (inr h) =
     let inside = list-inside (listOf r) in
-    list-formed (listOf r) _ row (with-length (entryOf r) (openOf (listOf r) row) ∙ part-length (openAt (listOf r)) (listWidth (listOf r)) row (omega (arith, h .0)))
+    list-formed (listOf r) _ row (with-length (entryOf r) (openOf (listOf r) row) ∙ part-length (openAt (listOf r)) (listWidth (listOf r)) row
+    (omega (arith, h .0)))
     (with-bytes (entryOf r) (openOf (listOf r) row)) (h .0) (h .1)
 edited-formed RemoveEntry x r row b reads (inr h) =
     let inside = list-inside (listOf r) in

@@ -24,7 +24,10 @@ fn demand_differs(classes: &[u8], closure: &[u8], c: ClassNumber) -> bool
 {
     let mut fresh = [0u8; ATTRIBUTE_SET];
     write_demanded(classes, c, &mut fresh);
-    !same(part_of(closure_row(closure, c), DEMANDED, ATTRIBUTE_SET), &fresh)
+    !same(
+        part_of(closure_row(closure, c), DEMANDED, ATTRIBUTE_SET),
+        &fresh,
+    )
 }
 
 // Whether that of one of the first n classes is.

@@ -98,8 +98,12 @@ module _ (change : Change) (r : List ℕ) (s : Stores) (j : Judged change r s) w
         long = rw t (store-long (tableFor change));
         within = rw t (row-within change r old applicable);
         few = rw t (counted (tableFor change));
-        wide = padded-length classWidth _ (omega (arith, narrow-row (tableFor change), table-row-length (tableFor change) old
-            (numberOf (rowChanged change r old)) (applicable .long) (row-within change r old applicable)));
+        wide = padded-length classWidth _ (omega (
+          arith,
+          narrow-row (tableFor change),
+          table-row-length (tableFor change) old
+              (numberOf (rowChanged change r old)) (applicable .long) (row-within change r old applicable),
+        ));
       }
     where
       store-long : (t : TableId) → storeLength t ≤ length (tableStore t (rowsMade change r s))

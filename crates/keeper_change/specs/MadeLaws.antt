@@ -79,9 +79,11 @@ back-in t b s e =
 
 -- the row that a change is about lies within its table
 pub row-within : (change : Change) (r s : List ℕ) → Applicable change r s → numberOf (rowChanged change r s) < limit (tableFor change)
-row-within change r s ok = rw (id-number (tableFor change) (cond (isAddition change) (countIn (tableFor change) s) (targetOf r))) (go (true-or-false (isAddition change)))
+row-within change r s ok = rw (id-number (tableFor change) (cond (isAddition change) (countIn (tableFor change) s) (targetOf r))) (go (true-or-false
+    (isAddition change)))
   where
-    go : (isAddition change ≡ true) ⊎ (isAddition change ≡ false) → cond (isAddition change) (countIn (tableFor change) s) (targetOf r) < limit (tableFor change)
+    go : (isAddition change ≡ true) ⊎ (isAddition change ≡ false) → cond (isAddition change) (countIn (tableFor change) s) (targetOf r) < limit
+        (tableFor change)
     go (inl e) = rw e (ok .room e)
     go (inr e) = rw e (ok .within e)
 
@@ -133,7 +135,8 @@ module _ (change : Change) (x r : List ℕ) (s : Stores) (bytes : Bytes x) (read
   made-formed = go (true-or-false (isAddition change))
     where
       go : (isAddition change ≡ true) ⊎ (isAddition change ≡ false) → TableFormed of (storeAfter change r store)
-      go (inl e) = rw e (plus-formed of store long formed (editedRow change r []) (new-wide [] (inr e)) (edited-formed change x r [] bytes reads (inl e)) (room e))
+      go (inl e) = rw e (plus-formed of store long formed (editedRow change r []) (new-wide [] (inr e)) (edited-formed change x r [] bytes reads
+          (inl e)) (room e))
       go (inr e) = rw e (put-formed of store long formed (editedRow change r (tableIn of store .row (targetOf r))) (new-wide _ (inl (old-wide e)))
           (edited-formed change x r _ bytes reads (inr (old-wide e, formed .rows (targetOf r) (there e)))) (targetOf r) (there e))
 

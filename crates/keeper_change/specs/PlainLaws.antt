@@ -5,7 +5,7 @@ use Prim.Native.Nat.{_≤_, ℕ, _-_}
 use mathlib.Core.Bool.{Bool, cond, true}
 use mathlib.Core.List.{List, [], _∷_}
 use mathlib.Core.Path.{_∙_, _≡_, ap, ap₂, sym, refl}
-use Rattle.change_read.specs.declared.read.ChangeRead.the-variants.{Read, Bad}
+use Rattle.change_read.specs.declared.read.ChangeRead.the-variants.{Read}
 use Rattle.change_read.specs.declared.read.Change.{Change}
 use Rattle.change_read.specs.declared.read.ChangeRead.{ChangeRead}
 use Rattle.change_read.specs.ChangeLaws.{Reads}
@@ -17,7 +17,6 @@ use Rattle.schema.specs.Answers.{passed, refused, changed}
 use Rattle.schema.specs.declared.number.TableId.{TableId}
 use Rattle.schema.specs.Layout.{classWidth, rowWidth}
 use Rattle.schema.specs.StoreLaws.{table-row-length}
-use Rattle.rules.specs.declared.row.Added.the-variants.{Nothing}
 use Rattle.rules.specs.Judge.{brokenCases}
 use Rattle.rules.specs.JudgeLaws.{judged-number, rising}
 use Rattle.rules.specs.SameLaws.{judged-same}

@@ -46,7 +46,13 @@ pub fn added_by(change: Change, scratch: &[u8], n: usize) -> Added
 }
 
 // The first of 12 to 29 that some row of the result breaks, 30 where one of the first n classes would demand other attributes than it kept, or 0.
-pub fn judged_whole<'a>(added: Added, attributes: &'a [u8], classes: &'a [u8], closure: &[u8], n: usize) -> u8
+pub fn judged_whole<'a>(
+    added: Added,
+    attributes: &'a [u8],
+    classes: &'a [u8],
+    closure: &[u8],
+    n: usize,
+) -> u8
     requires { ⌜ Shaped (now attributes) (now classes) × (closureLength ≤ length (now closure)) × (n ≤ classLimit) ⌝ }
     ensures { λ r. ⌜ r ≡ judgedWhole added (schemaIn (now (attributes .entry)) (now (classes .entry))) (now (closure .entry)) n ⌝ }
 {

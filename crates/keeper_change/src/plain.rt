@@ -20,7 +20,13 @@ ghost use Rattle.schema.specs.Store.{stores, result};
 ghost use Rattle.keeper_change.specs.Plain.{InOrderFor, Judged, plainRead, plainChange};
 
 // A change that numbers 5 to 11 let pass: made, judged, and taken back where it is refused.
-fn plain_judged(change: Change, scratch: &[u8], attributes: &mut [u8], classes: &mut [u8], closure: &mut [u8]) -> Answer
+fn plain_judged(
+    change: Change,
+    scratch: &[u8],
+    attributes: &mut [u8],
+    classes: &mut [u8],
+    closure: &mut [u8],
+) -> Answer
     requires { ⌜ Judged change (now scratch) (stores (now attributes) (now classes) (now closure)) ⌝ }
     ensures { λ r. ⌜ result r (stores (now (attributes .exit)) (now (classes .exit)) (now (closure .exit)))
         ≡ plainRead (ChangeRead.Read change) (now (scratch .entry)) (stores (now (attributes .entry)) (now (classes .entry)) (now (closure .entry))) ⌝ }
@@ -40,7 +46,13 @@ fn plain_judged(change: Change, scratch: &[u8], attributes: &mut [u8], classes: 
 }
 
 // A change that was read, of stores in order.
-fn plain_read(change: Change, scratch: &[u8], attributes: &mut [u8], classes: &mut [u8], closure: &mut [u8]) -> Answer
+fn plain_read(
+    change: Change,
+    scratch: &[u8],
+    attributes: &mut [u8],
+    classes: &mut [u8],
+    closure: &mut [u8],
+) -> Answer
     requires { ⌜ InOrderFor change (now scratch) (stores (now attributes) (now classes) (now closure)) ⌝ }
     ensures { λ r. ⌜ result r (stores (now (attributes .exit)) (now (classes .exit)) (now (closure .exit)))
         ≡ plainRead (ChangeRead.Read change) (now (scratch .entry)) (stores (now (attributes .entry)) (now (classes .entry)) (now (closure .entry))) ⌝ }
@@ -53,7 +65,12 @@ fn plain_read(change: Change, scratch: &[u8], attributes: &mut [u8], classes: &m
 }
 
 // 1, 2, 3, 4, then the smallest of 5 to 30 whose condition holds, with nothing altered; or the change is made, the answer its table and row.
-pub fn plain_change(attributes: &mut [u8], classes: &mut [u8], closure: &mut [u8], change: &[u8]) -> Answer
+pub fn plain_change(
+    attributes: &mut [u8],
+    classes: &mut [u8],
+    closure: &mut [u8],
+    change: &[u8],
+) -> Answer
     ensures { λ r. ⌜ result r (stores (now (attributes .exit)) (now (classes .exit)) (now (closure .exit)))
         ≡ plainChange (now (change .entry)) (stores (now (attributes .entry)) (now (classes .entry)) (now (closure .entry))) ⌝ }
 {

@@ -49,7 +49,6 @@ use Rattle.rules.specs.declared.row.Added.the-variants.{Nothing}
 use Rattle.rules.specs.Rules.{ofAttributes, ofClasses, schemaRules, numbered, _&_, attributeNotLive, classNotLive, entryDead, barred, Each, Rule}
 use Rattle.rules.specs.RulesLaws.{each-numbered}
 use Rattle.rules.specs.Judge.{Kept, AllKept, breaksIn, broken, brokenCases, judged}
-use Rattle.schema.specs.Refusals as refusal
 use Rattle.rules.specs.Meets.{Apart, NumbersApart, NamedLive, EntryLive, NotItself, Fitting, Legal, RuleName, ruleNumber, Met, Meets}
 use Rattle.rules.specs.declared.row.Added.{Added}
 use Rattle.rules.specs.declared.row.Added.the-variants.{Class, Entry}
@@ -188,13 +187,15 @@ says-not-itself (Class a) m = (to, from)
 
     from : (a .0 < m .classes .count → (kind : ClassList) → ¬ (Lists kind (m .classes .row (a .0)) (a .0))) → (k : ℕ) → k < m .classes .count
         → (eqb (a .0) k && listsItself (m .classes) k) ≡ false
-    from h k l = says-false (says k) (λ bad. ⊎-elim (λ x. h (rw (bad .0) l) Auxiliaries (rw (bad .0) x)) (λ x. h (rw (bad .0) l) Superiors (rw (bad .0) x)) (bad .1))
+    from h k l = says-false (says k) (λ bad. ⊎-elim (λ x. h (rw (bad .0) l) Auxiliaries (rw (bad .0) x)) (λ x. h (rw (bad .0) l) Superiors (rw
+        (bad .0) x)) (bad .1))
 
 says-named-live : (t : TableId) (m : Schema)
     → ((k : ℕ) → k < m .classes .count → notLive t (table t m) (m .classes .row k) ≡ false) ↔ NamedLive t m
 says-named-live t m = (
   λ h k l n few named. sure (says-live (table t m) (m .classes .row k) n)
-      (λ dead. says-fails (says-not-live t (table t m) (m .classes .row k)) (h k l) (record { at = n; below = few; is = record { named = named; dead = dead } })),
+      (λ dead. says-fails (says-not-live t (table t m) (m .classes .row k)) (h k l)
+      (record { at = n; below = few; is = record { named = named; dead = dead } })),
   λ h k l. says-false (says-not-live t (table t m) (m .classes .row k)) (λ bad. bad .is .dead (h k l (bad .at) (bad .below) (bad .is .named))),
 )
 
@@ -391,7 +392,8 @@ module _ (m : Schema) where
   unfolding numbered
   among-holds {n} k (r ∷ rs) rise (Among.here e q) = rw (says-true (says-eq (r .number) n) q) e
   among-holds {n} k (r ∷ rs) rise (Among.there a) =
-      rw (says-false (says-eq (r .number) n) (λ q. omega (arith, q, among-above (r .number) (brokenCases rs m) (rise .1) a))) (among-holds (r .number) rs (rise .1) a)
+      rw (says-false (says-eq (r .number) n) (λ q. omega (arith, q, among-above (r .number) (brokenCases rs m) (rise .1) a))) (among-holds
+      (r .number) rs (rise .1) a)
 
   among-numbered : (n : ℕ) (rs : List Rule) → broken m (numbered rs n) ≡ true → Among n (brokenCases rs m)
   unfolding numbered
@@ -399,7 +401,8 @@ module _ (m : Schema) where
       (any-false (λ k. false) (m .classes .count) (λ k l. refl))) ∙ e))
   among-numbered n (r ∷ rs) e = go (among-numbered n rs) (says-split (says-eq (r .number) n))
     where
-      go : (broken m (numbered rs n) ≡ true → Among n (brokenCases rs m)) → ((eqb (r .number) n ≡ true) × (r .number ≡ n)) ⊎ ((eqb (r .number) n ≡ false) × ¬ (r .number ≡ n)) → Among n (brokenCases (r ∷ rs) m)
+      go : (broken m (numbered rs n) ≡ true → Among n (brokenCases rs m)) → ((eqb (r .number) n ≡ true) × (r .number ≡ n)) ⊎ ((eqb
+          (r .number) n ≡ false) × ¬ (r .number ≡ n)) → Among n (brokenCases (r ∷ rs) m)
       go ih (inl q) = Among.here (rw (q .0) at e) (q .1)
       go ih (inr q) = Among.there (ih (rw (q .0) at e))
 
@@ -424,4 +427,9 @@ module _ (added : Added) (m : Schema) where
   pub judged-smallest : (rule : RuleName) → ¬ (Met added rule m) → judged added m .number ≤ ruleNumber rule
   unfolding judged
   judged-smallest rule n =
-      omega (arith, judge-number (schemaRules added) m, first-least 0 (ruleNumber rule) (brokenCases (schemaRules added) m) (rising added m) (unmet-among rule n))
+      omega (
+        arith,
+        judge-number (schemaRules added) m,
+        first-least 0 (ruleNumber rule) (brokenCases (schemaRules added) m) (rising added m)
+            (unmet-among rule n),
+      )

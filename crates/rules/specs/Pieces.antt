@@ -131,7 +131,8 @@ abbrev pub P12 : Type 0
 P12 = sameName areaHa (65 ∷ 82 ∷ 69 ∷ 65 ∷ 45 ∷ 104 ∷ 65 ∷ []) ≡ true
 
 pub pieces : P1 × (P2 × (P3 × (P4 × (P5 × (P6 × (P7 × (P8 × P12)))))))
-unfolding attributeNotLive classNotLive barred entryDead sameTable part zeros padded sameBytes bigEndian bigEndianBytes anyBelow allBelow firstBelow digit bit member boundAt namingOf between isLetter
+unfolding attributeNotLive classNotLive barred entryDead sameTable part zeros padded sameBytes bigEndian bigEndianBytes anyBelow allBelow firstBelow
+    digit bit member boundAt namingOf between isLetter
     isNameByte validName folded sameName nameInvalid identifierInvalid live sameKey hasKey samePresent sameRow rivalIn taken signed endsCrossed
     rangeWrong syntaxFits syntaxWrong objectClasses objectClassFits objectClassWrong isBackLink isForwardOf forwardMissing lists namedBy names
     namesDead notLive superclassLate classWrong namingWrong categoryWrong wronglyListed otherCategory inheritance rootInheritance inheritanceOf

@@ -37,7 +37,8 @@ use Rattle.rules_class.specs.Chain.{chainWrong}
 use Rattle.rules_class.specs.StayLaws.{named-there, not-live-stays, naming-stays, category-stays, inheritance-stays, chain-stays}
 use Rattle.rules.specs.declared.row.Added.{Added}
 use Rattle.rules.specs.declared.row.Added.the-variants.{Nothing, Class, Entry}
-use Rattle.rules.specs.Rules.{ofRows, ofAttributes, ofClasses, barred, entryDead, attributeNotLive, classNotLive, schemaRules, numbered, breaks, rowCases, Each, _&_}
+use Rattle.rules.specs.Rules.{ofRows, ofAttributes, ofClasses, barred, entryDead, attributeNotLive}
+use Rattle.rules.specs.Rules.{classNotLive, schemaRules, numbered, breaks, rowCases, Each, _&_}
 use Rattle.rules.specs.RulesLaws.{each-numbered, cases-agree, attribute-nothing, class-nothing}
 use Rattle.rules.specs.Judge.{judged, broken, brokenCases, Kept, AllKept}
 use Rattle.rules.specs.JudgeLaws.{judge-number}

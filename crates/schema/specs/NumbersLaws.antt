@@ -34,8 +34,10 @@ pub number-is : (t : TableId) (n : ℕ) {id : RowId} → numberRead t n ≡ numb
 number-is t n {id} e = go (ltb n (limit t)) refl
   where
     go : (b : Bool) → ltb n (limit t) ≡ b → (id ≡ rowId t n) × (n < limit t)
-    go true q = (let same : number.Row id ≡ number.Row (rowId t n) = sym e ∙ ap (λ (b : Bool). cond b (number.Row (rowId t n)) number.Beyond) q in cc,
-        ltb-true n (limit t) q)
+    go true q = (
+      let same : number.Row id ≡ number.Row (rowId t n) = sym e ∙ ap (λ (b : Bool). cond b (number.Row (rowId t n)) number.Beyond) q in cc,
+      ltb-true n (limit t) q,
+    )
     go false q = let no : _≡_ {A = ℕ} 0 1 = cc (sym e ∙ ap (λ (b : Bool). cond b (number.Row (rowId t n)) number.Beyond) q) in absurd (omega arith)
 
 pub number-beyond : (t : TableId) (n : ℕ) → numberRead t n ≡ number.Beyond → limit t ≤ n

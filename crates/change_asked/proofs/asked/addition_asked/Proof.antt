@@ -31,7 +31,15 @@ added-row-requires c κs =
 is-base-requires : tie.Need-is-base-requires
 is-base-requires c κs =
     let start = c .before .before .before .before .before .before in
-    rw (c .added-row .ensures) (omega (arith, part-length 0 (rowWidth (start .args .table)) (start .args .scratch .now) (omega (arith, start .pre .0, narrow-row (start .args .table))), common-narrow (start .args .table)))
+    rw (c .added-row .ensures) (omega (
+      arith,
+      part-length 0 (rowWidth (start .args .table)) (start .args .scratch .now) (omega (
+        arith,
+        start .pre .0,
+        narrow-row (start .args .table),
+      )),
+      common-narrow (start .args .table),
+    ))
 
 returns-2 : tie.Need-returns-2
 unfolding additionAsked firstOf
@@ -41,7 +49,11 @@ returns-2 c =
     let c₃ = c₂ .before in
     let c₄ = c₃ .before in
     let c₅ = c₄ .before in
-    rw (lt-leb _ _ (rw (c₅ .row-limit .ensures, c₄ .row-count .ensures) at (c₃ .if1 .left)), rw (c₂ .added-row .ensures) at (sym (c₁ .is-base .ensures) ∙ c .if2 .taken))
+    rw (
+      lt-leb _ _ (rw (c₅ .row-limit .ensures, c₄ .row-count .ensures) at (c₃ .if1 .left)),
+      rw (c₂ .added-row .ensures) at (sym
+          (c₁ .is-base .ensures) ∙ c .if2 .taken),
+    )
 
 returns-3 : tie.Need-returns-3
 unfolding additionAsked firstOf
@@ -51,7 +63,11 @@ returns-3 c =
     let c₃ = c₂ .before in
     let c₄ = c₃ .before in
     let c₅ = c₄ .before in
-    rw (lt-leb _ _ (rw (c₅ .row-limit .ensures, c₄ .row-count .ensures) at (c₃ .if1 .left)), rw (c₂ .added-row .ensures) at (sym (c₁ .is-base .ensures) ∙ c .if2 .left))
+    rw (
+      lt-leb _ _ (rw (c₅ .row-limit .ensures, c₄ .row-count .ensures) at (c₃ .if1 .left)),
+      rw (c₂ .added-row .ensures) at (sym
+          (c₁ .is-base .ensures) ∙ c .if2 .left),
+    )
 
 pub addition-asked-spec : {M : Type 1} → statement M
 addition-asked-spec =

@@ -41,7 +41,8 @@ returns-4 : tie.Need-returns-4
 returns-4 c =
     let c₁ = c .before in
     let start = c₁ .before .before .before .before in
-    needed-target (start .args .id) (schemaIn (start .args .attributes .now) (start .args .classes .now)) (c₁ .enum-told4 .given .1) (start .pre .1) (c .is-needed .ensures)
+    needed-target (start .args .id) (schemaIn (start .args .attributes .now) (start .args .classes .now)) (c₁ .enum-told4 .given .1) (start .pre .1)
+    (c .is-needed .ensures)
 
 returns-5 : tie.Need-returns-5
 returns-5 c = search needs

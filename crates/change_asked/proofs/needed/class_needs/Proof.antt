@@ -22,7 +22,11 @@ class-row-requires c κs = search needs
 is-defunct-requires : tie.Need-is-defunct-requires
 is-defunct-requires c κs =
     let start = c .before .before .before .before in
-    rw (c .class-row .ensures) (omega (arith, table-row-length Classes (start .args .classes .now) (start .args .j .0) (start .pre .0 .long) (omega (arith, start .pre .1, start .pre .0 .few))))
+    rw (c .class-row .ensures) (omega (
+      arith,
+      table-row-length Classes (start .args .classes .now) (start .args .j .0) (start .pre .0 .long) (omega
+          (arith, start .pre .1, start .pre .0 .few)),
+    ))
 
 returns-2 : tie.Need-returns-2
 unfolding classNeeds
@@ -37,7 +41,11 @@ is-naming-requires : tie.Need-is-naming-requires
 is-naming-requires c κs =
     let c₁ = c .before .before in
     let start = c₁ .before .before .before .before in
-    rw (c₁ .class-row .ensures) (omega (arith, table-row-length Classes (start .args .classes .now) (start .args .j .0) (start .pre .0 .long) (omega (arith, start .pre .1, start .pre .0 .few))))
+    rw (c₁ .class-row .ensures) (omega (
+      arith,
+      table-row-length Classes (start .args .classes .now) (start .args .j .0) (start .pre .0 .long) (omega
+          (arith, start .pre .1, start .pre .0 .few)),
+    ))
 
 returns-3 : tie.Need-returns-3
 unfolding classNeeds
@@ -47,7 +55,8 @@ returns-3 c =
     let c₃ = c₂ .before in
     let c₄ = c₃ .before in
     let c₅ = c₄ .before in
-    rw (sym (c₅ .same-row .ensures) ∙ c₄ .if1 .left, rw (c₃ .class-row .ensures) at (sym (c₂ .is-defunct .ensures) ∙ c₁ .if2 .left)) (rw (c₃ .class-row .ensures) at (c .is-naming .ensures))
+    rw (sym (c₅ .same-row .ensures) ∙ c₄ .if1 .left, rw (c₃ .class-row .ensures) at (sym (c₂ .is-defunct .ensures) ∙ c₁ .if2 .left)) (rw
+    (c₃ .class-row .ensures) at (c .is-naming .ensures))
 
 pub class-needs-spec : {M : Type 1} → statement M
 class-needs-spec =

@@ -16,7 +16,8 @@ returns : tie.Need-returns
 returns c =
     let c₁ = c .before in
     let start = c₁ .before .before .before in
-    needed-by-class (start .args .id) (schemaIn (start .args .attributes .now) (start .args .classes .now)) (sym (c₁ .some-class-needs .ensures) ∙ c .if1 .taken)
+    needed-by-class (start .args .id) (schemaIn (start .args .attributes .now) (start .args .classes .now)) (sym (c₁ .some-class-needs .ensures)
+    ∙ c .if1 .taken)
 
 enum-known-id : tie.Need-enum-known-id
 enum-known-id c = search needs
@@ -24,14 +25,27 @@ enum-known-id c = search needs
 attribute-row-requires : tie.Need-attribute-row-requires
 attribute-row-requires c κs =
     let c₁ = c .before in
-    let start = c₁ .before .before .before .before .before .before in
-    (start .pre .0 .attributes .long, omega (arith, start .pre .0 .attributes .few, (attribute-there (start .args .attributes .now) (start .args .classes .now) (c₁ .id .given .1) (start .pre .1))))
+    let start = c₁ .before .before .before .before .before .before in (
+      start .pre .0 .attributes .long,
+      omega (
+        arith,
+        start .pre .0 .attributes .few,
+        (attribute-there (start .args .attributes .now)
+            (start .args .classes .now) (c₁ .id .given .1) (start .pre .1)),
+      ),
+    )
 
 some-link-needs-requires : tie.Need-some-link-needs-requires
 some-link-needs-requires c κs =
     let c₁ = c .before .before in
-    let start = c₁ .before .before .before .before .before .before in
-    (start .pre .0 .attributes, rw (c .attribute-row .ensures) (omega (arith, shaped-wide (start .pre .0) Attributes (c₁ .id .given .0 .0 .0) (attribute-there (start .args .attributes .now) (start .args .classes .now) (c₁ .id .given .1) (start .pre .1)))))
+    let start = c₁ .before .before .before .before .before .before in (
+      start .pre .0 .attributes,
+      rw (c .attribute-row .ensures) (omega (
+        arith,
+        shaped-wide (start .pre .0) Attributes (c₁ .id .given .0 .0 .0)
+            (attribute-there (start .args .attributes .now) (start .args .classes .now) (c₁ .id .given .1) (start .pre .1)),
+      )),
+    )
 
 enum-told : tie.Need-enum-told
 enum-told c = search needs
@@ -43,7 +57,8 @@ returns-2 c =
     let c₂ = c₁ .before .before in
     let c₃ = c₂ .before .before in
     let c₄ = c₃ .before in
-    rw (c₂ .id .given .1, rw (c₂ .id .given .1) at (sym (c₄ .some-class-needs .ensures) ∙ c₃ .if1 .left)) (rw (c₁ .attribute-row .ensures) at (c .some-link-needs .ensures))
+    rw (c₂ .id .given .1, rw (c₂ .id .given .1) at (sym (c₄ .some-class-needs .ensures) ∙ c₃ .if1 .left)) (rw (c₁ .attribute-row .ensures) at
+    (c .some-link-needs .ensures))
 
 returns-3 : tie.Need-returns-3
 unfolding needed

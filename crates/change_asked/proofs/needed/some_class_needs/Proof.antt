@@ -37,7 +37,8 @@ returns c =
     let c₃ = c₂ .before in
     let c₄ = c₃ .before in
     let start = c₄ .before .before in
-    sym (any-here (classNeeds (tableOf (start .args .id)) (numberOf (start .args .id)) (tableIn Classes (start .args .classes .now))) (c₃ .loop .j) _ (omega (arith, c₄ .row-count .ensures, c₂ .loop-test .taken)) (sym (c₁ .class-needs .ensures) ∙ c .if1 .taken))
+    sym (any-here (classNeeds (tableOf (start .args .id)) (numberOf (start .args .id)) (tableIn Classes (start .args .classes .now)))
+    (c₃ .loop .j) _ (omega (arith, c₄ .row-count .ensures, c₂ .loop-test .taken)) (sym (c₁ .class-needs .ensures) ∙ c .if1 .taken))
 
 add-j : tie.Need-add-j Inv-loop μ-loop
 add-j c = search needs
@@ -50,15 +51,19 @@ loop-again c =
     let c₁ = c .before in
     let c₂ = c₁ .before in
     let c₃ = c₂ .before in
-    let start = c₃ .before .before .before in
-    (omega (arith, c₂ .loop-test .taken), any-more (classNeeds (tableOf (start .args .id)) (numberOf (start .args .id)) (tableIn Classes (start .args .classes .now))) (c₃ .loop .j) (c₃ .loop .inv .1) (sym (c₁ .class-needs .ensures) ∙ c .if1 .left))
+    let start = c₃ .before .before .before in (
+      omega (arith, c₂ .loop-test .taken),
+      any-more (classNeeds (tableOf (start .args .id)) (numberOf (start .args .id)) (tableIn Classes
+          (start .args .classes .now))) (c₃ .loop .j) (c₃ .loop .inv .1) (sym (c₁ .class-needs .ensures) ∙ c .if1 .left),
+    )
 
 returns-2 : tie.Need-returns-2 Inv-loop μ-loop
 returns-2 c =
     let c₁ = c .before in
     let c₂ = c₁ .before in
     let start = c₂ .before .before in
-    sym (any-end (classNeeds (tableOf (start .args .id)) (numberOf (start .args .id)) (tableIn Classes (start .args .classes .now))) (c₁ .loop .j) _ (omega (arith, c₂ .row-count .ensures, c₁ .loop .inv .0)) (omega (arith, c₂ .row-count .ensures, c .loop-test .left)) (c₁ .loop .inv .1))
+    sym (any-end (classNeeds (tableOf (start .args .id)) (numberOf (start .args .id)) (tableIn Classes (start .args .classes .now))) (c₁ .loop .j) _
+    (omega (arith, c₂ .row-count .ensures, c₁ .loop .inv .0)) (omega (arith, c₂ .row-count .ensures, c .loop-test .left)) (c₁ .loop .inv .1))
 
 pub some-class-needs-spec : {M : Type 1} → statement M
 some-class-needs-spec =

@@ -27,7 +27,16 @@ push-row-requires c κs =
     let c₂ = c₁ .before in
     let c₃ = c₂ .before in
     let start = c₃ .before .before .before in
-    rw (c .added-row .ensures, c₃ .table-for .ensures) (start .pre .long, start .pre .room (sym (c₂ .is-addition .ensures) ∙ c₁ .if1 .taken), part-length 0 (rowWidth (tableFor (start .args .change))) (start .args .scratch .now) (omega (arith, start .pre .carried, narrow-row (tableFor (start .args .change)))))
+    rw (c .added-row .ensures, c₃ .table-for .ensures) (
+      start .pre .long,
+      start .pre .room (sym (c₂ .is-addition .ensures) ∙ c₁ .if1 .taken),
+      part-length 0 (rowWidth (tableFor (start .args .change))) (start .args .scratch .now) (omega (
+        arith,
+        start .pre .carried,
+        narrow-row
+            (tableFor (start .args .change)),
+      )),
+    )
 
 row-width-requires : tie.Need-row-width-requires
 row-width-requires c κs = search needs
@@ -45,7 +54,13 @@ mul-at c =
     let c₃ = c₂ .before in
     let c₄ = c₃ .before in
     let start = c₄ .before .before .before in
-    omega (arith, row-inside (start .args .change) (start .args .scratch .now) (start .args .store .now) (start .pre) (sym (c₃ .is-addition .ensures) ∙ c₂ .if1 .left) (c₁ .row-width .result) (c .target-of .result) (c₁ .row-width .ensures ∙ ap rowWidth (c₄ .table-for .ensures)) (c .target-of .ensures), start .good)
+    omega (
+      arith,
+      row-inside (start .args .change) (start .args .scratch .now) (start .args .store .now) (start .pre) (sym
+          (c₃ .is-addition .ensures) ∙ c₂ .if1 .left) (c₁ .row-width .result) (c .target-of .result) (c₁ .row-width .ensures ∙ ap rowWidth
+          (c₄ .table-for .ensures)) (c .target-of .ensures),
+      start .good,
+    )
 
 add-at : tie.Need-add-at
 add-at c =
@@ -54,7 +69,13 @@ add-at c =
     let c₃ = c₂ .before in
     let c₄ = c₃ .before in
     let start = c₄ .before .before .before in
-    omega (arith, row-inside (start .args .change) (start .args .scratch .now) (start .args .store .now) (start .pre) (sym (c₃ .is-addition .ensures) ∙ c₂ .if1 .left) (c₁ .row-width .result) (c .target-of .result) (c₁ .row-width .ensures ∙ ap rowWidth (c₄ .table-for .ensures)) (c .target-of .ensures), start .good)
+    omega (
+      arith,
+      row-inside (start .args .change) (start .args .scratch .now) (start .args .store .now) (start .pre) (sym
+          (c₃ .is-addition .ensures) ∙ c₂ .if1 .left) (c₁ .row-width .result) (c .target-of .result) (c₁ .row-width .ensures ∙ ap rowWidth
+          (c₄ .table-for .ensures)) (c .target-of .ensures),
+      start .good,
+    )
 
 add-end : tie.Need-add-end
 add-end c =
@@ -63,7 +84,13 @@ add-end c =
     let c₃ = c₂ .before in
     let c₄ = c₃ .before in
     let start = c₄ .before .before .before in
-    omega (arith, row-inside (start .args .change) (start .args .scratch .now) (start .args .store .now) (start .pre) (sym (c₃ .is-addition .ensures) ∙ c₂ .if1 .left) (c₁ .row-width .result) (c .target-of .result) (c₁ .row-width .ensures ∙ ap rowWidth (c₄ .table-for .ensures)) (c .target-of .ensures), start .good)
+    omega (
+      arith,
+      row-inside (start .args .change) (start .args .scratch .now) (start .args .store .now) (start .pre) (sym
+          (c₃ .is-addition .ensures) ∙ c₂ .if1 .left) (c₁ .row-width .result) (c .target-of .result) (c₁ .row-width .ensures ∙ ap rowWidth
+          (c₄ .table-for .ensures)) (c .target-of .ensures),
+      start .good,
+    )
 
 sub-edit-row : tie.Need-sub-edit-row
 sub-edit-row c = search needs
@@ -78,7 +105,8 @@ part-edit-row-end c =
     let c₃ = c₂ .before in
     let c₄ = c₃ .before in
     let start = c₄ .before .before .before in
-    row-inside (start .args .change) (start .args .scratch .now) (start .args .store .now) (start .pre) (sym (c₃ .is-addition .ensures) ∙ c₂ .if1 .left) (c₁ .row-width .result) (c .target-of .result) (c₁ .row-width .ensures ∙ ap rowWidth (c₄ .table-for .ensures)) (c .target-of .ensures)
+    row-inside (start .args .change) (start .args .scratch .now) (start .args .store .now) (start .pre) (sym (c₃ .is-addition .ensures)
+    ∙ c₂ .if1 .left) (c₁ .row-width .result) (c .target-of .result) (c₁ .row-width .ensures ∙ ap rowWidth (c₄ .table-for .ensures)) (c .target-of .ensures)
 
 edit-row-requires : tie.Need-edit-row-requires
 edit-row-requires c κs =
@@ -87,8 +115,13 @@ edit-row-requires c κs =
     let c₃ = c₂ .before in
     let c₄ = c₃ .before in
     let c₅ = c₄ .before in
-    let start = c₅ .before .before .before in
-    ((sym (c₄ .is-addition .ensures) ∙ c₃ .if1 .left), start .pre .carried, lent-wide (start .args .change) (start .args .scratch .now) (start .args .store .now) (start .pre) (sym (c₄ .is-addition .ensures) ∙ c₃ .if1 .left) (c₂ .row-width .result) (c₁ .target-of .result) (c₂ .row-width .ensures ∙ ap rowWidth (c₅ .table-for .ensures)) (c₁ .target-of .ensures))
+    let start = c₅ .before .before .before in (
+      (sym (c₄ .is-addition .ensures) ∙ c₃ .if1 .left),
+      start .pre .carried,
+      lent-wide (start .args .change) (start .args .scratch .now)
+          (start .args .store .now) (start .pre) (sym (c₄ .is-addition .ensures) ∙ c₃ .if1 .left) (c₂ .row-width .result) (c₁ .target-of .result)
+          (c₂ .row-width .ensures ∙ ap rowWidth (c₅ .table-for .ensures)) (c₁ .target-of .ensures),
+    )
 
 same-length : tie.Need-same-length
 same-length c = search needs
@@ -101,7 +134,8 @@ returns c =
     let c₄ = c₃ .before in
     let c₅ = c₄ .before in
     let start = c₅ .before .before .before in
-    added-store (start .args .change) (start .args .scratch .now) (start .args .store .now) (sym (c₄ .is-addition .ensures) ∙ c₃ .if1 .taken) (c₅ .table-for .ensures) (c₂ .added-row .ensures) (c₁ .push-row .ensures)
+    added-store (start .args .change) (start .args .scratch .now) (start .args .store .now) (sym (c₄ .is-addition .ensures) ∙ c₃ .if1 .taken)
+    (c₅ .table-for .ensures) (c₂ .added-row .ensures) (c₁ .push-row .ensures)
 
 same-length-2 : tie.Need-same-length-2
 same-length-2 c = search needs
@@ -115,7 +149,9 @@ returns-2 c =
     let c₅ = c₄ .before in
     let c₆ = c₅ .before in
     let start = c₆ .before .before .before in
-    edited-back (start .args .change) (start .args .scratch .now) (start .args .store .now) (start .pre) (sym (c₅ .is-addition .ensures) ∙ c₄ .if1 .left) (c₃ .row-width .result) (c₂ .target-of .result) (c₃ .row-width .ensures ∙ ap rowWidth (c₆ .table-for .ensures)) (c₂ .target-of .ensures) (c₁ .edit-row .last .1 .1 .0) (c₁ .edit-row .ensures)
+    edited-back (start .args .change) (start .args .scratch .now) (start .args .store .now) (start .pre) (sym (c₅ .is-addition .ensures)
+    ∙ c₄ .if1 .left) (c₃ .row-width .result) (c₂ .target-of .result) (c₃ .row-width .ensures ∙ ap rowWidth (c₆ .table-for .ensures))
+    (c₂ .target-of .ensures) (c₁ .edit-row .last .1 .1 .0) (c₁ .edit-row .ensures)
 
 pub apply-spec : {M : Type 1} → statement M
 apply-spec =

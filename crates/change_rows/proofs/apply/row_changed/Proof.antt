@@ -31,7 +31,8 @@ returns c =
     let c₄ = c₃ .before in
     let start = c₄ .before .before .before in
     c .row-id .ensures ∙ ap₂ rowId (c₄ .table-for .ensures) (c₁ .row-count .ensures ∙ ap (λ t. countIn t (start .args .store .now)) (c₄ .table-for .ensures)
-    ∙ sym (ap (λ b. cond b (countIn (tableFor (start .args .change)) (start .args .store .now)) (targetOf (start .args .scratch .now))) (sym (c₃ .is-addition .ensures) ∙ c₂ .if1 .taken)))
+    ∙ sym (ap (λ b. cond b (countIn (tableFor (start .args .change)) (start .args .store .now)) (targetOf (start .args .scratch .now))) (sym
+    (c₃ .is-addition .ensures) ∙ c₂ .if1 .taken)))
 
 target-of-requires : tie.Need-target-of-requires
 target-of-requires c κs = search needs
@@ -50,7 +51,8 @@ returns-2 c =
     let c₄ = c₃ .before in
     let start = c₄ .before .before .before in
     c .row-id2 .ensures ∙ ap₂ rowId (c₄ .table-for .ensures) (c₁ .target-of .ensures
-    ∙ sym (ap (λ b. cond b (countIn (tableFor (start .args .change)) (start .args .store .now)) (targetOf (start .args .scratch .now))) (sym (c₃ .is-addition .ensures) ∙ c₂ .if1 .left)))
+    ∙ sym (ap (λ b. cond b (countIn (tableFor (start .args .change)) (start .args .store .now)) (targetOf (start .args .scratch .now))) (sym
+    (c₃ .is-addition .ensures) ∙ c₂ .if1 .left)))
 
 pub row-changed-spec : {M : Type 1} → statement M
 row-changed-spec =

@@ -14,7 +14,13 @@ row-requires c κs = search needs
 copy-padded-requires : tie.Need-copy-padded-requires
 copy-padded-requires c κs =
     let start = c .before .before .before .before in
-    rw (c .row .ensures) (omega (arith, start .pre .2, narrow-row (tableOf (start .args .id)), table-row-length (tableOf (start .args .id)) (start .args .store .now) (numberOf (start .args .id)) (start .pre .0) (start .pre .1)))
+    rw (c .row .ensures) (omega (
+      arith,
+      start .pre .2,
+      narrow-row (tableOf (start .args .id)),
+      table-row-length (tableOf (start .args .id))
+          (start .args .store .now) (numberOf (start .args .id)) (start .pre .0) (start .pre .1),
+    ))
 
 same-length : tie.Need-same-length
 same-length c = search needs

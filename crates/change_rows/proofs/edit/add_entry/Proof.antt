@@ -61,7 +61,8 @@ returns c =
     let start = c₅ .before .before .before in
     let row = start .args .row .now in
     let r = start .args .scratch .now in
-    let back = list-back (c₅ .list-of .result) (c₄ .open-at .result) (c₃ .list-width .result) row (c₄ .open-at .ensures) (c₃ .list-width .ensures) (start .pre .1)
+    let back = list-back (c₅ .list-of .result) (c₄ .open-at .result) (c₃ .list-width .result) row (c₄ .open-at .ensures) (c₃ .list-width .ensures)
+    (start .pre .1)
     (withMember (c₂ .entry-of .result)) (c₁ .insert .last .0) (with-length (c₂ .entry-of .result)) (c₁ .insert .ensures) in
     back ∙ ap₂ (λ l n. splice (openAt l) (withMember n (openOf l row)) row) (c₅ .list-of .ensures) (c₂ .entry-of .ensures)
 

@@ -28,7 +28,12 @@ put-bytes-requires c κs =
     let c₁ = c .before in
     let c₂ = c₁ .before in
     let start = c₂ .before .before .before .before in
-    rw (c₁ .new-range .ensures) (omega (arith, part-short newLowerAt 10 (start .args .scratch .now) .0, wide-row (start .args .row .now) (c₂ .enum-told2 .given .1) (start .pre .2)))
+    rw (c₁ .new-range .ensures) (omega (
+      arith,
+      part-short newLowerAt 10 (start .args .scratch .now) .0,
+      wide-row (start .args .row .now)
+          (c₂ .enum-told2 .given .1) (start .pre .2),
+    ))
 
 enum-told-3 : tie.Need-enum-told-3
 enum-told-3 c = search needs
@@ -40,7 +45,12 @@ put-bytes-requires-2 : tie.Need-put-bytes-requires-2
 put-bytes-requires-2 c κs =
     let c₁ = c .before in
     let start = c₁ .before .before .before .before .before in
-    rw (c₁ .new-name .ensures) (omega (arith, part-short newNameAt (1 + nameLimit) (start .args .scratch .now) .0, common-row (start .args .change) (start .args .row .now) (start .pre .2)))
+    rw (c₁ .new-name .ensures) (omega (
+      arith,
+      part-short newNameAt (1 + nameLimit) (start .args .scratch .now) .0,
+      common-row (start .args .change)
+          (start .args .row .now) (start .pre .2),
+    ))
 
 enum-told-4 : tie.Need-enum-told-4
 enum-told-4 c = search needs
@@ -110,7 +120,11 @@ returns-4 : tie.Need-returns-4
 unfolding editedRow
 returns-4 c =
     let start = c .before .before .before .before in
-    rw (c .enum-told4 .given .1) (set-splice defunctAt 1 (start .args .row .now) (omega (arith, common-row (start .args .change) (start .args .row .now) (start .pre .2))))
+    rw (c .enum-told4 .given .1) (set-splice defunctAt 1 (start .args .row .now) (omega (
+      arith,
+      common-row (start .args .change)
+          (start .args .row .now) (start .pre .2),
+    )))
 
 same-length-4 : tie.Need-same-length-4
 same-length-4 c = search needs
@@ -119,7 +133,11 @@ returns-5 : tie.Need-returns-5
 unfolding editedRow
 returns-5 c =
     let start = c .before .before .before .before in
-    rw (c .enum-told5 .given .1) (set-splice defunctAt 0 (start .args .row .now) (omega (arith, common-row (start .args .change) (start .args .row .now) (start .pre .2))))
+    rw (c .enum-told5 .given .1) (set-splice defunctAt 0 (start .args .row .now) (omega (
+      arith,
+      common-row (start .args .change)
+          (start .args .row .now) (start .pre .2),
+    )))
 
 same-length-5 : tie.Need-same-length-5
 same-length-5 c = search needs

@@ -61,7 +61,8 @@ returns c =
     let start = c₅ .before .before .before in
     let row = start .args .row .now in
     let r = start .args .scratch .now in
-    let back = list-back (c₅ .list-of .result) (c₄ .open-at .result) (c₃ .list-width .result) row (c₄ .open-at .ensures) (c₃ .list-width .ensures) (start .pre .1)
+    let back = list-back (c₅ .list-of .result) (c₄ .open-at .result) (c₃ .list-width .result) row (c₄ .open-at .ensures) (c₃ .list-width .ensures)
+    (start .pre .1)
     (withoutMember (c₂ .entry-of .result)) (c₁ .remove .last .0) (without-length (c₂ .entry-of .result)) (c₁ .remove .ensures) in
     back ∙ ap₂ (λ l n. splice (openAt l) (withoutMember n (openOf l row)) row) (c₅ .list-of .ensures) (c₂ .entry-of .ensures)
 

@@ -23,7 +23,11 @@ closure-row-requires c κs = search needs
 part-of-requires : tie.Need-part-of-requires
 part-of-requires c κs =
     let start = c .before .before .before .before .before .before in
-    rw (c .closure-row .ensures) (omega (arith, part-length (0 + closureWidth * start .args .c .0) closureWidth (start .args .closure .now) (row-fits 0 closureWidth classLimit (start .args .c .0) (length (start .args .closure .now)) (start .pre .1) (start .pre .2))))
+    rw (c .closure-row .ensures) (omega (
+      arith,
+      part-length (0 + closureWidth * start .args .c .0) closureWidth (start .args .closure .now)
+          (row-fits 0 closureWidth classLimit (start .args .c .0) (length (start .args .closure .now)) (start .pre .1) (start .pre .2)),
+    ))
 
 slice-aggregate-same : tie.Need-slice-aggregate-same
 slice-aggregate-same c = search needs
@@ -36,7 +40,8 @@ returns c =
     let c₁ = c .before .before in
     let c₂ = c₁ .before in
     let c₃ = c₂ .before .before in
-    ap not (c .same .ensures ∙ ap₂ sameBytes (c₁ .part-of .ensures ∙ ap (part demandedAt attributeSet) (c₂ .closure-row .ensures)) (c₃ .write-demanded .ensures))
+    ap not (c .same .ensures ∙ ap₂ sameBytes (c₁ .part-of .ensures ∙ ap (part demandedAt attributeSet) (c₂ .closure-row .ensures))
+    (c₃ .write-demanded .ensures))
 
 pub demand-differs-spec : {M : Type 1} → statement M
 demand-differs-spec =

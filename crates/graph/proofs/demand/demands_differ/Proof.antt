@@ -33,7 +33,8 @@ returns c =
     let c₂ = c₁ .before in
     let c₃ = c₂ .before in
     let start = c₃ .before .before .before in
-    sym (any-here (λ x. not (sameBytes (demandedIn (start .args .closure .now) x) (demandedSet (tableIn Classes (start .args .classes .now)) x))) (c₃ .loop .c) (start .args .n) (c₂ .loop-test .taken) (sym (c₁ .demand-differs .ensures) ∙ c .if1 .taken))
+    sym (any-here (λ x. not (sameBytes (demandedIn (start .args .closure .now) x) (demandedSet (tableIn Classes (start .args .classes .now)) x)))
+    (c₃ .loop .c) (start .args .n) (c₂ .loop-test .taken) (sym (c₁ .demand-differs .ensures) ∙ c .if1 .taken))
 
 add-c : tie.Need-add-c Inv-loop μ-loop
 add-c c = search needs
@@ -46,15 +47,19 @@ loop-again c =
     let c₁ = c .before in
     let c₂ = c₁ .before in
     let c₃ = c₂ .before in
-    let start = c₃ .before .before .before in
-    (omega (arith, c₂ .loop-test .taken), any-more (λ x. not (sameBytes (demandedIn (start .args .closure .now) x) (demandedSet (tableIn Classes (start .args .classes .now)) x))) (c₃ .loop .c) (c₃ .loop .inv .1) (sym (c₁ .demand-differs .ensures) ∙ c .if1 .left))
+    let start = c₃ .before .before .before in (
+      omega (arith, c₂ .loop-test .taken),
+      any-more (λ x. not (sameBytes (demandedIn (start .args .closure .now) x) (demandedSet (tableIn Classes
+          (start .args .classes .now)) x))) (c₃ .loop .c) (c₃ .loop .inv .1) (sym (c₁ .demand-differs .ensures) ∙ c .if1 .left),
+    )
 
 returns-2 : tie.Need-returns-2 Inv-loop μ-loop
 unfolding demandsDiffer
 returns-2 c =
     let c₁ = c .before in
     let start = c₁ .before .before .before in
-    sym (any-end (λ x. not (sameBytes (demandedIn (start .args .closure .now) x) (demandedSet (tableIn Classes (start .args .classes .now)) x))) (c₁ .loop .c) (start .args .n) (c₁ .loop .inv .0) (c .loop-test .left) (c₁ .loop .inv .1))
+    sym (any-end (λ x. not (sameBytes (demandedIn (start .args .closure .now) x) (demandedSet (tableIn Classes (start .args .classes .now)) x)))
+    (c₁ .loop .c) (start .args .n) (c₁ .loop .inv .0) (c .loop-test .left) (c₁ .loop .inv .1))
 
 pub demands-differ-spec : {M : Type 1} → statement M
 demands-differ-spec =

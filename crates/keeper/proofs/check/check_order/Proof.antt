@@ -39,15 +39,22 @@ returns-2 c =
     let c₃ = c₂ .before in
     let c₄ = c₃ .before .before in
     let start = c₄ .before .before .before .before in
-    c .refused .ensures ∙ sym (shape-onward (stores (start .args .attributes .now) (start .args .classes .now) (start .args .closure .now)) (c₄ .check-shape .ensures) (c₃ .if1 .left) _ _ ∙ tested-holds _ _ _ (λ z. omega arith)
-    (ap (λ b. not (b && isFresh (schemaOf (stores (start .args .attributes .now) (start .args .classes .now) (start .args .closure .now)) .classes) (start .args .closure .now))) (says-false (says-eq (judged Nothing (schemaOf (stores (start .args .attributes .now) (start .args .classes .now) (start .args .closure .now))) .number) 0) (λ z. c₁ .if2 .taken (ap (λ a. a .number) (c₂ .judge .ensures) ∙ z)))))
+    c .refused .ensures ∙ sym (shape-onward (stores (start .args .attributes .now) (start .args .classes .now) (start .args .closure .now))
+    (c₄ .check-shape .ensures) (c₃ .if1 .left) _ _ ∙ tested-holds _ _ _ (λ z. omega arith)
+    (ap (λ b. not (b && isFresh (schemaOf (stores (start .args .attributes .now) (start .args .classes .now) (start .args .closure .now)) .classes)
+    (start .args .closure .now))) (says-false (says-eq (judged Nothing (schemaOf (stores (start .args .attributes .now)
+    (start .args .classes .now) (start .args .closure .now))) .number) 0) (λ z. c₁ .if2 .taken (ap (λ a. a .number) (c₂ .judge .ensures) ∙ z)))))
 
 is-fresh-requires : tie.Need-is-fresh-requires
 is-fresh-requires c κs =
     let c₁ = c .before .before .before in
     let c₂ = c₁ .before .before in
-    let start = c₂ .before .before .before .before in
-    (readable-classes (stores (start .args .attributes .now) (start .args .classes .now) (start .args .closure .now)) (c₂ .check-shape .ensures) (c₁ .if1 .left), in-shape (stores (start .args .attributes .now) (start .args .classes .now) (start .args .closure .now)) (c₂ .check-shape .ensures) (c₁ .if1 .left) .long .closure)
+    let start = c₂ .before .before .before .before in (
+      readable-classes (stores (start .args .attributes .now) (start .args .classes .now) (start .args .closure .now)) (c₂ .check-shape .ensures)
+          (c₁ .if1 .left),
+      in-shape (stores (start .args .attributes .now) (start .args .classes .now) (start .args .closure .now))
+          (c₂ .check-shape .ensures) (c₁ .if1 .left) .long .closure,
+    )
 
 passed-requires : tie.Need-passed-requires
 passed-requires c κs = search needs
@@ -65,8 +72,11 @@ returns-3 c =
     let c₅ = c₄ .before in
     let c₆ = c₅ .before .before in
     let start = c₆ .before .before .before .before in
-    c .passed .ensures ∙ sym (shape-onward (stores (start .args .attributes .now) (start .args .classes .now) (start .args .closure .now)) (c₆ .check-shape .ensures) (c₅ .if1 .left) _ _ ∙ tested-fails _ _ _
-    (ap not (ap₂ (λ a b. a && b) (says-true (says-eq (judged Nothing (schemaOf (stores (start .args .attributes .now) (start .args .classes .now) (start .args .closure .now))) .number) 0) (sym (ap (λ a. a .number) (c₄ .judge .ensures)) ∙ c₃ .if2 .left)) (sym (c₂ .is-fresh .ensures) ∙ c₁ .if3 .taken))) ∙ first-last _)
+    c .passed .ensures ∙ sym (shape-onward (stores (start .args .attributes .now) (start .args .classes .now) (start .args .closure .now))
+    (c₆ .check-shape .ensures) (c₅ .if1 .left) _ _ ∙ tested-fails _ _ _
+    (ap not (ap₂ (λ a b. a && b) (says-true (says-eq (judged Nothing (schemaOf (stores (start .args .attributes .now) (start .args .classes .now)
+    (start .args .closure .now))) .number) 0) (sym (ap (λ a. a .number) (c₄ .judge .ensures)) ∙ c₃ .if2 .left)) (sym (c₂ .is-fresh .ensures)
+    ∙ c₁ .if3 .taken))) ∙ first-last _)
 
 returns-4 : tie.Need-returns-4
 unfolding inOrder
@@ -78,8 +88,11 @@ returns-4 c =
     let c₅ = c₄ .before in
     let c₆ = c₅ .before .before in
     let start = c₆ .before .before .before .before in
-    c .refused2 .ensures ∙ sym (shape-onward (stores (start .args .attributes .now) (start .args .classes .now) (start .args .closure .now)) (c₆ .check-shape .ensures) (c₅ .if1 .left) _ _ ∙ tested-holds _ _ _ (λ z. omega arith)
-    (ap not (ap₂ (λ a b. a && b) (says-true (says-eq (judged Nothing (schemaOf (stores (start .args .attributes .now) (start .args .classes .now) (start .args .closure .now))) .number) 0) (sym (ap (λ a. a .number) (c₄ .judge .ensures)) ∙ c₃ .if2 .left)) (sym (c₂ .is-fresh .ensures) ∙ c₁ .if3 .left))))
+    c .refused2 .ensures ∙ sym (shape-onward (stores (start .args .attributes .now) (start .args .classes .now) (start .args .closure .now))
+    (c₆ .check-shape .ensures) (c₅ .if1 .left) _ _ ∙ tested-holds _ _ _ (λ z. omega arith)
+    (ap not (ap₂ (λ a b. a && b) (says-true (says-eq (judged Nothing (schemaOf (stores (start .args .attributes .now) (start .args .classes .now)
+    (start .args .closure .now))) .number) 0) (sym (ap (λ a. a .number) (c₄ .judge .ensures)) ∙ c₃ .if2 .left)) (sym (c₂ .is-fresh .ensures)
+    ∙ c₁ .if3 .left))))
 
 pub check-order-spec : {M : Type 1} → statement M
 check-order-spec =

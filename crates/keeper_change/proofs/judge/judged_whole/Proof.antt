@@ -18,7 +18,10 @@ unfolding judgedWhole
 returns c =
     let c₁ = c .before in
     let start = c₁ .before .before .before .before in
-    ap (λ a. a .number) (c₁ .judge .ensures) ∙ judged-number (start .args .added) (schemaIn (start .args .attributes .now) (start .args .classes .now)) ∙ sym (append-first (brokenCases (schemaRules (start .args .added)) (schemaIn (start .args .attributes .now) (start .args .classes .now))) _ (λ z. c .if1 .taken (ap (λ a. a .number) (c₁ .judge .ensures) ∙ judged-number (start .args .added) (schemaIn (start .args .attributes .now) (start .args .classes .now)) ∙ z)))
+    ap (λ a. a .number) (c₁ .judge .ensures) ∙ judged-number (start .args .added) (schemaIn (start .args .attributes .now)
+    (start .args .classes .now)) ∙ sym (append-first (brokenCases (schemaRules (start .args .added)) (schemaIn (start .args .attributes .now)
+    (start .args .classes .now))) _ (λ z. c .if1 .taken (ap (λ a. a .number) (c₁ .judge .ensures) ∙ judged-number (start .args .added)
+    (schemaIn (start .args .attributes .now) (start .args .classes .now)) ∙ z)))
 
 demands-differ-requires : tie.Need-demands-differ-requires
 demands-differ-requires c κs = search needs
@@ -30,7 +33,11 @@ returns-2 c =
     let c₂ = c₁ .before in
     let c₃ = c₂ .before in
     let start = c₃ .before .before .before .before in
-    sym (append-second (brokenCases (schemaRules (start .args .added)) (schemaIn (start .args .attributes .now) (start .args .classes .now))) _ (rising-nonzero 0 (brokenCases (schemaRules (start .args .added)) (schemaIn (start .args .attributes .now) (start .args .classes .now))) (rising (start .args .added) (schemaIn (start .args .attributes .now) (start .args .classes .now)))) (sym (judged-number (start .args .added) (schemaIn (start .args .attributes .now) (start .args .classes .now))) ∙ sym (ap (λ a. a .number) (c₃ .judge .ensures)) ∙ c₂ .if1 .left) ∙ first-hit _ [] (sym (c₁ .demands-differ .ensures) ∙ c .if2 .taken))
+    sym (append-second (brokenCases (schemaRules (start .args .added)) (schemaIn (start .args .attributes .now) (start .args .classes .now))) _
+    (rising-nonzero 0 (brokenCases (schemaRules (start .args .added)) (schemaIn (start .args .attributes .now) (start .args .classes .now)))
+    (rising (start .args .added) (schemaIn (start .args .attributes .now) (start .args .classes .now)))) (sym (judged-number
+    (start .args .added) (schemaIn (start .args .attributes .now) (start .args .classes .now))) ∙ sym (ap (λ a. a .number)
+    (c₃ .judge .ensures)) ∙ c₂ .if1 .left) ∙ first-hit _ [] (sym (c₁ .demands-differ .ensures) ∙ c .if2 .taken))
 
 returns-3 : tie.Need-returns-3
 unfolding judgedWhole
@@ -39,7 +46,11 @@ returns-3 c =
     let c₂ = c₁ .before in
     let c₃ = c₂ .before in
     let start = c₃ .before .before .before .before in
-    sym (append-second (brokenCases (schemaRules (start .args .added)) (schemaIn (start .args .attributes .now) (start .args .classes .now))) _ (rising-nonzero 0 (brokenCases (schemaRules (start .args .added)) (schemaIn (start .args .attributes .now) (start .args .classes .now))) (rising (start .args .added) (schemaIn (start .args .attributes .now) (start .args .classes .now)))) (sym (judged-number (start .args .added) (schemaIn (start .args .attributes .now) (start .args .classes .now))) ∙ sym (ap (λ a. a .number) (c₃ .judge .ensures)) ∙ c₂ .if1 .left) ∙ first-miss _ [] (sym (c₁ .demands-differ .ensures) ∙ c .if2 .left) ∙ first-none)
+    sym (append-second (brokenCases (schemaRules (start .args .added)) (schemaIn (start .args .attributes .now) (start .args .classes .now))) _
+    (rising-nonzero 0 (brokenCases (schemaRules (start .args .added)) (schemaIn (start .args .attributes .now) (start .args .classes .now)))
+    (rising (start .args .added) (schemaIn (start .args .attributes .now) (start .args .classes .now)))) (sym (judged-number
+    (start .args .added) (schemaIn (start .args .attributes .now) (start .args .classes .now))) ∙ sym (ap (λ a. a .number)
+    (c₃ .judge .ensures)) ∙ c₂ .if1 .left) ∙ first-miss _ [] (sym (c₁ .demands-differ .ensures) ∙ c .if2 .left) ∙ first-none)
 
 pub judged-whole-spec : {M : Type 1} → statement M
 judged-whole-spec =

@@ -22,7 +22,9 @@ returns : tie.Need-returns
 returns c =
     let c₁ = c .before .before in
     let start = c₁ .before .before .before .before .before .before .before .before in
-    change-order (start .args .change .now) (stores (start .args .attributes .now) (start .args .classes .now) (start .args .closure .now)) (c₁ .check-order .ensures) (c .if1 .taken)
+    let s = stores (start .args .attributes .now) (start .args .classes .now) (start .args .closure .now) in
+    let x = start .args .change .now in
+    change-order x s (c₁ .check-order .ensures) (c .if1 .taken)
 
 slice-aggregate-read-change : tie.Need-slice-aggregate-read-change
 slice-aggregate-read-change c = search needs
@@ -51,7 +53,10 @@ plain-read-requires c κs =
     let c₄ = c₃ .before .before in
     let c₅ = c₄ .before .before .before .before in
     let start = c₅ .before .before .before .before in
-    change-in-order (start .args .change .now) (stores (start .args .attributes .now) (start .args .classes .now) (start .args .closure .now)) (c₄ .check-order .ensures) (c₃ .if1 .left) (c₂ .read-change .ensures) _ (c₁ .change .given .1) (λ i. c₅ .shared-slice-known .given i .fits)
+    let s = stores (start .args .attributes .now) (start .args .classes .now) (start .args .closure .now) in
+    let x = start .args .change .now in
+    change-in-order x s (c₄ .check-order .ensures) (c₃ .if1 .left) (c₂ .read-change .ensures) _ (c₁ .change .given .1)
+    (λ i. c₅ .shared-slice-known .given i .fits)
 
 same-length-4 : tie.Need-same-length-4
 same-length-4 c = search needs
@@ -69,7 +74,9 @@ returns-2 c =
     let c₃ = c₂ .before .before in
     let c₄ = c₃ .before .before in
     let start = c₄ .before .before .before .before .before .before .before .before in
-    change-bad (start .args .change .now) (stores (start .args .attributes .now) (start .args .classes .now) (start .args .closure .now)) (c₄ .check-order .ensures) (c₃ .if1 .left) (c₂ .read-change .ensures) _ _ (c₁ .at .given .1) (c .unreadable .ensures)
+    let s = stores (start .args .attributes .now) (start .args .classes .now) (start .args .closure .now) in
+    let x = start .args .change .now in
+    change-bad x s (c₄ .check-order .ensures) (c₃ .if1 .left) (c₂ .read-change .ensures) _ _ (c₁ .at .given .1) (c .unreadable .ensures)
 
 same-length-7 : tie.Need-same-length-7
 same-length-7 c = search needs
@@ -88,7 +95,9 @@ returns-3 c =
     let c₄ = c₃ .before .before in
     let c₅ = c₄ .before .before in
     let start = c₅ .before .before .before .before .before .before .before .before in
-    c₁ .plain-read .ensures ∙ change-read (start .args .change .now) (stores (start .args .attributes .now) (start .args .classes .now) (start .args .closure .now)) (c₅ .check-order .ensures) (c₄ .if1 .left) (c₃ .read-change .ensures) _ (c₂ .change .given .1)
+    let s = stores (start .args .attributes .now) (start .args .classes .now) (start .args .closure .now) in
+    let x = start .args .change .now in
+    c₁ .plain-read .ensures ∙ change-read x s (c₅ .check-order .ensures) (c₄ .if1 .left) (c₃ .read-change .ensures) _ (c₂ .change .given .1)
 
 pub plain-change-spec : {M : Type 1} → statement M
 plain-change-spec =

@@ -16,36 +16,58 @@ use Rattle.keeper_change.proofs.plain.plain_judged.Tie as tie
 save-requires : tie.Need-save-requires
 save-requires c κs =
     let start = c .before .before .before .before .before .before in
-    applicable (start .args .change) (start .args .scratch .now) (stores (start .args .attributes .now) (start .args .classes .now) (start .args .closure .now)) (start .pre)
+    let s = stores (start .args .attributes .now) (start .args .classes .now) (start .args .closure .now) in
+    let change = start .args .change in
+    let r = start .args .scratch .now in
+    applicable change r s (start .pre)
 
 row-count-requires : tie.Need-row-count-requires
 row-count-requires c κs =
     let start = c .before .before .before .before .before .before .before .before in
-    in-shape (start .args .change) (start .args .scratch .now) (stores (start .args .attributes .now) (start .args .classes .now) (start .args .closure .now)) (start .pre .stores) .long .classes
+    let s = stores (start .args .attributes .now) (start .args .classes .now) (start .args .closure .now) in
+    let change = start .args .change in
+    let r = start .args .scratch .now in
+    in-shape change r s (start .pre .stores) .long .classes
 
 make-requires : tie.Need-make-requires
 make-requires c κs =
     let start = c .before .before .before .before .before .before .before .before .before .before .before in
-    applicable (start .args .change) (start .args .scratch .now) (stores (start .args .attributes .now) (start .args .classes .now) (start .args .closure .now)) (start .pre)
+    let s = stores (start .args .attributes .now) (start .args .classes .now) (start .args .closure .now) in
+    let change = start .args .change in
+    let r = start .args .scratch .now in
+    applicable change r s (start .pre)
 
 added-by-requires : tie.Need-added-by-requires
 added-by-requires c κs =
     let start = c .before .before .before .before .before .before .before .before .before .before .before .before .before .before .before .before in
-    applicable (start .args .change) (start .args .scratch .now) (stores (start .args .attributes .now) (start .args .classes .now) (start .args .closure .now)) (start .pre) .carried
+    let s = stores (start .args .attributes .now) (start .args .classes .now) (start .args .closure .now) in
+    let change = start .args .change in
+    let r = start .args .scratch .now in
+    applicable change r s (start .pre) .carried
 
 judged-whole-requires : tie.Need-judged-whole-requires
 judged-whole-requires c κs =
     let c₁ = c .before .before .before .before .before .before .before .before in
     let c₂ = c₁ .before .before .before in
     let start = c₂ .before .before .before .before .before .before .before .before .before in
-    (subst (λ x. Shaped (x .attributes) (x .classes)) (sym (c₁ .make .ensures (start .args .closure .now))) (made-shaped (start .args .change) (start .args .scratch .now) (stores (start .args .attributes .now) (start .args .classes .now) (start .args .closure .now)) (start .pre)), closure-long (start .args .change) (start .args .scratch .now) (stores (start .args .attributes .now) (start .args .classes .now) (start .args .closure .now)) (start .pre), omega (arith, c₂ .row-count .ensures, classes-few (start .args .change) (start .args .scratch .now) (stores (start .args .attributes .now) (start .args .classes .now) (start .args .closure .now)) (start .pre)))
+    let s = stores (start .args .attributes .now) (start .args .classes .now) (start .args .closure .now) in
+    let change = start .args .change in
+    let r = start .args .scratch .now in (
+      subst (λ x. Shaped (x .attributes) (x .classes)) (sym (c₁ .make .ensures (s .closure))) (made-shaped change r s (start .pre)),
+      closure-long change r s (start .pre),
+      omega (arith, c₂ .row-count .ensures, classes-few change r s (start .pre)),
+    )
 
 undo-requires : tie.Need-undo-requires
 undo-requires c κs =
     let c₁ = c .before .before .before .before .before .before .before .before .before .before .before .before in
     let c₂ = c₁ .before .before .before .before .before in
     let start = c₂ .before .before .before .before .before .before .before in
-    subst₂ (λ b x. Restorable b (x .attributes) (x .classes)) (sym (c₂ .save .ensures)) (sym (c₁ .make .ensures (start .args .closure .now))) (restorable (start .args .change) (start .args .scratch .now) (stores (start .args .attributes .now) (start .args .classes .now) (start .args .closure .now)) (start .pre))
+    let s = stores (start .args .attributes .now) (start .args .classes .now) (start .args .closure .now) in
+    let change = start .args .change in
+    let r = start .args .scratch .now in
+    subst₂ (λ b x. Restorable b (x .attributes) (x .classes)) (sym (c₂ .save .ensures)) (sym (c₁ .make .ensures (s .closure)))
+    (restorable change r s (start .pre))
 
 refused-requires : tie.Need-refused-requires
 refused-requires c κs = search needs
@@ -71,13 +93,22 @@ returns c =
     let c₈ = c₇ .before .before .before .before in
     let c₉ = c₈ .before in
     let start = c₉ .before .before in
-    judged-refused (start .args .change) (start .args .scratch .now) (stores (start .args .attributes .now) (start .args .classes .now) (start .args .closure .now)) (start .pre) _ _ _ (number-found (start .args .change) (start .args .scratch .now) (stores (start .args .attributes .now) (start .args .classes .now) (start .args .closure .now)) (start .pre) _ (c₃ .judged-whole .ensures ∙ judged-at (start .args .change) (start .args .scratch .now) (stores (start .args .attributes .now) (start .args .classes .now) (start .args .closure .now)) (start .pre) (c₅ .make .ensures (start .args .closure .now)) (c₆ .row-count .ensures) (c₄ .added-by .ensures))) (c₂ .if1 .taken) (c .refused .ensures) (c₁ .undo .ensures (start .args .closure .now) ∙ ap₂ rowsBack (c₇ .save .ensures) (c₅ .make .ensures (start .args .closure .now)) ∙ back (start .args .change) (start .args .scratch .now) (stores (start .args .attributes .now) (start .args .classes .now) (start .args .closure .now)) (start .pre) (store-bytes (tableFor (start .args .change)) (start .args .attributes .now) (start .args .classes .now) (λ i. c₉ .slice-known .given i .fits) (λ i. c₈ .slice-known2 .given i .fits)))
+    let s = stores (start .args .attributes .now) (start .args .classes .now) (start .args .closure .now) in
+    let change = start .args .change in
+    let r = start .args .scratch .now in
+    judged-refused change r s (start .pre) _ _ _ (number-found change r s (start .pre) _ (c₃ .judged-whole .ensures ∙ judged-at change r s
+    (start .pre) (c₅ .make .ensures (s .closure)) (c₆ .row-count .ensures) (c₄ .added-by .ensures))) (c₂ .if1 .taken) (c .refused .ensures)
+    (c₁ .undo .ensures (s .closure) ∙ ap₂ rowsBack (c₇ .save .ensures) (c₅ .make .ensures (s .closure)) ∙ back change r s (start .pre)
+    (store-bytes (tableFor change) (s .attributes) (s .classes) (λ i. c₉ .slice-known .given i .fits) (λ i. c₈ .slice-known2 .given i .fits)))
 
 refresh-all-requires : tie.Need-refresh-all-requires
 refresh-all-requires c κs =
     let c₁ = c .before .before .before .before .before .before .before .before .before .before .before .before in
     let start = c₁ .before .before .before .before .before .before .before .before .before .before .before .before in
-    (subst (λ x. Readable (x .classes)) (sym (c₁ .make .ensures (start .args .closure .now))) (made-readable (start .args .change) (start .args .scratch .now) (stores (start .args .attributes .now) (start .args .classes .now) (start .args .closure .now)) (start .pre)), closure-long (start .args .change) (start .args .scratch .now) (stores (start .args .attributes .now) (start .args .classes .now) (start .args .closure .now)) (start .pre))
+    let s = stores (start .args .attributes .now) (start .args .classes .now) (start .args .closure .now) in
+    let change = start .args .change in
+    let r = start .args .scratch .now in
+    (subst (λ x. Readable (x .classes)) (sym (c₁ .make .ensures (s .closure))) (made-readable change r s (start .pre)), closure-long change r s (start .pre))
 
 changed-requires : tie.Need-changed-requires
 changed-requires c κs = search needs
@@ -101,7 +132,12 @@ returns-2 c =
     let c₆ = c₅ .before .before .before in
     let c₇ = c₆ .before .before in
     let start = c₇ .before .before .before .before .before .before .before in
-    judged-done (start .args .change) (start .args .scratch .now) (stores (start .args .attributes .now) (start .args .classes .now) (start .args .closure .now)) (start .pre) _ _ _ (number-found (start .args .change) (start .args .scratch .now) (stores (start .args .attributes .now) (start .args .classes .now) (start .args .closure .now)) (start .pre) _ (c₃ .judged-whole .ensures ∙ judged-at (start .args .change) (start .args .scratch .now) (stores (start .args .attributes .now) (start .args .classes .now) (start .args .closure .now)) (start .pre) (c₅ .make .ensures (start .args .closure .now)) (c₆ .row-count .ensures) (c₄ .added-by .ensures))) (c₂ .if1 .left) (c .changed .ensures ∙ ap (λ b. changed (tableOf (b .id)) (numberOf (b .id))) (c₇ .save .ensures)) (refreshed-made (stores (start .args .attributes .now) (start .args .classes .now) (start .args .closure .now)) (c₅ .make .ensures (start .args .closure .now)) (c₁ .refresh-all .ensures))
+    let s = stores (start .args .attributes .now) (start .args .classes .now) (start .args .closure .now) in
+    let change = start .args .change in
+    let r = start .args .scratch .now in
+    judged-done change r s (start .pre) _ _ _ (number-found change r s (start .pre) _ (c₃ .judged-whole .ensures ∙ judged-at change r s (start .pre)
+    (c₅ .make .ensures (s .closure)) (c₆ .row-count .ensures) (c₄ .added-by .ensures))) (c₂ .if1 .left) (c .changed .ensures ∙ ap (λ b. changed
+    (tableOf (b .id)) (numberOf (b .id))) (c₇ .save .ensures)) (refreshed-made s (c₅ .make .ensures (s .closure)) (c₁ .refresh-all .ensures))
 
 pub plain-judged-spec : {M : Type 1} → statement M
 plain-judged-spec =

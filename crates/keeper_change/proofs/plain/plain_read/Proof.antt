@@ -7,7 +7,10 @@ use Rattle.keeper_change.proofs.plain.plain_read.Tie as tie
 first-asked-requires : tie.Need-first-asked-requires
 first-asked-requires c κs =
     let start = c .before .before .before .before .before .before in
-    plain-asked (start .args .change) (start .args .scratch .now) (stores (start .args .attributes .now) (start .args .classes .now) (start .args .closure .now)) (start .pre)
+    let s = stores (start .args .attributes .now) (start .args .classes .now) (start .args .closure .now) in
+    let change = start .args .change in
+    let r = start .args .scratch .now in
+    plain-asked change r s (start .pre)
 
 refused-requires : tie.Need-refused-requires
 refused-requires c κs = search needs
@@ -23,7 +26,10 @@ returns c =
     let c₁ = c .before in
     let c₂ = c₁ .before in
     let start = c₂ .before .before .before .before .before .before .before in
-    asked-refused (start .args .change) (start .args .scratch .now) (stores (start .args .attributes .now) (start .args .classes .now) (start .args .closure .now)) (start .pre) _ _ (c₂ .first-asked .ensures) (c₁ .if1 .taken) (c .refused .ensures)
+    let s = stores (start .args .attributes .now) (start .args .classes .now) (start .args .closure .now) in
+    let change = start .args .change in
+    let r = start .args .scratch .now in
+    asked-refused change r s (start .pre) _ _ (c₂ .first-asked .ensures) (c₁ .if1 .taken) (c .refused .ensures)
 
 plain-judged-requires : tie.Need-plain-judged-requires
 plain-judged-requires c κs = search needs

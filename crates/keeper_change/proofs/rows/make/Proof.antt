@@ -18,7 +18,8 @@ apply-requires c κs =
     let c₁ = c .before in
     let c₂ = c₁ .before .before in
     let start = c₂ .before .before .before .before in
-    subst (λ t. Applicable (start .args .change) (start .args .scratch .now) (storeOf t (start .args .attributes .now) (start .args .classes .now))) (sym (c₂ .table-for .ensures) ∙ c₁ .enum-told .given .1) (start .pre)
+    subst (λ t. Applicable (start .args .change) (start .args .scratch .now) (storeOf t (start .args .attributes .now) (start .args .classes .now)))
+    (sym (c₂ .table-for .ensures) ∙ c₁ .enum-told .given .1) (start .pre)
 
 enum-told-2 : tie.Need-enum-told-2
 enum-told-2 c = search needs
@@ -28,7 +29,8 @@ apply-requires-2 c κs =
     let c₁ = c .before in
     let c₂ = c₁ .before .before in
     let start = c₂ .before .before .before .before in
-    subst (λ t. Applicable (start .args .change) (start .args .scratch .now) (storeOf t (start .args .attributes .now) (start .args .classes .now))) (sym (c₂ .table-for .ensures) ∙ c₁ .enum-told2 .given .1) (start .pre)
+    subst (λ t. Applicable (start .args .change) (start .args .scratch .now) (storeOf t (start .args .attributes .now) (start .args .classes .now)))
+    (sym (c₂ .table-for .ensures) ∙ c₁ .enum-told2 .given .1) (start .pre)
 
 same-length : tie.Need-same-length
 same-length c = search needs
@@ -39,7 +41,9 @@ returns c =
     let c₂ = c₁ .before .before in
     let c₃ = c₂ .before .before in
     let start = c₃ .before .before .before .before in
-    λ k. ap (λ x. stores x (start .args .classes .now) k) (c₁ .apply .ensures) ∙ made-in Attributes (start .args .change) (start .args .scratch .now) (stores (start .args .attributes .now) (start .args .classes .now) k) (sym (c₃ .table-for .ensures) ∙ c₂ .enum-told .given .1)
+    λ k. ap (λ x. stores x (start .args .classes .now) k) (c₁ .apply .ensures) ∙ made-in Attributes (start .args .change)
+    (start .args .scratch .now) (stores (start .args .attributes .now) (start .args .classes .now) k) (sym (c₃ .table-for .ensures)
+    ∙ c₂ .enum-told .given .1)
 
 same-length-2 : tie.Need-same-length-2
 same-length-2 c = search needs
@@ -50,7 +54,9 @@ returns-2 c =
     let c₂ = c₁ .before .before in
     let c₃ = c₂ .before .before in
     let start = c₃ .before .before .before .before in
-    λ k. ap (λ x. stores (start .args .attributes .now) x k) (c₁ .apply2 .ensures) ∙ made-in Classes (start .args .change) (start .args .scratch .now) (stores (start .args .attributes .now) (start .args .classes .now) k) (sym (c₃ .table-for .ensures) ∙ c₂ .enum-told2 .given .1)
+    λ k. ap (λ x. stores (start .args .attributes .now) x k) (c₁ .apply2 .ensures) ∙ made-in Classes (start .args .change)
+    (start .args .scratch .now) (stores (start .args .attributes .now) (start .args .classes .now) k) (sym (c₃ .table-for .ensures)
+    ∙ c₂ .enum-told2 .given .1)
 
 pub make-spec : {M : Type 1} → statement M
 make-spec =

@@ -31,7 +31,10 @@ save-row-requires c κs =
     let c₂ = c₁ .before in
     let c₃ = c₂ .before in
     let start = c₃ .before .before .before .before in
-    let ok = save-asked (start .args .change) (start .args .scratch .now) _ (start .pre) (c₁ .row-changed .ensures ∙ ap (rowChanged (start .args .change) (start .args .scratch .now)) (c₂ .store-of .ensures ∙ ap (λ t. storeOf t (start .args .attributes .now) (start .args .classes .now)) (c₃ .table-for .ensures))) (c₂ .store-of .ensures ∙ ap (λ t. storeOf t (start .args .attributes .now) (start .args .classes .now)) (c₃ .table-for .ensures)) in
+    let ok = save-asked (start .args .change) (start .args .scratch .now) _ (start .pre) (c₁ .row-changed .ensures ∙ ap (rowChanged
+    (start .args .change) (start .args .scratch .now)) (c₂ .store-of .ensures ∙ ap (λ t. storeOf t (start .args .attributes .now)
+    (start .args .classes .now)) (c₃ .table-for .ensures))) (c₂ .store-of .ensures ∙ ap (λ t. storeOf t (start .args .attributes .now)
+    (start .args .classes .now)) (c₃ .table-for .ensures)) in
     (ok .0, ok .1, refl)
 
 row-count-requires : tie.Need-row-count-requires
@@ -48,7 +51,15 @@ returns c =
     let c₃ = c₂ .before in
     let c₄ = c₃ .before in
     let start = c₄ .before .before .before .before in
-    saved-is (start .args .change) (start .args .scratch .now) (storeOf (tableFor (start .args .change)) (start .args .attributes .now) (start .args .classes .now)) (start .pre) (c₂ .row-changed .ensures ∙ ap (rowChanged (start .args .change) (start .args .scratch .now)) (c₃ .store-of .ensures ∙ ap (λ t. storeOf t (start .args .attributes .now) (start .args .classes .now)) (c₄ .table-for .ensures))) (c .row-count .ensures ∙ ap₂ (λ t x. tableIn t x .count) (c₄ .table-for .ensures) (c₃ .store-of .ensures ∙ ap (λ t. storeOf t (start .args .attributes .now) (start .args .classes .now)) (c₄ .table-for .ensures))) (c₁ .save-row .ensures ∙ ap₂ (λ i x. padded classWidth (tableIn (tableOf i) x .row (numberOf i))) (c₂ .row-changed .ensures ∙ ap (rowChanged (start .args .change) (start .args .scratch .now)) (c₃ .store-of .ensures ∙ ap (λ t. storeOf t (start .args .attributes .now) (start .args .classes .now)) (c₄ .table-for .ensures))) (c₃ .store-of .ensures ∙ ap (λ t. storeOf t (start .args .attributes .now) (start .args .classes .now)) (c₄ .table-for .ensures)))
+    saved-is (start .args .change) (start .args .scratch .now) (storeOf (tableFor (start .args .change)) (start .args .attributes .now)
+    (start .args .classes .now)) (start .pre) (c₂ .row-changed .ensures ∙ ap (rowChanged (start .args .change) (start .args .scratch .now))
+    (c₃ .store-of .ensures ∙ ap (λ t. storeOf t (start .args .attributes .now) (start .args .classes .now)) (c₄ .table-for .ensures)))
+    (c .row-count .ensures ∙ ap₂ (λ t x. tableIn t x .count) (c₄ .table-for .ensures) (c₃ .store-of .ensures ∙ ap (λ t. storeOf t
+    (start .args .attributes .now) (start .args .classes .now)) (c₄ .table-for .ensures))) (c₁ .save-row .ensures ∙ ap₂
+    (λ i x. padded classWidth (tableIn (tableOf i) x .row (numberOf i))) (c₂ .row-changed .ensures ∙ ap (rowChanged
+    (start .args .change) (start .args .scratch .now)) (c₃ .store-of .ensures ∙ ap (λ t. storeOf t
+    (start .args .attributes .now) (start .args .classes .now)) (c₄ .table-for .ensures))) (c₃ .store-of .ensures ∙ ap
+    (λ t. storeOf t (start .args .attributes .now) (start .args .classes .now)) (c₄ .table-for .ensures)))
 
 pub save-spec : {M : Type 1} → statement M
 save-spec =

@@ -25,8 +25,13 @@ restore-requires : tie.Need-restore-requires
 restore-requires c κs =
     let c₁ = c .before .before in
     let c₂ = c₁ .before .before in
-    let start = c₂ .before .before .before .before in
-    (subst (λ x. storeLength (tableOf ((start .args .before) .id)) ≤ length x) (ap (λ t. storeOf t (start .args .attributes .now) (start .args .classes .now)) (sym (c₂ .table-of .ensures) ∙ c₁ .enum-told .given .1)) (start .pre .long), start .pre .within, start .pre .few, start .pre .wide)
+    let start = c₂ .before .before .before .before in (
+      subst (λ x. storeLength (tableOf ((start .args .before) .id)) ≤ length x) (ap (λ t. storeOf t (start .args .attributes .now)
+          (start .args .classes .now)) (sym (c₂ .table-of .ensures) ∙ c₁ .enum-told .given .1)) (start .pre .long),
+      start .pre .within,
+      start .pre .few,
+      start .pre .wide,
+    )
 
 enum-told-2 : tie.Need-enum-told-2
 enum-told-2 c = search needs
@@ -38,8 +43,13 @@ restore-requires-2 : tie.Need-restore-requires-2
 restore-requires-2 c κs =
     let c₁ = c .before .before in
     let c₂ = c₁ .before .before in
-    let start = c₂ .before .before .before .before in
-    (subst (λ x. storeLength (tableOf ((start .args .before) .id)) ≤ length x) (ap (λ t. storeOf t (start .args .attributes .now) (start .args .classes .now)) (sym (c₂ .table-of .ensures) ∙ c₁ .enum-told2 .given .1)) (start .pre .long), start .pre .within, start .pre .few, start .pre .wide)
+    let start = c₂ .before .before .before .before in (
+      subst (λ x. storeLength (tableOf ((start .args .before) .id)) ≤ length x) (ap (λ t. storeOf t (start .args .attributes .now)
+          (start .args .classes .now)) (sym (c₂ .table-of .ensures) ∙ c₁ .enum-told2 .given .1)) (start .pre .long),
+      start .pre .within,
+      start .pre .few,
+      start .pre .wide,
+    )
 
 same-length : tie.Need-same-length
 same-length c = search needs
@@ -50,7 +60,10 @@ returns c =
     let c₂ = c₁ .before .before .before in
     let c₃ = c₂ .before .before in
     let start = c₃ .before .before .before .before in
-    λ k. ap (λ x. stores x (start .args .classes .now) k) (c₁ .restore .ensures ∙ ap (λ t. restored t (numberOf ((start .args .before) .id)) ((start .args .before) .count) (part 0 (rowWidth t) ((start .args .before) .row)) (start .args .attributes .now)) (sym (c₃ .table-of .ensures) ∙ c₂ .enum-told .given .1)) ∙ back-in Attributes (start .args .before) (stores (start .args .attributes .now) (start .args .classes .now) k) (sym (c₃ .table-of .ensures) ∙ c₂ .enum-told .given .1)
+    λ k. ap (λ x. stores x (start .args .classes .now) k) (c₁ .restore .ensures ∙ ap (λ t. restored t (numberOf ((start .args .before) .id))
+    ((start .args .before) .count) (part 0 (rowWidth t) ((start .args .before) .row)) (start .args .attributes .now)) (sym
+    (c₃ .table-of .ensures) ∙ c₂ .enum-told .given .1)) ∙ back-in Attributes (start .args .before) (stores (start .args .attributes .now)
+    (start .args .classes .now) k) (sym (c₃ .table-of .ensures) ∙ c₂ .enum-told .given .1)
 
 same-length-2 : tie.Need-same-length-2
 same-length-2 c = search needs
@@ -61,7 +74,10 @@ returns-2 c =
     let c₂ = c₁ .before .before .before in
     let c₃ = c₂ .before .before in
     let start = c₃ .before .before .before .before in
-    λ k. ap (λ x. stores (start .args .attributes .now) x k) (c₁ .restore2 .ensures ∙ ap (λ t. restored t (numberOf ((start .args .before) .id)) ((start .args .before) .count) (part 0 (rowWidth t) ((start .args .before) .row)) (start .args .classes .now)) (sym (c₃ .table-of .ensures) ∙ c₂ .enum-told2 .given .1)) ∙ back-in Classes (start .args .before) (stores (start .args .attributes .now) (start .args .classes .now) k) (sym (c₃ .table-of .ensures) ∙ c₂ .enum-told2 .given .1)
+    λ k. ap (λ x. stores (start .args .attributes .now) x k) (c₁ .restore2 .ensures ∙ ap (λ t. restored t (numberOf ((start .args .before) .id))
+    ((start .args .before) .count) (part 0 (rowWidth t) ((start .args .before) .row)) (start .args .classes .now)) (sym (c₃ .table-of .ensures)
+    ∙ c₂ .enum-told2 .given .1)) ∙ back-in Classes (start .args .before) (stores (start .args .attributes .now)
+    (start .args .classes .now) k) (sym (c₃ .table-of .ensures) ∙ c₂ .enum-told2 .given .1)
 
 pub undo-spec : {M : Type 1} → statement M
 undo-spec =

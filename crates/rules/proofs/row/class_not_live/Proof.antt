@@ -32,8 +32,14 @@ class-row-requires c κs = search needs
 
 entry-dead-requires : tie.Need-entry-dead-requires
 entry-dead-requires c κs =
-    let start = c .before .before .before .before .before .before in
-    (start .pre .0, rw (c .class-row .ensures) (omega (arith, table-row-length Classes (start .args .classes .now) (start .args .c .0) (start .pre .0 .long) (omega (arith, start .pre .1, start .pre .0 .few)))))
+    let start = c .before .before .before .before .before .before in (
+      start .pre .0,
+      rw (c .class-row .ensures) (omega (
+        arith,
+        table-row-length Classes (start .args .classes .now) (start .args .c .0)
+            (start .pre .0 .long) (omega (arith, start .pre .1, start .pre .0 .few)),
+      )),
+    )
 
 returns-3 : tie.Need-returns-3
 unfolding classNotLive
