@@ -1,4 +1,6 @@
 -- What a change comes to, from rows alone.
 pub mod Model
+pub mod ModelLaws
 pub mod Conditions
 pub mod ConditionsLaws
+pub mod SameLaws

@@ -27,7 +27,7 @@ use Rattle.prelude.specs.Part.{Bytes, splice}
 use Rattle.prelude.specs.PartLaws.{padded-length}
 use Rattle.keeper_change.specs.Plain.{InOrderFor, Judged, plainMade, plainRead, plainChange}
 use Rattle.keeper_change.specs.Made.{Restorable, rowsBack, rowsMade, before, refreshed}
-use Rattle.keeper_change.specs.PlainLaws.{answer-done, answer-refused, number-asked, number-judged, plain-done, plain-kept, taken-back, whole-number}
+use Rattle.keeper_change.specs.PlainLaws.{plain-done, plain-kept, taken-back, whole-number}
 use Rattle.keeper_change.specs.Judged.{judgedWhole}
 use Rattle.keeper_change.specs.MadeLaws.{made-applicable, made-shape, row-table, row-within}
 use Rattle.keeper_change.specs.PlainLaws.{plain-order}
@@ -37,6 +37,7 @@ use Rattle.keeper.specs.Order.{orderAnswers}
 use Rattle.graph.specs.Graph.{Readable, closureRows}
 use Rattle.tables.specs.Shaped.{Shaped}
 use Rattle.change_model.specs.Model.{addedBy, changeNumber, answerTo}
+use Rattle.change_model.specs.ModelLaws.{answer-done, answer-refused, number-asked, number-judged}
 use Rattle.change_asked.specs.Asked.{firstAsked}
 use Rattle.tables_shape.specs.ShapeLaws.{formed-readable, says-formed, formed-shaped}
 use Rattle.rules.specs.declared.row.Added.{Added}

@@ -45,25 +45,6 @@ use Rattle.tables.specs.SameLaws.{same-reflexive}
 use Rattle.tables_shape.specs.ShapeLaws.{says-formed}
 use Rattle.schema.specs.Refusals as refusal
 
--- ---- the number of the model, in two steps
-
-module _ (change : Change) (r : List ℕ) (m : Schema) where
-  pub number-asked : ¬ (firstAsked change r m ≡ 0) → changeNumber change r m ≡ firstAsked change r m
-  unfolding changeNumber firstAsked
-  number-asked d = append-first (askedCases change r m) (resultCases change r m) d
-
-  pub number-judged : firstAsked change r m ≡ 0 → changeNumber change r m ≡ firstOf (resultCases change r m)
-  unfolding changeNumber firstAsked
-  number-judged z = append-second (askedCases change r m) (resultCases change r m) (omega arith) z
-
-  pub answer-refused : ¬ (changeNumber change r m ≡ 0) → answerTo (Read change) r m ≡ refused (changeNumber change r m)
-  unfolding answerTo
-  answer-refused d = rw (says-false (says-eq (changeNumber change r m) 0) d)
-
-  pub answer-done : changeNumber change r m ≡ 0 → answerTo (Read change) r m ≡ changed (tableFor change) (numberFor change r m)
-  unfolding answerTo
-  answer-done z = rw (says-true (says-eq (changeNumber change r m) 0) z)
-
 -- ---- what a plain change comes to once its stores are in order
 
 module _ (s : Stores) {o : Answer} (is : o ≡ firstAnswer (orderAnswers s) passed) where
