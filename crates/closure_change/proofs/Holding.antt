@@ -83,7 +83,6 @@ Done n k f o c now = now ≡ splice 0 (concatBelow c (rowWhere n k f o)) o
 
 module _ (n k : ℕ) (f : ℕ → List ℕ → List ℕ) (o : List ℕ) (long : closureLength ≤ length o)
     (wide : (c : ℕ) (row : List ℕ) → length row ≡ closureWidth → length (f c row) ≡ closureWidth) where
-
   rows-long : (c : ℕ) → c ≤ classLimit → length (concatBelow c (rowWhere n k f o)) ≡ closureWidth * c
   rows-long c l = concat-length (rowWhere n k f o) closureWidth c
       (λ i h. where-long o long i (omega arith) n k f (wide i (closureAt o i) (row-long o long i (omega arith))))

@@ -53,6 +53,16 @@ demandChanges (Reactivate u) r t before closure = false
 demandChanges AddEntry r t before closure = entryDemands (listOf r) (entryOf r) (targetOf r) closure
 demandChanges RemoveEntry r t before closure = not (sameBytes before (demandedSet t (targetOf r)))
 
+-- what is kept of the rows before: what the target of a removal demands
+abbrev pub demandBefore : Change → List ℕ → Table → List ℕ → List ℕ
+demandBefore (Add u) r t old = old
+demandBefore SetRange r t old = old
+demandBefore (Rename u) r t old = old
+demandBefore (Deactivate u) r t old = old
+demandBefore (Reactivate u) r t old = old
+demandBefore AddEntry r t old = old
+demandBefore RemoveEntry r t old = demandedSet t (targetOf r)
+
 -- what the code knows on its way: the stores can be read, and an entry that was added, with its class, lies within the closure store
 pub record Updatable (change : Change) (r classes closure : List ℕ) : Type 0 where
   pub carried : length r ≡ classWidth

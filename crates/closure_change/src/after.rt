@@ -27,12 +27,12 @@ ghost use lib.ListN.{length};
 ghost use Rattle.prelude.specs.Part.{sameBytes};
 ghost use Rattle.sets.specs.Sets.{subset};
 ghost use Rattle.schema.specs.Numbers.{classLimit};
-ghost use Rattle.schema.specs.Layout.{closureLength, closureWidth};
+ghost use Rattle.schema.specs.Layout.{attributeSet, classWidth, closureLength, closureWidth};
 ghost use Rattle.schema.specs.Store.{closureAt, demandedIn, tableIn};
 ghost use Rattle.schema.specs.declared.number.TableId.the-variants.{Classes};
 ghost use Rattle.graph.specs.Graph.{Readable, demandedSet};
 ghost use Rattle.closure_change.specs.Kept.{joinedInto, optionRow};
-ghost use Rattle.closure_change.specs.After.{Updatable, closureAfter, entryJoined, entryDemands, demandChanges};
+ghost use Rattle.closure_change.specs.After.{Updatable, closureAfter, entryJoined, entryDemands, demandBefore, demandChanges};
 
 // out becomes the kept sets of a class that allows attribute b alone.
 fn write_option(b: usize, out: &mut [u8])
@@ -94,17 +94,30 @@ pub fn update(change: Change, scratch: &[u8], classes: &[u8], n: usize, closure:
         Change::Reactivate(_) => {}
         Change::AddEntry => {
             let k = target_of(scratch) as usize;
-            join_entry(
-                list_of(scratch),
-                entry_of(scratch) as usize,
-                n,
-                k,
-                closure,
-            );
+            join_entry(list_of(scratch), entry_of(scratch) as usize, n, k, closure);
         }
         Change::RemoveEntry => {
             let k = target_of(scratch) as usize;
             refresh_holding(classes, n, k, closure);
+        }
+    }
+}
+
+// What the target of a removal demands before it is made: out becomes that, and stays for any other change.
+pub fn demand_before(change: Change, scratch: &[u8], classes: &[u8], out: &mut [u8])
+    requires { ⌜ (length (now scratch) ≡ classWidth) × Readable (now classes) × (length (now out) ≡ attributeSet) ⌝ }
+    ensures { λ _. ⌜ now (out .exit) ≡ demandBefore change (now (scratch .entry)) (tableIn Classes (now (classes .entry))) (now (out .entry)) ⌝ }
+{
+    match change {
+        Change::Add(_) => {}
+        Change::SetRange => {}
+        Change::Rename(_) => {}
+        Change::Deactivate(_) => {}
+        Change::Reactivate(_) => {}
+        Change::AddEntry => {}
+        Change::RemoveEntry => {
+            let k = ClassNumber(target_of(scratch) as usize);
+            write_demanded(classes, k, out);
         }
     }
 }

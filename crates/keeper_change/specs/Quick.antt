@@ -19,8 +19,8 @@ use Rattle.change_rows.specs.Rows.{numberFor, schemaAfter, tableFor}
 use Rattle.change_asked.specs.Asked.{askedCases}
 use Rattle.change_model.specs.Model.{addedBy, answerBy}
 use Rattle.closure_change.specs.After.{closureAfter, demandChanges}
-use Rattle.keeper.specs.Answering.{firstAnswer, shapeAnswers}
-use Rattle.keeper_change.specs.Made.{rowsMade}
+use Rattle.keeper.specs.Answering.{InShape, firstAnswer, shapeAnswers}
+use Rattle.keeper_change.specs.Made.{WasRead, rowsMade}
 use Rattle.schema.specs.Refusals as refusal
 
 -- 12 to 29 "for the changed row alone, against all rows", these after the change
@@ -60,3 +60,10 @@ quickRead read r s = result (quickAnswer read r s) (cond (eqb (quickAnswer read 
 
 unfoldable pub quickChange : List ℕ → Stores → Result
 quickChange x s = quickRead (readChange x .answer) (readChange x .row) s
+
+-- ---- what the code knows on its way
+
+-- a change that was read from bytes, and stores in shape
+pub record InShapeFor (change : Change) (r : List ℕ) (s : Stores) : Type 0 where
+  pub read : WasRead change r
+  pub shape : InShape s
