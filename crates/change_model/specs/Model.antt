@@ -48,12 +48,14 @@ changeCases change r m = askedCases change r m ++ resultCases change r m
 unfoldable pub changeNumber : Change → List ℕ → Schema → ℕ
 changeNumber change r m = firstOf (changeCases change r m)
 
--- the answer to what reading a change came to: "4 .. change unreadable; place is the byte offset"; "0 done; table and row changed or added"; "with
--- changes, table and place are 0 on refusal, but for 4"
+-- the answer of a number: "0 done; table and row changed or added"; "with changes, table and place are 0 on refusal, but for 4"
+unfoldable pub answerBy : Change → List ℕ → Schema → ℕ → Answer
+answerBy change r m n = cond (eqb n refusal.done) (changed (tableFor change) (numberFor change r m)) (refused n)
+
+-- the answer to what reading a change came to: "4 .. change unreadable; place is the byte offset", or a number from 5 on
 unfoldable pub answerTo : ChangeRead → List ℕ → Schema → Answer
 answerTo (Bad at) r m = changeAnswer (Bad at)
-answerTo (Read change) r m =
-    cond (eqb (changeNumber change r m) refusal.done) (changed (tableFor change) (numberFor change r m)) (refused (changeNumber change r m))
+answerTo (Read change) r m = answerBy change r m (changeNumber change r m)
 
 -- the rows after it: changed where it is done, else as they were
 unfoldable pub rowsAfter : ChangeRead → List ℕ → Schema → Schema

@@ -27,7 +27,7 @@ use Rattle.tables.specs.SameLaws.{any-same}
 use Rattle.prelude.specs.First.{_when_, firstOf}
 use Rattle.prelude.specs.FirstLaws.{append-cong, rising-nonzero}
 use Rattle.prelude.specs.SaysLaws.{says-eq, says-false, says-true, true-or-false}
-use Rattle.change_model.specs.Model.{addedBy, answerTo, changeNumber, resultCases, rowsAfter}
+use Rattle.change_model.specs.Model.{addedBy, answerTo, changeNumber, resultCases, rowsAfter, answerBy}
 use Rattle.change_model.specs.ModelLaws.{asked-zero, number-asked, number-judged}
 use Rattle.change_asked.specs.Asked.{additionAsked, baseTouched, entryConflict, firstAsked, stateWrong, stillNeeded, targetAsked}
 use Rattle.change_asked.specs.AskedLaws.{asked-absent, asked-addition, asked-target, asked-there}
@@ -155,7 +155,7 @@ module _ (change : Change) (r : List ℕ) {m n : Schema} (s : SameRows m n) wher
   row-number-same = ap (λ (c : ℕ). cond (isAddition change) c (targetOf r)) (s of .count)
 
   read-same : answerTo (Read change) r m ≡ answerTo (Read change) r n
-  unfolding answerTo
+  unfolding answerTo answerBy
   read-same = ap₂ (λ (x k : ℕ). cond (eqb x refusal.done) (changed of k) (refused x)) number-same row-number-same
 
 -- the answer, and the rows after it

@@ -1,0 +1,1 @@
+// The closure store after a change, worked out from the sets that it kept, and rule 30 of a quick change.
