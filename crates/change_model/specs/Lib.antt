@@ -4,3 +4,5 @@ pub mod ModelLaws
 pub mod Conditions
 pub mod ConditionsLaws
 pub mod SameLaws
+pub mod EditedLaws
+pub mod AloneLaws
