@@ -3,3 +3,4 @@ pub mod Kept
 pub mod After
 pub mod KeptLaws
 pub mod JoinedLaws
+pub mod FreshLaws
