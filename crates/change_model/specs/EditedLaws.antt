@@ -1,7 +1,10 @@
 -- What the row that a change leaves has from the row before it: every field but the one that is replaced.
+use Rattle.schema.specs.ClassRow.{openAuxiliaryOf, openOptionalOf}
+use Rattle.graph.specs.Changes.{AuxiliaryMore, OptionalMore, SameLists, SameNames}
+use Rattle.schema.specs.Layout.{classSet, fixedAuxiliaryAt, fixedOptionalAt, openAuxiliaryAt, openOptionalAt, openSuperiorAt}
 use Rattle.change_read.specs.declared.read.Change.the-variants.{Add, SetRange, Rename, Deactivate, Reactivate, AddEntry, RemoveEntry}
 use Rattle.change_read.specs.declared.carried.OpenList.the-variants.{Optional, Auxiliary, Superior}
-use Rattle.prelude.specs.SpliceLaws.{splice-at-before, part-splice-before, splice-at-after, part-splice-after, splice-at-same}
+use Rattle.prelude.specs.SpliceLaws.{splice-at-before, part-splice-before, splice-at-after, part-splice-after, splice-at-same, part-splice-same}
 use Rattle.prelude.specs.BigEndianLaws.{number-in-part}
 use Rattle.rows_format.specs.Formats.{newNameAt, newLowerAt}
 use Rattle.sets.specs.SetsLaws.{with-length, without-length}
@@ -146,3 +149,75 @@ edited-state (Deactivate t) r row e l wide dead = inr tt
 edited-state (Reactivate t) r row e l wide dead = absurd (false≢true (sym (state-cell t 0 row wide) ∙ dead))
 edited-state AddEntry r row e l wide dead = inl (sym (list-state (listOf r) _ row (with-wide (listOf r) (entryOf r) row wide) wide) ∙ dead)
 edited-state RemoveEntry r row e l wide dead = inl (sym (list-state (listOf r) _ row (without-wide (listOf r) (entryOf r) row wide) wide) ∙ dead)
+
+-- ---- what the class graph sees of it
+
+-- a cell of what every row begins with
+module _ (at : ℕ) (new row : List ℕ) (front : at + length new ≤ commonWidth) (wide : length row ≡ classWidth) where
+  front-part : (b n : ℕ) → commonWidth ≤ b → part b n (splice at new row) ≡ part b n row
+  front-part b n l = part-kept at new row (omega arith) b n (inr (omega arith))
+
+  pub front-names : SameNames row (splice at new row)
+  front-names = record {
+    superclass = byte-kept at new row (omega arith) superclassAt (inr (omega arith));
+    fixedAuxiliary = front-part fixedAuxiliaryAt classSet (omega arith);
+    openAuxiliary = front-part openAuxiliaryAt classSet (omega arith);
+  }
+
+  pub front-lists : SameLists row (splice at new row)
+  front-lists = record {
+    mandatory = front-part mandatoryAt attributeSet (omega arith);
+    fixedOptional = front-part fixedOptionalAt attributeSet (omega arith);
+    openOptional = front-part openOptionalAt attributeSet (omega arith);
+  }
+
+-- the open list of possible superiors
+module _ (new row : List ℕ) (n : length new ≡ classSet) (wide : length row ≡ classWidth) where
+  superior-part : (b w : ℕ) → b + w ≤ openSuperiorAt → part b w (splice openSuperiorAt new row) ≡ part b w row
+  superior-part b w l = part-kept openSuperiorAt new row (omega arith) b w (inl l)
+
+  pub superior-names : SameNames row (splice openSuperiorAt new row)
+  superior-names = record {
+    superclass = byte-kept openSuperiorAt new row (omega arith) superclassAt (inl (omega arith));
+    fixedAuxiliary = superior-part fixedAuxiliaryAt classSet (omega arith);
+    openAuxiliary = superior-part openAuxiliaryAt classSet (omega arith);
+  }
+
+  pub superior-lists : SameLists row (splice openSuperiorAt new row)
+  superior-lists = record {
+    mandatory = superior-part mandatoryAt attributeSet (omega arith);
+    fixedOptional = superior-part fixedOptionalAt attributeSet (omega arith);
+    openOptional = superior-part openOptionalAt attributeSet (omega arith);
+  }
+
+-- an entry more
+module _ (k : ℕ) (row : List ℕ) (wide : length row ≡ classWidth) where
+  pub auxiliary-more : AuxiliaryMore k row (splice openAuxiliaryAt (withMember k (openAuxiliaryOf row)) row)
+  auxiliary-more =
+      let new = withMember k (openAuxiliaryOf row) in
+      let n : length new ≡ classSet = with-wide Auxiliary k row wide in
+      record {
+        superclass = byte-kept openAuxiliaryAt new row (omega arith) superclassAt (inl (omega arith));
+        fixedAuxiliary = part-kept openAuxiliaryAt new row (omega arith) fixedAuxiliaryAt classSet (inl (omega arith));
+        openAuxiliary = part-splice-same openAuxiliaryAt new row (omega arith) classSet (sym n);
+        lists = record {
+          mandatory = part-kept openAuxiliaryAt new row (omega arith) mandatoryAt attributeSet (inl (omega arith));
+          fixedOptional = part-kept openAuxiliaryAt new row (omega arith) fixedOptionalAt attributeSet (inl (omega arith));
+          openOptional = part-kept openAuxiliaryAt new row (omega arith) openOptionalAt attributeSet (inl (omega arith));
+        };
+      }
+
+  pub optional-more : OptionalMore k row (splice openOptionalAt (withMember k (openOptionalOf row)) row)
+  optional-more =
+      let new = withMember k (openOptionalOf row) in
+      let n : length new ≡ attributeSet = with-wide Optional k row wide in
+      record {
+        mandatory = part-kept openOptionalAt new row (omega arith) mandatoryAt attributeSet (inl (omega arith));
+        fixedOptional = part-kept openOptionalAt new row (omega arith) fixedOptionalAt attributeSet (inl (omega arith));
+        openOptional = part-splice-same openOptionalAt new row (omega arith) attributeSet (sym n);
+        names = record {
+          superclass = byte-kept openOptionalAt new row (omega arith) superclassAt (inl (omega arith));
+          fixedAuxiliary = part-kept openOptionalAt new row (omega arith) fixedAuxiliaryAt classSet (inr (omega arith));
+          openAuxiliary = part-kept openOptionalAt new row (omega arith) openAuxiliaryAt classSet (inr (omega arith));
+        };
+      }
