@@ -6,3 +6,6 @@ pub mod ConditionsLaws
 pub mod SameLaws
 pub mod EditedLaws
 pub mod AloneLaws
+pub mod Accepted
+pub mod ThereLaws
+pub mod QuickLaws
