@@ -9,3 +9,4 @@ pub mod AloneLaws
 pub mod Accepted
 pub mod ThereLaws
 pub mod QuickLaws
+pub mod AgreeLaws

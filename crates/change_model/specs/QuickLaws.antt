@@ -58,7 +58,7 @@ module _ (change : Change) (r : List ℕ) (m : Schema) (closure : List ℕ) (s :
   room e = asked-room change r m (s .asked) e
 
   target-whole : isAddition change ≡ false → length (table (tableFor change) m .row (targetOf r)) ≡ rowWidth (tableFor change)
-  target-whole e = s .wide (tableFor change) (targetOf r) (omega (arith, there e, s .few (tableFor change)))
+  target-whole e = s .sound .wide (tableFor change) (targetOf r) (omega (arith, there e, s .sound .few (tableFor change)))
 
 -- ---- an entry was added to a list of class k
 
@@ -132,27 +132,27 @@ module _ (r : List ℕ) (m : Schema) (closure : List ℕ) where
   pub closure-agrees : (change : Change) → Accepted change r m closure → (c : ℕ) → c < classLimit
       → closureAt (closureAfter change r (after change) (before .count) closure) c ≡ closureRow (after change) c
   unfolding schemaAfter tableAfter editedRow
-  closure-agrees (Add Attributes) s c l = s .fresh c l
+  closure-agrees (Add Attributes) s c l = s .sound .fresh c l
   closure-agrees (Add Classes) s c l =
       let free = room (Add Classes) r m closure s refl in
-      class-fresh before (s .few Classes) closure (s .long) (s .fresh) (addedRow Classes r) (part-length 0 classWidth r (omega (arith, s .carried))) free
-      (unnamed m (s .kept) free) c l
-  closure-agrees SetRange s c l = s .fresh c l
-  closure-agrees (Rename Attributes) s c l = s .fresh c l
+      class-fresh before (s .sound .few Classes) closure (s .sound .long) (s .sound .fresh) (addedRow Classes r) (part-length 0 classWidth r (omega (arith, s .sound .carried))) free
+      (unnamed m (s .sound .kept) free) c l
+  closure-agrees SetRange s c l = s .sound .fresh c l
+  closure-agrees (Rename Attributes) s c l = s .sound .fresh c l
   closure-agrees (Rename Classes) s c l =
-      s .fresh c l ∙ front-closure before (targetOf r) nameAt (newName r) (omega (arith, name-wide r (s .carried)))
+      s .sound .fresh c l ∙ front-closure before (targetOf r) nameAt (newName r) (omega (arith, name-wide r (s .sound .carried)))
       (target-whole (Rename Classes) r m closure s refl) c
-  closure-agrees (Deactivate Attributes) s c l = s .fresh c l
+  closure-agrees (Deactivate Attributes) s c l = s .sound .fresh c l
   closure-agrees (Deactivate Classes) s c l =
-      s .fresh c l ∙ front-closure before (targetOf r) defunctAt (1 ∷ []) (omega arith) (target-whole (Deactivate Classes) r m closure s refl) c
-  closure-agrees (Reactivate Attributes) s c l = s .fresh c l
+      s .sound .fresh c l ∙ front-closure before (targetOf r) defunctAt (1 ∷ []) (omega arith) (target-whole (Deactivate Classes) r m closure s refl) c
+  closure-agrees (Reactivate Attributes) s c l = s .sound .fresh c l
   closure-agrees (Reactivate Classes) s c l =
-      s .fresh c l ∙ front-closure before (targetOf r) defunctAt (0 ∷ []) (omega arith) (target-whole (Reactivate Classes) r m closure s refl) c
+      s .sound .fresh c l ∙ front-closure before (targetOf r) defunctAt (0 ∷ []) (omega arith) (target-whole (Reactivate Classes) r m closure s refl) c
   closure-agrees AddEntry s c l =
-      entry-fresh m closure (s .few) (s .long) (s .fresh) (targetOf r) (there AddEntry r m closure s refl) (target-whole AddEntry r m closure s refl)
+      entry-fresh m closure (s .sound .few) (s .sound .long) (s .sound .fresh) (targetOf r) (there AddEntry r m closure s refl) (target-whole AddEntry r m closure s refl)
       (listOf r) (entryOf r) (entry-there r m (s .passed)) c l
   closure-agrees RemoveEntry s c l =
-      refreshed-fresh before (s .few Classes) closure (s .long) (s .fresh) (targetOf r) (editedRow RemoveEntry r (before .row (targetOf r)))
+      refreshed-fresh before (s .sound .few Classes) closure (s .sound .long) (s .sound .fresh) (targetOf r) (editedRow RemoveEntry r (before .row (targetOf r)))
       (there RemoveEntry r m closure s refl) c l
 
   -- rule 30 is judged as by the rows
@@ -161,11 +161,11 @@ module _ (r : List ℕ) (m : Schema) (closure : List ℕ) where
   unfolding schemaAfter tableAfter editedRow
   demand-agrees (Add Attributes) s = no-difference before
   demand-agrees (Add Classes) s =
-      sym (rule30-class before (addedRow Classes r) (unnamed m (s .kept) (room (Add Classes) r m closure s refl)))
+      sym (rule30-class before (addedRow Classes r) (unnamed m (s .sound .kept) (room (Add Classes) r m closure s refl)))
   demand-agrees SetRange s = no-difference before
   demand-agrees (Rename Attributes) s = no-difference before
   demand-agrees (Rename Classes) s =
-      front-demand before (targetOf r) nameAt (newName r) (omega (arith, name-wide r (s .carried))) (target-whole (Rename Classes) r m closure s refl)
+      front-demand before (targetOf r) nameAt (newName r) (omega (arith, name-wide r (s .sound .carried))) (target-whole (Rename Classes) r m closure s refl)
   demand-agrees (Deactivate Attributes) s = no-difference before
   demand-agrees (Deactivate Classes) s =
       front-demand before (targetOf r) defunctAt (1 ∷ []) (omega arith) (target-whole (Deactivate Classes) r m closure s refl)
@@ -173,7 +173,7 @@ module _ (r : List ℕ) (m : Schema) (closure : List ℕ) where
   demand-agrees (Reactivate Classes) s =
       front-demand before (targetOf r) defunctAt (0 ∷ []) (omega arith) (target-whole (Reactivate Classes) r m closure s refl)
   demand-agrees AddEntry s =
-      entry-demand m closure (s .few) (s .long) (s .fresh) (targetOf r) (there AddEntry r m closure s refl) (target-whole AddEntry r m closure s refl)
+      entry-demand m closure (s .sound .few) (s .sound .long) (s .sound .fresh) (targetOf r) (there AddEntry r m closure s refl) (target-whole AddEntry r m closure s refl)
       (listOf r) (entryOf r) (entry-there r m (s .passed))
   demand-agrees RemoveEntry s =
       sym (rule30-target before (targetOf r) (editedRow RemoveEntry r (before .row (targetOf r))) (there RemoveEntry r m closure s refl))
@@ -195,7 +195,7 @@ module _ (r : List ℕ) (m : Schema) (closure : List ℕ) where
       → closureRow (after change) c ≡ closureRow before c
   unfolding schemaAfter tableAfter numberFor
   rows-kept (Add Attributes) s c d = refl
-  rows-kept (Add Classes) s c (inl d) = closure-before before (editedRow (Add Classes) r []) (unnamed m (s .kept) (room (Add Classes) r m closure s refl)) c
+  rows-kept (Add Classes) s c (inl d) = closure-before before (editedRow (Add Classes) r []) (unnamed m (s .sound .kept) (room (Add Classes) r m closure s refl)) c
       (λ e. d (rw e (record { present = omega (arith, plus-count before (editedRow (Add Classes) r [])); walk = here })))
   rows-kept (Add Classes) s c (inr q) = absurd (apart (sym q))
   rows-kept SetRange s c d = refl
@@ -211,4 +211,4 @@ module _ (r : List ℕ) (m : Schema) (closure : List ℕ) where
   pub kept-untouched : (change : Change) → Accepted change r m closure → (c : ℕ) → c < classLimit
       → ¬ (ReachesChanged change c) ⊎ (tableFor change ≡ Attributes)
       → closureAt (closureAfter change r (after change) (before .count) closure) c ≡ closureAt closure c
-  kept-untouched change s c l d = closure-agrees change s c l ∙ rows-kept change s c d ∙ sym (s .fresh c l)
+  kept-untouched change s c l d = closure-agrees change s c l ∙ rows-kept change s c d ∙ sym (s .sound .fresh c l)

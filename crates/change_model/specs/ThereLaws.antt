@@ -6,7 +6,7 @@ use Prim.Native.Nat.{_<_, ℕ}
 use mathlib.Core.Bool.{false}
 use mathlib.Core.List.{List}
 use mathlib.Core.Logic.{_⊎_, inl, inr, ⊎-elim}
-use mathlib.Core.Path.{_∙_, _≡_, refl, sym}
+use mathlib.Core.Path.{_∙_, _≡_, refl, subst, sym}
 use Rattle.schema.specs.declared.number.TableId.{TableId}
 use Rattle.schema.specs.declared.number.TableId.the-variants.{Attributes, Classes}
 use Rattle.schema.specs.declared.number.ClassNumber.{ClassNumber}
@@ -14,8 +14,13 @@ use Rattle.schema.specs.Numbers.{classLimit}
 use Rattle.schema.specs.NumbersLaws.{says-same-table}
 use Rattle.schema.specs.ClassRow.{superclassOf}
 use Rattle.schema.specs.Store.{Schema, Table, table, withRow}
-use Rattle.change_read.specs.declared.read.Change.the-variants.{AddEntry}
+use Rattle.change_read.specs.declared.read.Change.the-variants.{Add, AddEntry}
 use Rattle.change_read.specs.Carried.{entryOf, listOf, targetOf}
+use Rattle.change_read.specs.declared.read.Change.{Change}
+use Rattle.change_read.specs.declared.carried.OpenList.{OpenList}
+use Rattle.change_read.specs.declared.carried.OpenList.the-variants.{Auxiliary, Optional}
+use Rattle.change_asked.specs.Asked.{firstAsked}
+use Rattle.change_asked.specs.AskedLaws.{asked-room}
 use Rattle.change_rows.specs.Lists.{listTable}
 use Rattle.change_rows.specs.Rows.{numberFor, schemaAfter, tableAfter}
 use Rattle.prelude.specs.First.{NoneHolds, firstOf}
@@ -74,7 +79,18 @@ entry-there r m z =
     let of = listTable (listOf r) in
     omega (arith, entry-has-row (record { 0 = targetOf r }) of (entryOf r) (schemaAfter AddEntry r m) z, entry-count of r m)
 
+-- of an open list of classes it is a class, and of the open list of attributes an attribute
+pub entry-class : (r : List ℕ) (m : Schema) → rowNumber AddEntry r m ≡ 0 → listOf r ≡ Auxiliary → entryOf r < m .classes .count
+entry-class r m z e = subst (λ (list : OpenList). entryOf r < table (listTable list) m .count) e (entry-there r m z)
+
+pub entry-attribute : (r : List ℕ) (m : Schema) → rowNumber AddEntry r m ≡ 0 → listOf r ≡ Optional → entryOf r < m .attributes .count
+entry-attribute r m z e = subst (λ (list : OpenList). entryOf r < table (listTable list) m .count) e (entry-there r m z)
+
 -- ---- the number of an added class
+
+-- it is within the limit
+pub class-room : (change : Change) (r : List ℕ) (m : Schema) → firstAsked change r m ≡ 0 → change ≡ Add Classes → m .classes .count < classLimit
+class-room change r m z e = asked-room (Add Classes) r m (subst (λ (x : Change). firstAsked x r m ≡ 0) e z) refl
 
 module _ (m : Schema) (kept : AllKept Nothing m) (room : m .classes .count < classLimit) (x : ℕ) (l : x < m .classes .count) where
   abbrev c : Table
