@@ -50,7 +50,8 @@ module _ (at : ℕ) (new row : List ℕ) (fits : at + length new ≤ length row)
   number-kept : (b n : ℕ) → (b + n ≤ at) ⊎ (at + length new ≤ b) → bigEndian n b (splice at new row) ≡ bigEndian n b row
   number-kept b n d =
       let z : b + 0 ≡ b = omega arith in
-      rw z at (sym (number-in-part n 0 b n (splice at new row) (omega arith)) ∙ ap (bigEndian n 0) (part-kept b n d) ∙ number-in-part n 0 b n row (omega arith))
+      rw z at (sym (number-in-part n 0 b n (splice at new row) (omega arith))
+      ∙ ap (bigEndian n 0) (part-kept b n d) ∙ number-in-part n 0 b n row (omega arith))
 
 -- ---- what no change gives another value
 

@@ -7,11 +7,10 @@ use mathlib.Core.Bool.{false, not, true}
 use mathlib.Core.List.{List, [], _∷_}
 use mathlib.Core.Logic.{_⊎_, inl, inr}
 use mathlib.Core.Path.{_∙_, _≡_, ap, ap₂, refl, sym}
-use Rattle.schema.specs.declared.number.TableId.{TableId}
 use Rattle.schema.specs.declared.number.TableId.the-variants.{Attributes, Classes}
 use Rattle.schema.specs.Numbers.{classLimit, limit}
 use Rattle.schema.specs.NumbersLaws.{apart}
-use Rattle.schema.specs.Layout.{attributeSet, classSet, classWidth, closureLength, demandedAt, nameAt, defunctAt, rowWidth, commonWidth}
+use Rattle.schema.specs.Layout.{attributeSet, classSet, classWidth, demandedAt, nameAt, defunctAt, rowWidth, commonWidth}
 use Rattle.schema.specs.ClassRow.{openAuxiliaryOf, openOptionalOf, openSuperiorOf}
 use Rattle.schema.specs.Store.{Schema, Table, closureAt, demandedIn, table, withRow}
 use Rattle.schema.specs.StoreLaws.{plus-count}
@@ -36,7 +35,7 @@ use Rattle.graph.specs.ClosureLaws.{closure-before, closure-kept, closure-untou
 use Rattle.graph.specs.ClosureLaws.{rule30-untouched}
 use Rattle.closure_change.specs.After.{closureAfter, demandChanges, entryDemands, entryJoined}
 use Rattle.closure_change.specs.FreshLaws.{auxiliary-fresh, class-fresh, optional-fresh, refreshed-fresh}
-use Rattle.change_model.specs.Accepted.{Accepted}
+use Rattle.change_model.specs.Accepted.{Accepted, Sound}
 use Rattle.change_model.specs.EditedLaws.{auxiliary-more, front-lists, front-names, name-wide, open-wide, optional-more, superior-lists}
 use Rattle.change_model.specs.EditedLaws.{superior-names, with-wide}
 use Rattle.change_model.specs.ThereLaws.{entry-there, unnamed}
@@ -50,7 +49,7 @@ no-difference t = sym (any-false (λ c. not (sameBytes (demandedSet t c) (demand
 
 -- ---- a change that was accepted
 
-module _ (change : Change) (r : List ℕ) (m : Schema) (closure : List ℕ) (s : Accepted change r m closure) where
+module _ {change : Change} {r : List ℕ} {m : Schema} {closure : List ℕ} (s : Accepted change r m closure) where
   there : isAddition change ≡ false → targetOf r < table (tableFor change) m .count
   there e = asked-there change r m (s .asked) e
 
@@ -60,11 +59,15 @@ module _ (change : Change) (r : List ℕ) (m : Schema) (closure : List ℕ) (s :
   target-whole : isAddition change ≡ false → length (table (tableFor change) m .row (targetOf r)) ≡ rowWidth (tableFor change)
   target-whole e = s .sound .wide (tableFor change) (targetOf r) (omega (arith, there e, s .sound .few (tableFor change)))
 
+-- the number of an added class is not named yet
+new-unnamed : {r : List ℕ} {m : Schema} {closure : List ℕ} → Accepted (Add Classes) r m closure → (x : ℕ) → x < m .classes .count
+    → inherits (m .classes) x (m .classes .count) ≡ false
+new-unnamed {r} {m} s = unnamed m (s .sound .kept) (room s refl)
+
 -- ---- an entry was added to a list of class k
 
-module _ (m : Schema) (closure : List ℕ) (few : (t : TableId) → table t m .count ≤ limit t) (long : closureLength ≤ length closure)
-    (fresh : (c : ℕ) → c < classLimit → closureAt closure c ≡ closureRow (m .classes) c)
-    (k : ℕ) (present : k < m .classes .count) (wide : length (m .classes .row k) ≡ classWidth) where
+module _ {r : List ℕ} {m : Schema} {closure : List ℕ} (s : Sound r m closure) (k : ℕ) (present : k < m .classes .count)
+    (wide : length (m .classes .row k) ≡ classWidth) where
   abbrev t : Table
   t = m .classes
 
@@ -79,23 +82,24 @@ module _ (m : Schema) (closure : List ℕ) (few : (t : TableId) → table t m .c
   superior-wide x = with-wide Superior x row wide
 
   class-room : (x : ℕ) → x < t .count → x < length (openAuxiliaryOf row) * 8
-  class-room x l = let w = open-wide Auxiliary row wide in omega (arith, few Classes)
+  class-room x l = let w = open-wide Auxiliary row wide in omega (arith, s .few Classes)
 
   attribute-room : (x : ℕ) → x < m .attributes .count → x < length (openOptionalOf row) * 8
-  attribute-room x l = let w = open-wide Optional row wide in omega (arith, few Attributes)
+  attribute-room x l = let w = open-wide Optional row wide in omega (arith, s .few Attributes)
 
   entry-fresh : (list : OpenList) (x : ℕ) → x < table (listTable list) m .count → (c : ℕ) → c < classLimit
       → closureAt (entryJoined list x (t .count) k closure) c ≡ closureRow (withRow t k (entered list x)) c
-  entry-fresh Optional x h c l = optional-fresh t (few Classes) closure long fresh k (entered Optional x) present x (attribute-room x h)
+  entry-fresh Optional x h c l = optional-fresh t (s .few Classes) closure (s .long) (s .fresh) k (entered Optional x) present x (attribute-room x h)
       (optional-more x row wide) c l
-  entry-fresh Auxiliary x h c l = auxiliary-fresh t (few Classes) closure long fresh k (entered Auxiliary x) present x h (class-room x h)
+  entry-fresh Auxiliary x h c l = auxiliary-fresh t (s .few Classes) closure (s .long) (s .fresh) k (entered Auxiliary x) present x h (class-room x h)
       (auxiliary-more x row wide) c l
   entry-fresh Superior x h c l =
-      fresh c l ∙ sym (closure-untouched t k (entered Superior x) (superior-names _ row (superior-wide x) wide) (superior-lists _ row (superior-wide x) wide) c)
+      s .fresh c l
+      ∙ sym (closure-untouched t k (entered Superior x) (superior-names _ row (superior-wide x) wide) (superior-lists _ row (superior-wide x) wide) c)
 
   kept-demands : (c : ℕ) → c < t .count → demandedIn closure c ≡ demandedSet t c
   unfolding demandedSet
-  kept-demands c l = ap (part demandedAt attributeSet) (fresh c (omega (arith, few Classes))) ∙ demanded-part t c
+  kept-demands c l = ap (part demandedAt attributeSet) (s .fresh c (omega (arith, s .few Classes))) ∙ demanded-part t c
 
   entry-demand : (list : OpenList) (x : ℕ) → x < table (listTable list) m .count
       → entryDemands list x k closure ≡ mandatoryDiffers t (withRow t k (entered list x))
@@ -134,26 +138,27 @@ module _ (r : List ℕ) (m : Schema) (closure : List ℕ) where
   unfolding schemaAfter tableAfter editedRow
   closure-agrees (Add Attributes) s c l = s .sound .fresh c l
   closure-agrees (Add Classes) s c l =
-      let free = room (Add Classes) r m closure s refl in
-      class-fresh before (s .sound .few Classes) closure (s .sound .long) (s .sound .fresh) (addedRow Classes r) (part-length 0 classWidth r (omega (arith, s .sound .carried))) free
-      (unnamed m (s .sound .kept) free) c l
+      let b = s .sound in
+      class-fresh before (b .few Classes) closure (b .long) (b .fresh) (addedRow Classes r) (part-length 0 classWidth r (omega (arith, b .carried)))
+      (room s refl) (new-unnamed s) c l
   closure-agrees SetRange s c l = s .sound .fresh c l
   closure-agrees (Rename Attributes) s c l = s .sound .fresh c l
   closure-agrees (Rename Classes) s c l =
       s .sound .fresh c l ∙ front-closure before (targetOf r) nameAt (newName r) (omega (arith, name-wide r (s .sound .carried)))
-      (target-whole (Rename Classes) r m closure s refl) c
+      (target-whole s refl) c
   closure-agrees (Deactivate Attributes) s c l = s .sound .fresh c l
   closure-agrees (Deactivate Classes) s c l =
-      s .sound .fresh c l ∙ front-closure before (targetOf r) defunctAt (1 ∷ []) (omega arith) (target-whole (Deactivate Classes) r m closure s refl) c
+      s .sound .fresh c l ∙ front-closure before (targetOf r) defunctAt (1 ∷ []) (omega arith) (target-whole s refl) c
   closure-agrees (Reactivate Attributes) s c l = s .sound .fresh c l
   closure-agrees (Reactivate Classes) s c l =
-      s .sound .fresh c l ∙ front-closure before (targetOf r) defunctAt (0 ∷ []) (omega arith) (target-whole (Reactivate Classes) r m closure s refl) c
+      s .sound .fresh c l ∙ front-closure before (targetOf r) defunctAt (0 ∷ []) (omega arith) (target-whole s refl) c
   closure-agrees AddEntry s c l =
-      entry-fresh m closure (s .sound .few) (s .sound .long) (s .sound .fresh) (targetOf r) (there AddEntry r m closure s refl) (target-whole AddEntry r m closure s refl)
+      entry-fresh (s .sound) (targetOf r) (there s refl) (target-whole s refl)
       (listOf r) (entryOf r) (entry-there r m (s .passed)) c l
   closure-agrees RemoveEntry s c l =
-      refreshed-fresh before (s .sound .few Classes) closure (s .sound .long) (s .sound .fresh) (targetOf r) (editedRow RemoveEntry r (before .row (targetOf r)))
-      (there RemoveEntry r m closure s refl) c l
+      let b = s .sound in
+      refreshed-fresh before (b .few Classes) closure (b .long) (b .fresh) (targetOf r) (editedRow RemoveEntry r (before .row (targetOf r)))
+      (there s refl) c l
 
   -- rule 30 is judged as by the rows
   pub demand-agrees : (change : Change) → Accepted change r m closure
@@ -161,22 +166,22 @@ module _ (r : List ℕ) (m : Schema) (closure : List ℕ) where
   unfolding schemaAfter tableAfter editedRow
   demand-agrees (Add Attributes) s = no-difference before
   demand-agrees (Add Classes) s =
-      sym (rule30-class before (addedRow Classes r) (unnamed m (s .sound .kept) (room (Add Classes) r m closure s refl)))
+      sym (rule30-class before (addedRow Classes r) (new-unnamed s))
   demand-agrees SetRange s = no-difference before
   demand-agrees (Rename Attributes) s = no-difference before
   demand-agrees (Rename Classes) s =
-      front-demand before (targetOf r) nameAt (newName r) (omega (arith, name-wide r (s .sound .carried))) (target-whole (Rename Classes) r m closure s refl)
+      front-demand before (targetOf r) nameAt (newName r) (omega (arith, name-wide r (s .sound .carried))) (target-whole s refl)
   demand-agrees (Deactivate Attributes) s = no-difference before
   demand-agrees (Deactivate Classes) s =
-      front-demand before (targetOf r) defunctAt (1 ∷ []) (omega arith) (target-whole (Deactivate Classes) r m closure s refl)
+      front-demand before (targetOf r) defunctAt (1 ∷ []) (omega arith) (target-whole s refl)
   demand-agrees (Reactivate Attributes) s = no-difference before
   demand-agrees (Reactivate Classes) s =
-      front-demand before (targetOf r) defunctAt (0 ∷ []) (omega arith) (target-whole (Reactivate Classes) r m closure s refl)
+      front-demand before (targetOf r) defunctAt (0 ∷ []) (omega arith) (target-whole s refl)
   demand-agrees AddEntry s =
-      entry-demand m closure (s .sound .few) (s .sound .long) (s .sound .fresh) (targetOf r) (there AddEntry r m closure s refl) (target-whole AddEntry r m closure s refl)
+      entry-demand (s .sound) (targetOf r) (there s refl) (target-whole s refl)
       (listOf r) (entryOf r) (entry-there r m (s .passed))
   demand-agrees RemoveEntry s =
-      sym (rule30-target before (targetOf r) (editedRow RemoveEntry r (before .row (targetOf r))) (there RemoveEntry r m closure s refl))
+      sym (rule30-target before (targetOf r) (editedRow RemoveEntry r (before .row (targetOf r))) (there s refl))
 
   -- ---- a class that does not then reach the changed class keeps its sets, and every class does where the change is about an attribute
 
@@ -195,7 +200,7 @@ module _ (r : List ℕ) (m : Schema) (closure : List ℕ) where
       → closureRow (after change) c ≡ closureRow before c
   unfolding schemaAfter tableAfter numberFor
   rows-kept (Add Attributes) s c d = refl
-  rows-kept (Add Classes) s c (inl d) = closure-before before (editedRow (Add Classes) r []) (unnamed m (s .sound .kept) (room (Add Classes) r m closure s refl)) c
+  rows-kept (Add Classes) s c (inl d) = closure-before before (editedRow (Add Classes) r []) (new-unnamed s) c
       (λ e. d (rw e (record { present = omega (arith, plus-count before (editedRow (Add Classes) r [])); walk = here })))
   rows-kept (Add Classes) s c (inr q) = absurd (apart (sym q))
   rows-kept SetRange s c d = refl
