@@ -2,9 +2,9 @@
 use lib.Dec.{eqb, ltb}
 use lib.ListN.{length}
 use native.Mathlib.Omega.{arith}
-use native.Mathlib.Decide.{decLt, ℕ-discrete}
+use native.Mathlib.Decide.{ℕ-discrete}
 use Prim.Native.Nat.{_*_, _+_, _<_, _≤_, ℕ}
-use mathlib.Core.Bool.{Bool, _&&_, _||_, cond, false, true, true≢false}
+use mathlib.Core.Bool.{Bool, _&&_, _||_, cond, false, true}
 use mathlib.Core.List.{List}
 use mathlib.Core.Logic.{_⊎_, inl, inr}
 use mathlib.Core.Path.{_∙_, _≡_, ap, ap₂, refl, sym}
@@ -14,12 +14,13 @@ use Rattle.schema.specs.ClassRow.{fixedOptionalOf, mandatoryOf, openAuxiliaryOf
 use Rattle.schema.specs.Store.{Table, closureAt, plusRow, withRow}
 use Rattle.schema.specs.StoreLaws.{plus-last}
 use Rattle.prelude.specs.Below.{anyBelow}
-use Rattle.prelude.specs.BelowLaws.{any-cong, says-any}
+use Rattle.prelude.specs.BelowLaws.{any-cong, any-fewer}
 use Rattle.prelude.specs.Part.{part, zeros}
 use Rattle.prelude.specs.PartLaws.{part-length, zeros-length}
-use Rattle.prelude.specs.SaysLaws.{says-and, says-false, says-iff, says-lt, says-same, says-test, true-or-false}
+use Rattle.prelude.specs.SaysLaws.{says-and, says-false, says-iff, says-lt, says-same, true-or-false}
 use Rattle.sets.specs.Sets.{member, union, withMember}
-use Rattle.sets.specs.SetsLaws.{member-within, or-false, union-length, with-length}
+use Rattle.sets.specs.SideLaws.{member-alone, member-union}
+use Rattle.sets.specs.SetsLaws.{and-false, member-within, or-false, union-length, with-length}
 use Rattle.graph.specs.Graph.{allows, closureRow, collectsBy, demands, inherits, listsMandatory, listsOptional, reaches}
 use Rattle.graph.specs.GraphLaws.{says-collects, says-reaches}
 use Rattle.graph.specs.FreshLaws.{reached-part}
@@ -27,7 +28,7 @@ use Rattle.graph.specs.Changes.{AuxiliaryMore, OptionalMore}
 use Rattle.graph.specs.ClosureLaws.{closure-before, closure-joined, closure-kept, closure-listed, closure-new}
 use Rattle.closure_change.specs.Kept.{holds, joinedInto, namedSets, newRow, optionRow, ownRow, refreshedAt, rowWhere, withNew}
 use Rattle.closure_change.specs.KeptLaws.{each-at, fresh-wide, joined-wide, with-new-other, with-new-same}
-use Rattle.closure_change.specs.JoinedLaws.{member-alone, member-first, member-second, member-third, option-joined, three, three-cong, three-split}
+use Rattle.closure_change.specs.JoinedLaws.{member-first, member-second, member-third, option-joined, three, three-cong, three-split}
 use Rattle.closure_change.specs.JoinedLaws.{union-three}
 
 -- either of two tests, in the other order
@@ -36,23 +37,6 @@ or-swap true b true e = refl
 or-swap true b false e = refl
 or-swap false b true e = e
 or-swap false b false e = e
-
-and-none : (a b : Bool) → b ≡ false → (a && b) ≡ false
-and-none true b e = e
-and-none false b e = refl
-
--- some number below m passes, and those from n on do not
-any-fewer : (n m : ℕ) (p : ℕ → Bool) → n ≤ m → ((k : ℕ) → n ≤ k → p k ≡ false) → anyBelow m p ≡ anyBelow n p
-any-fewer n m p h none =
-    says-same (says-any m (λ k l. says-test (p k)))
-    (says-iff (says-any n (λ k l. says-test (p k))) (
-      λ s. record { at = s .at; below = omega (arith, s .below); is = s .is },
-      λ s. record { at = s .at; below = within (s .at) (s .is) (decLt (s .at) n); is = s .is },
-    ))
-  where
-    within : (k : ℕ) → p k ≡ true → Dec (k < n) → k < n
-    within k e (yes l) = l
-    within k e (no g) = absurd (true≢false (sym e ∙ none k (omega arith)))
 
 module _ (t : Table) (few : t .count ≤ classLimit) (closure : List ℕ) (long : closureLength ≤ length closure)
     (fresh : (c : ℕ) → c < classLimit → closureAt closure c ≡ closureRow t c) where
@@ -126,13 +110,13 @@ module _ (t : Table) (few : t .count ≤ classLimit) (closure : List ℕ) (long 
 
     -- the union over the classes that it names, of which only those with a row have sets
     reached-fewer : (x : ℕ) → anyBelow classLimit (λ y. inherits more n y && reaches t y x) ≡ anyBelow n (λ y. inherits more n y && reaches t y x)
-    reached-fewer x = any-fewer n classLimit (λ y. inherits more n y && reaches t y x) few (λ y l. and-none (inherits more n y) (reaches t y x)
+    reached-fewer x = any-fewer n classLimit (λ y. inherits more n y && reaches t y x) few (λ y l. and-false (inherits more n y) (reaches t y x)
         (says-false (says-reaches n (inherits t) y x) (λ q. omega (arith, q .present))))
 
     collected-fewer : (o : ℕ → ℕ → Bool) (x : ℕ) → anyBelow classLimit (λ y. inherits more n y && collectsBy n (inherits t) o y x)
         ≡ anyBelow n (λ y. inherits more n y && collectsBy n (inherits t) o y x)
     collected-fewer o x = any-fewer n classLimit (λ y. inherits more n y && collectsBy n (inherits t) o y x) few
-        (λ y l. and-none (inherits more n y) (collectsBy n (inherits t) o y x)
+        (λ y l. and-false (inherits more n y) (collectsBy n (inherits t) o y x)
         (says-false (says-collects n (inherits t) o y x) (λ q. omega (arith, q .present))))
 
     named-by : (at : ℕ) (f : ℕ → Bool) → ((y : ℕ) → y < classLimit → member (closureRow t y) at ≡ f y)
@@ -164,10 +148,6 @@ module _ (t : Table) (few : t .count ≤ classLimit) (closure : List ℕ) (long 
 
     row-wide : length row ≡ classWidth
     row-wide = ap length (plus-last t new n refl) ∙ wide
-
-    member-union : (x y : List ℕ) (k : ℕ) → k < length x * 8 → member (union x y) k ≡ member x k || member y k
-    unfolding union
-    member-union x y k l = member-within (length x) (λ j. member x j || member y j) k l
 
     -- the kept sets of the new class
     new-fresh : newRow more closure n ≡ closureRow more n

@@ -2,51 +2,18 @@
 use lib.Dec.{eqb, ltb}
 use lib.ListN.{length, length-append}
 use native.Mathlib.Omega.{arith}
-use native.Mathlib.Nat.{zero-add}
-use Prim.Native.Nat.{_*_, _+_, _-_, _<_, suc, zero, ℕ}
-use mathlib.Core.Bool.{Bool, _||_, cond, false}
-use mathlib.Core.List.{List, _++_, _∷_, append-assoc}
+use Prim.Native.Nat.{_*_, _+_, _-_, _<_, ℕ}
+use mathlib.Core.Bool.{Bool, _||_, cond}
+use mathlib.Core.List.{List, _++_, append-assoc}
 use mathlib.Core.Path.{_∙_, _≡_, ap, ap₂, sym}
 use Rattle.schema.specs.Layout.{attributeSet, classSet, closureWidth}
 use Rattle.prelude.specs.Part.{zeros}
 use Rattle.prelude.specs.PartLaws.{zeros-add, zeros-length}
-use Rattle.prelude.specs.BytesLaws.{zeros-bytes}
 use Rattle.prelude.specs.SaysLaws.{says-false, says-lt, says-true}
-use Rattle.sets.specs.Sets.{digitsOf, member, setOf, union, withMember}
-use Rattle.sets.specs.SetsLaws.{bit-zeros, is-set, member-within, or-false, says-member, set-cong, set-length, union-append, with-length, with-set}
+use Rattle.sets.specs.Sets.{member, setOf, union, withMember}
+use Rattle.sets.specs.SideLaws.{member-alone, member-zeros, set-append, union-any}
+use Rattle.sets.specs.SetsLaws.{member-within, or-false, set-cong, set-length, union-append, with-length}
 use Rattle.closure_change.specs.Kept.{optionRow}
-
--- ---- sets of any size
-
--- a set is two sets side by side
-set-append : (a b : ℕ) (f : ℕ → Bool) → setOf (a + b) f ≡ setOf a f ++ setOf b (λ k. f (a * 8 + k))
-unfolding setOf
-set-append zero b f =
-    ap (λ (m : ℕ). setOf m f) (zero-add b) ∙ set-cong b f (λ k. f (0 * 8 + k)) (λ k l. let e : k ≡ 0 * 8 + k = omega arith in ap f e)
-set-append (suc a) b f =
-    let s : suc a + b ≡ suc (a + b) = omega arith in
-    ap (λ (m : ℕ). setOf m f) s
-    ∙ ap (λ (x : List ℕ). digitsOf 8 f ∷ x) (set-append a b (λ k. f (8 + k))
-    ∙ ap (λ (x : List ℕ). setOf a (λ k. f (8 + k)) ++ x)
-    (set-cong b (λ k. f (8 + (a * 8 + k))) (λ k. f (suc a * 8 + k)) (λ k l. let e : 8 + (a * 8 + k) ≡ suc a * 8 + k = omega arith in ap f e)))
-
--- any bytes joined to a set
-union-any : (n : ℕ) (f : ℕ → Bool) (s : List ℕ) → union (setOf n f) s ≡ setOf n (λ k. f k || member s k)
-unfolding union
-union-any n f s =
-    ap (λ (m : ℕ). setOf m (λ k. member (setOf n f) k || member s k)) (set-length n f)
-    ∙ set-cong n (λ k. member (setOf n f) k || member s k) (λ k. f k || member s k) (λ k l. ap (λ (x : Bool). x || member s k) (member-within n f k l))
-
--- zeros have no member; one number alone
-zeros-set : (n : ℕ) → zeros n ≡ setOf n (λ k. false)
-zeros-set n = is-set (zeros n) n (λ k. false) (zeros-length n) (zeros-bytes n) (λ k l. bit-zeros n k)
-
-member-zeros : (n k : ℕ) → member (zeros n) k ≡ false
-member-zeros n k = says-false (says-member (zeros n) k) (λ e. omega (arith, bit-zeros n k))
-
-pub member-alone : (n b k : ℕ) → k < n * 8 → member (withMember b (zeros n)) k ≡ eqb k b
-member-alone n b k l =
-    ap (λ (s : List ℕ). member s k) (ap (withMember b) (zeros-set n) ∙ with-set n b (λ j. false)) ∙ member-within n (λ j. eqb j b) k l
 
 -- ---- three sets side by side
 
