@@ -2,6 +2,7 @@
 pub mod PlainFrontLaws
 pub mod PlainLaws
 pub mod Promises
+pub mod Demand3
 pub mod PromisesLaws
 pub mod OrderLaws
 pub mod LoadLaws
