@@ -3,6 +3,7 @@ pub mod PlainFrontLaws
 pub mod PlainLaws
 pub mod Promises
 pub mod Demand3
+pub mod QuickLaws
 pub mod PromisesLaws
 pub mod OrderLaws
 pub mod LoadLaws
