@@ -4,28 +4,28 @@
 use mathlib.Core.List.{List, []}
 use mathlib.Core.Logic.{_↔_}
 use mathlib.Core.Path.{_≡_}
-use Prim.Native.Nat.{ℕ, zero, suc, _≤_, _<_}
-use lib.ListN.{length, getD}
+use Prim.Native.Nat.{_<_, _≤_, suc, zero, ℕ}
+use lib.ListN.{getD, length}
 use Rattle.prelude.specs.Part.{Bytes, part}
-use Rattle.schema.specs.declared.answer.Answer.{Answer}
-use Rattle.schema.specs.declared.number.TableId.{TableId}
-use Rattle.schema.specs.declared.number.TableId.the-variants.{Attributes, Classes}
 use Rattle.schema.specs.Answers.{changed}
 use Rattle.schema.specs.Layout.{storeLength}
 use Rattle.schema.specs.Numbers.{attributeLimit, classLimit, limit}
 use Rattle.schema.specs.Store.{Result, Schema, Stores, Table, closureAt, demandedIn, schemaOf, table}
+use Rattle.schema.specs.declared.answer.Answer.{Answer}
+use Rattle.schema.specs.declared.number.TableId.{TableId}
+use Rattle.schema.specs.declared.number.TableId.the-variants.{Attributes, Classes}
+use Rattle.tables.specs.Same.{SameRows}
 use Rattle.graph.specs.Graph.{Reaches, demands, inherits}
 use Rattle.sheet_read.specs.Reading.{readSheet, schemaFrom}
-use Rattle.tables.specs.Same.{SameRows}
-use Rattle.keeper.specs.Load.{load}
+use Rattle.change_read.specs.Carried.{entryOf, listOf}
+use Rattle.change_read.specs.Reading.{changeOut, readChange}
 use Rattle.change_read.specs.declared.carried.OpenList.the-variants.{Auxiliary}
 use Rattle.change_read.specs.declared.read.Change.{Change}
 use Rattle.change_read.specs.declared.read.Change.the-variants.{AddEntry}
 use Rattle.change_read.specs.declared.read.ChangeRead.the-variants.{Read}
-use Rattle.change_read.specs.Carried.{entryOf, listOf}
-use Rattle.change_read.specs.Reading.{changeOut, readChange}
 use Rattle.change_rows.specs.Rows.{numberFor, tableFor}
 use Rattle.change_model.specs.Model.{answerTo, rowsAfter}
+use Rattle.keeper.specs.Load.{load}
 use Rattle.keeper_change.specs.Plain.{plainChange}
 use Rattle.keeper_change.specs.Quick.{quickChange}
 use Rattle.keeper_promises.specs.Promises.{Fresh, InOrder, OfBytes, SamePast, SomeShort}

@@ -4,6 +4,8 @@ pub mod PlainLaws
 pub mod Promises
 pub mod Demand3
 pub mod QuickLaws
+pub mod AfterLaws
+pub mod AloneLaws
 pub mod PromisesLaws
 pub mod OrderLaws
 pub mod LoadLaws

@@ -1,22 +1,22 @@
 -- What a quick change gives on any stores, in order or not: refused, it alters nothing; 1, 2 and 4.
-use Rattle.tables_shape.specs.ShapeLaws.{says-formed}
-use Rattle.schema.specs.StoreLaws.{says-short}
-use Rattle.keeper_promises.specs.OrderLaws.{has-shape}
-use Rattle.keeper.specs.AnsweringLaws.{short-stores, broken-stores, refused-any, not-short, passed-last, passed-shape}
+use mathlib.Core.List.{List}
+use mathlib.Core.Path.{_∙_, _≡_, ap, ap₂, refl, sym}
+use Prim.Native.Nat.{_<_, ℕ}
 use native.Mathlib.Omega.{arith}
-use Rattle.change_read.specs.declared.read.ChangeRead.the-variants.{Bad}
-use Rattle.keeper.specs.Answering.{firstAnswer, shapeAnswers, InShape}
-use Rattle.prelude.specs.SaysLaws.{says-false, says-eq, says-true}
-use Rattle.schema.specs.Answers.{refused, unreadable, passed}
-use mathlib.Core.Path.{_≡_, ap₂, sym, ap, _∙_, refl}
-use Rattle.keeper_promises.specs.Promises.{SomeShort, Shape}
+use Rattle.prelude.specs.SaysLaws.{says-eq, says-false, says-true}
+use Rattle.schema.specs.Answers.{passed, refused, unreadable}
+use Rattle.schema.specs.Store.{LongEnough, Stores, result}
+use Rattle.schema.specs.StoreLaws.{says-short}
 use Rattle.schema.specs.declared.answer.Answer.{Answer}
-use Rattle.keeper_change.specs.Quick.{quickChange, quickRead, quickAnswer, quickTo}
+use Rattle.tables_shape.specs.ShapeLaws.{says-formed}
 use Rattle.change_read.specs.Reading.{readChange}
 use Rattle.change_read.specs.declared.read.ChangeRead.{ChangeRead}
-use Rattle.schema.specs.Store.{Stores, LongEnough, result}
-use Prim.Native.Nat.{ℕ, _<_}
-use mathlib.Core.List.{List}
+use Rattle.change_read.specs.declared.read.ChangeRead.the-variants.{Bad}
+use Rattle.keeper.specs.Answering.{InShape, firstAnswer, shapeAnswers}
+use Rattle.keeper.specs.AnsweringLaws.{broken-stores, not-short, passed-last, passed-shape, refused-any, short-stores}
+use Rattle.keeper_change.specs.Quick.{quickAnswer, quickChange, quickRead, quickTo}
+use Rattle.keeper_promises.specs.OrderLaws.{has-shape}
+use Rattle.keeper_promises.specs.Promises.{Shape, SomeShort}
 use Rattle.schema.specs.Refusals as refusal
 
 module _ (x : List ℕ) (s : Stores) where
