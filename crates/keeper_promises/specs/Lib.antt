@@ -6,6 +6,7 @@ pub mod Demand3
 pub mod QuickLaws
 pub mod AfterLaws
 pub mod AloneLaws
+pub mod StepLaws
 pub mod UnreachedLaws
 pub mod PromisesLaws
 pub mod OrderLaws
