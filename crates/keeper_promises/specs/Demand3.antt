@@ -71,6 +71,10 @@ unfoldable pub rowsGiven : Schema → List (List ℕ) → ℕ → Schema
 rowsGiven m xs zero = m
 rowsGiven m xs (suc i) = modelAfter (changeAt xs i) (rowsGiven m xs i)
 
+-- after the first i changes to what a sheet reads
+abbrev pub modelAt : List ℕ → List (List ℕ) → ℕ → Schema
+modelAt sheet xs i = rowsGiven (sheetRows sheet) xs i
+
 -- ---- one change: what stays
 
 -- class c reaches class k by the rows of a table: the relation, not a test
@@ -114,17 +118,13 @@ module _ (sheet : List ℕ) (first : Stores) (xs : List (List ℕ)) where
   abbrev pub plainTold : ℕ → Answer
   plainTold i = told plainChange (load sheet first .left) xs i
 
-  -- what sheet and changes alone give
-  abbrev pub modelAt : ℕ → Schema
-  modelAt i = rowsGiven (sheetRows sheet) xs i
-
   pub record Agreement : Type 0 where
     -- "After each change the two answers are equal in every part, and stores and copy in every byte."
     pub answers : (i : ℕ) → i < length xs → quickTold i ≡ plainTold i
     pub bytes : (i : ℕ) → i ≤ length xs → storesAt i ≡ copyAt i
     -- "The rows in its stores are those that sheet and changes alone give", and so is each answer
-    pub rows : (i : ℕ) → i ≤ length xs → SameRows (schemaOf (storesAt i)) (modelAt i)
-    pub given : (i : ℕ) → i < length xs → quickTold i ≡ modelAnswer (changeAt xs i) (modelAt i)
+    pub rows : (i : ℕ) → i ≤ length xs → SameRows (schemaOf (storesAt i)) (modelAt sheet xs i)
+    pub given : (i : ℕ) → i < length xs → quickTold i ≡ modelAnswer (changeAt xs i) (modelAt sheet xs i)
     -- "At the start and after each change, every class's kept sets equal those worked out afresh"; and shape and rules hold
     pub fresh : (i : ℕ) → i ≤ length xs → Fresh (storesAt i)
     pub order : (i : ℕ) → i ≤ length xs → InOrder (storesAt i)

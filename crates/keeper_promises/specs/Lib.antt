@@ -3,6 +3,7 @@ pub mod PlainFrontLaws
 pub mod PlainLaws
 pub mod Promises
 pub mod Demand3
+pub mod Demand3Laws
 pub mod QuickLaws
 pub mod AfterLaws
 pub mod AloneLaws

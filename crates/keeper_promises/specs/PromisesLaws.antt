@@ -1,6 +1,9 @@
--- The promises, kept.
+-- The promises, kept. Demand 3 still asks for one law: that on stores in order a quick change is the plain one.
+use Rattle.keeper_promises.specs.Demand3.{Demand3}
+use Rattle.keeper_promises.specs.Demand3Laws.{QuickIsPlain, agreement}
 use Rattle.keeper_promises.specs.Promises.{Demand1, Demand2}
 use Rattle.keeper_promises.specs.AlikeLaws as alike
+use Rattle.keeper_promises.specs.AloneLaws as apart
 use Rattle.keeper_promises.specs.CallLaws as calls
 use Rattle.keeper_promises.specs.FrontLaws as front
 use Rattle.keeper_promises.specs.LoadLaws as loads
@@ -71,3 +74,6 @@ demand2 = record {
   load-write-load = trips.load-write-load;
   load-write = trips.load-write;
 }
+
+pub demand3 : QuickIsPlain → Demand3
+demand3 one = record { agree = agreement one; alone = apart.quick-alone }
