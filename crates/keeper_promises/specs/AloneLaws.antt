@@ -9,7 +9,7 @@ use native.Mathlib.Decide.{decLt, ℕ-discrete}
 use native.Mathlib.Omega.{arith}
 use lib.Dec.{eqb}
 use Rattle.prelude.specs.First.{Case, NoneHolds, _when_, firstOf}
-use Rattle.prelude.specs.FirstLaws.{append-first, append-second, first-rest}
+use Rattle.prelude.specs.FirstLaws.{append-first, append-rest, append-second}
 use Rattle.prelude.specs.Part.{part, sameBytes}
 use Rattle.prelude.specs.SaysLaws.{neither, says-and, says-eq, says-fails, says-false, says-not, says-split}
 use Rattle.sets.specs.Sets.{subset}
@@ -23,10 +23,8 @@ use Rattle.schema.specs.declared.number.TableId.{TableId}
 use Rattle.schema.specs.declared.number.TableId.the-variants.{Classes}
 use Rattle.tables.specs.Live.{Live}
 use Rattle.tables.specs.LiveLaws.{says-live}
-use Rattle.tables.specs.Same.{Same, SameRows}
-use Rattle.graph.specs.FreshLaws.{demanded-part}
-use Rattle.graph.specs.Graph.{demandedSet}
-use Rattle.graph.specs.SameLaws.{closure-row-same}
+use Rattle.tables.specs.Same.{SameRows}
+use Rattle.graph.specs.SameLaws.{demanded-same}
 use Rattle.rules_class.specs.Live.{classWrong}
 use Rattle.rules.specs.Rules.{barred, classNotLive, entryDead, rowCases, schemaRules}
 use Rattle.rules.specs.SameLaws.{row-cases-same}
@@ -43,11 +41,11 @@ use Rattle.change_read.specs.declared.read.Change.the-variants.{Add, AddEntry, 
 use Rattle.change_read.specs.declared.read.ChangeRead.{ChangeRead}
 use Rattle.change_read.specs.declared.read.ChangeRead.the-variants.{Bad, Read}
 use Rattle.change_rows.specs.Lists.{listTable}
-use Rattle.change_rows.specs.Rows.{isAddition, numberFor, schemaAfter, tableAfter, tableFor}
+use Rattle.change_rows.specs.Rows.{numberFor, schemaAfter, tableAfter, tableFor}
 use Rattle.change_asked.specs.Asked.{askedCases, firstAsked}
 use Rattle.change_asked.specs.AskedLaws.{asked-there}
 use Rattle.change_model.specs.Model.{addedBy, answerBy}
-use Rattle.change_model.specs.SameLaws.{after-same, asked-same}
+use Rattle.change_model.specs.SameLaws.{after-same, asked-same, row-number-same}
 use Rattle.keeper.specs.Answering.{InShape}
 use Rattle.keeper_change.specs.Quick.{changedCases, quickChange, quickDiffers, quickNumber, quickTo}
 use Rattle.keeper_promises.specs.AfterLaws.{after-changed}
@@ -56,15 +54,6 @@ use Rattle.keeper_promises.specs.Demand3.{AlikeFor, Concerned}
 use Rattle.keeper_promises.specs.Promises.{Shape, SomeShort}
 use Rattle.keeper_promises.specs.QuickLaws.{quick-one, quick-shaped, quick-two}
 use Rattle.schema.specs.Refusals as refusal
-
--- two lists that begin alike: the rest is compared only where none of the first conditions holds
-append-rest : (p q u : List Case) → (NoneHolds p → firstOf q ≡ firstOf u) → firstOf (p ++ q) ≡ firstOf (p ++ u)
-append-rest [] q u h = h tt
-append-rest (c ∷ p) q u h = first-rest c (p ++ q) (p ++ u) (λ e. append-rest p q u (λ none. h (e, none)))
-
-demanded-same : {t u : Table} → Same t u → (c : ℕ) → demandedSet t c ≡ demandedSet u c
-unfolding demandedSet
-demanded-same {t} {u} s c = sym (demanded-part t c) ∙ ap (part demandedAt attributeSet) (closure-row-same s c) ∙ demanded-part u c
 
 -- ---- an added entry that names a class: unless 18 holds, that class is there
 
@@ -129,17 +118,13 @@ module _ (r : List ℕ) {m n : Schema} (s : SameRows m n) (few : m .classes .cou
 
 module _ (change : Change) (r : List ℕ) {m n : Schema} (s : SameRows m n) (few : m .classes .count ≤ classLimit) (k l : List ℕ)
     (kept : change ≡ AddEntry → listOf r ≡ Auxiliary → SameKept r k l) where
-  row-number-same : numberFor change r m ≡ numberFor change r n
-  unfolding numberFor
-  row-number-same = ap (λ (c : ℕ). cond (isAddition change) c (targetOf r)) (s (tableFor change) .count)
-
   module _ (z : firstAsked change r m ≡ 0) where
     cases-same : changedCases change r m ≡ changedCases change r n
     cases-same =
         row-cases-same (after-same change r s z) (addedBy change r (m .classes .count)) (tableFor change) (numberFor change r m)
         (after-changed change r m z .own .here)
         ∙ ap₂ (λ (c i : ℕ). rowCases (schemaRules (addedBy change r c)) (schemaAfter change r n) (tableFor change) i) (s Classes .count)
-        row-number-same
+        (row-number-same change r s)
 
     judged-same : firstOf (changedCases change r m ++ ((refusal.mandatoryDiffers when quickDiffers change r m k) ∷ []))
         ≡ firstOf (changedCases change r n ++ ((refusal.mandatoryDiffers when quickDiffers change r n l) ∷ []))
@@ -192,7 +177,7 @@ module _ (x : List ℕ) (s t : Stores) (h : AlikeFor x s t) where
     to-same (Read change) e =
         ap₂ (λ (n k : ℕ). cond (eqb n refusal.done) (changed (tableFor change) k) (refused n))
         (quick-number-same change carried rows few (s .closure) (t .closure) (λ q. same-kept (e ∙ ap Read q)))
-        (row-number-same change carried rows few (s .closure) (t .closure) (λ q. same-kept (e ∙ ap Read q)))
+        (row-number-same change carried rows)
 
   answer-of : {a b : Result} → a ≡ b → a .answer ≡ b .answer
   answer-of e = ap (λ (r : Result). r .answer) e

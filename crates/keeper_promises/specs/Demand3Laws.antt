@@ -1,13 +1,13 @@
 -- Demand 3, over whole lists of changes, from one law about one change: on stores in order, a quick change is the plain one.
 use mathlib.Core.List.{List}
 use mathlib.Core.Path.{_∙_, _≡_, ap, refl, subst, subst₂, sym}
-use Prim.Native.Nat.{ℕ, zero, suc, _<_, _≤_}
-use native.Mathlib.Omega.{arith}
+use Prim.Native.Nat.{_<_, _≤_, suc, zero, ℕ}
 use native.Mathlib.Decide.{ℕ-discrete}
+use native.Mathlib.Omega.{arith}
 use lib.ListN.{length}
 use Rattle.prelude.specs.Part.{Bytes}
-use Rattle.schema.specs.declared.answer.Answer.{Answer}
 use Rattle.schema.specs.Store.{LongEnough, Result, Stores, schemaOf}
+use Rattle.schema.specs.declared.answer.Answer.{Answer}
 use Rattle.tables.specs.Same.{SameRows}
 use Rattle.sheet_read.specs.Reading.{readSheet}
 use Rattle.sheet_read.specs.ReadingLaws.{sheet-sound}
@@ -17,8 +17,8 @@ use Rattle.keeper.specs.Load.{filled, load}
 use Rattle.keeper_change.specs.Plain.{plainChange}
 use Rattle.keeper_change.specs.Quick.{quickChange}
 use Rattle.keeper_promises.specs.BytesLaws.{load-bytes}
-use Rattle.keeper_promises.specs.Demand3.{Agreement, AllBytes, SameDemand, Stays, after, changeAt, copyAt, modelAnswer, modelAt}
-use Rattle.keeper_promises.specs.Demand3.{plainTold, quickTold, rowsGiven, sheetRows, storesAt}
+use Rattle.keeper_promises.specs.Demand3.{Agreement, AllBytes, SameDemand, Stays, after, changeAt, copyAt, modelAnswer, modelAt, plainTold, quickTold}
+use Rattle.keeper_promises.specs.Demand3.{rowsGiven, sheetRows, storesAt}
 use Rattle.keeper_promises.specs.LoadLaws.{load-done, load-order, load-zero}
 use Rattle.keeper_promises.specs.PlainFrontLaws.{plain-bytes}
 use Rattle.keeper_promises.specs.PlainLaws.{plain-answer}

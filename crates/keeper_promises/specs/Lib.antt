@@ -8,7 +8,6 @@ pub mod QuickLaws
 pub mod AfterLaws
 pub mod AloneLaws
 pub mod StepLaws
-pub mod UnreachedLaws
 pub mod PromisesLaws
 pub mod OrderLaws
 pub mod LoadLaws

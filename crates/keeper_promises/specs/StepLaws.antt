@@ -1,39 +1,38 @@
 -- One plain change on stores in order, refused or done: the rows that it leaves are the model's, the stores stay in order, every class that was there
 -- demands what it did, and all else stays.
-use mathlib.Core.Bool.{false, true, Bool}
+use mathlib.Core.Bool.{Bool, false, true}
 use mathlib.Core.List.{List}
 use mathlib.Core.Logic.{_⊎_, inl, inr}
 use mathlib.Core.Path.{_∙_, _≡_, ap, ap₂, refl, subst, sym}
-use Prim.Native.Nat.{ℕ, _<_, _≤_}
-use native.Mathlib.Omega.{arith}
+use Prim.Native.Nat.{_<_, _≤_, ℕ}
 use native.Mathlib.Decide.{decLt, ℕ-discrete}
-use Rattle.prelude.specs.Below.{Some}
+use native.Mathlib.Omega.{arith}
 use Rattle.prelude.specs.Part.{Bytes, sameBytes, zeros}
 use Rattle.prelude.specs.SaysLaws.{says-eq, says-false, says-split, says-true}
 use Rattle.sets.specs.Sets.{setOf}
 use Rattle.sets.specs.SetsLaws.{says-same-sets, set-cong}
-use Rattle.schema.specs.declared.answer.Answer.{Answer}
-use Rattle.schema.specs.declared.number.TableId.{TableId}
-use Rattle.schema.specs.declared.number.TableId.the-variants.{Attributes, Classes}
 use Rattle.schema.specs.Answers.{changed}
 use Rattle.schema.specs.Layout.{attributeSet, rowWidth}
 use Rattle.schema.specs.Numbers.{SameRow, attributeLimit, classLimit, limit}
-use Rattle.schema.specs.Store.{Schema, Stores, Table, closureAt, demandedIn, schemaOf, table}
+use Rattle.schema.specs.Store.{Schema, Stores, Table, closureAt, schemaOf, table}
+use Rattle.schema.specs.declared.answer.Answer.{Answer}
+use Rattle.schema.specs.declared.number.TableId.{TableId}
+use Rattle.schema.specs.declared.number.TableId.the-variants.{Attributes, Classes}
 use Rattle.tables.specs.Changed.{ChangedAt, ChangedRow}
 use Rattle.tables.specs.ChangedLaws.{row-old, row-other, row-stays, table-or-other}
 use Rattle.tables.specs.Same.{Same, SameRows}
-use Rattle.tables.specs.SameLaws.{same-reflexive}
-use Rattle.graph.specs.Graph.{closureRow, demandedSet, demands}
+use Rattle.tables.specs.SameLaws.{same-reflexive, same-transitive}
 use Rattle.graph.specs.FreshLaws.{kept-demand}
+use Rattle.graph.specs.Graph.{closureRow, demandedSet, demands}
 use Rattle.graph.specs.SameLaws.{closure-row-same, demands-same}
+use Rattle.graph.specs.UnreachedLaws.{closure-unreached}
+use Rattle.change_read.specs.Reading.{ChangeOut, readChange}
 use Rattle.change_read.specs.declared.read.Change.{Change}
 use Rattle.change_read.specs.declared.read.ChangeRead.{ChangeRead}
 use Rattle.change_read.specs.declared.read.ChangeRead.the-variants.{Bad, Read}
-use Rattle.change_read.specs.Reading.{ChangeOut, changeOut, readChange}
 use Rattle.change_rows.specs.Rows.{numberFor, schemaAfter, tableFor}
-use Rattle.change_asked.specs.Asked.{firstAsked}
 use Rattle.change_model.specs.Conditions.{DemandDiffers}
-use Rattle.change_model.specs.Model.{answerBy, answerTo, changeNumber, rowsAfter}
+use Rattle.change_model.specs.Model.{answerTo, changeNumber, rowsAfter}
 use Rattle.change_model.specs.ModelLaws.{answer-done, asked-zero}
 use Rattle.keeper_change.specs.Plain.{plainChange}
 use Rattle.keeper_promises.specs.AfterLaws.{after-changed}
@@ -42,7 +41,6 @@ use Rattle.keeper_promises.specs.OrderLaws.{order-fresh}
 use Rattle.keeper_promises.specs.PlainFrontLaws.{plain-past}
 use Rattle.keeper_promises.specs.PlainLaws.{number-is, plain-answer, plain-done, plain-kept, plain-ordered, plain-rows, plain-zero}
 use Rattle.keeper_promises.specs.Promises.{Accepted, InOrder, Shape}
-use Rattle.keeper_promises.specs.UnreachedLaws.{closure-unreached}
 
 -- ---- rows that are the same
 
@@ -50,7 +48,7 @@ pub rows-reflexive : (m : Schema) → SameRows m m
 rows-reflexive m t = same-reflexive (table t m)
 
 pub rows-transitive : {m n o : Schema} → SameRows m n → SameRows n o → SameRows m o
-rows-transitive p q t = record { count = p t .count ∙ q t .count; rows = λ k l. p t .rows k l ∙ q t .rows k (omega (arith, p t .count)) }
+rows-transitive p q t = same-transitive (p t) (q t)
 
 -- a row was changed or added, also by stores that hold the same rows
 changed-same : {k : ℕ} {t u v : Table} → ChangedAt k t u → Same v u → ChangedAt k t v
@@ -194,9 +192,10 @@ module _ (x : List ℕ) (bytes : Bytes x) (s : Stores) (h : InOrder s) where
 
       go : Dec Done → (c < schemaOf left .classes .count) × SameDemand c s left
       go (yes z) =
-          let n = row-stays (one-row z) Classes c l in (
+          let n = row-stays (one-row z) Classes c l in
+          let stay = demands-kept (m .classes) _ (accepted z .demands) c l in (
             omega (arith, done-rows z Classes .count),
-            same-demand s left h step-order c few (λ b q. demands-kept (m .classes) _ (accepted z .demands) c l b q ∙ sym (demands-same (done-rows z Classes) c b)),
+            same-demand s left h step-order c few (λ b q. stay b q ∙ sym (demands-same (done-rows z Classes) c b)),
           )
       go (no d) = rw (plain-kept x s d) (l, record { rows = λ b q. refl; kept = refl })
 
