@@ -63,7 +63,7 @@ module _ {t u : Table} (s : Same t u) where
   pub allows-same : (c b : ℕ) → allows t c b ≡ allows u c b
   allows-same = collects-same (listsOptional t) (listsOptional u) optional-same
 
-  demanded-same : (c : ℕ) → demandedSet t c ≡ demandedSet u c
+  pub demanded-same : (c : ℕ) → demandedSet t c ≡ demandedSet u c
   unfolding demandedSet
   demanded-same c = set-cong attributeSet (demands t c) (demands u c) (λ b l. demands-same c b)
 
