@@ -73,6 +73,17 @@ pub fn audit(attributes: &[u8], classes: &[u8], closure: &[u8]) -> Answer {
     answer(|detail| c::audit(attributes, classes, closure, detail))
 }
 
+/// Makes a change, where the schema with it is in order too. Refused, no byte of
+/// any store is altered.
+pub fn plain_change(
+    change: &[u8],
+    attributes: &mut [u8],
+    classes: &mut [u8],
+    closure: &mut [u8],
+) -> Answer {
+    answer(|detail| c::plain_change(change, attributes, classes, closure, detail))
+}
+
 /// How many steps lead from a class up its superclasses to class 0.
 pub fn depth(attributes: &[u8], classes: &[u8], closure: &[u8], class: u16) -> Answer {
     answer(|detail| c::depth(attributes, classes, closure, class, detail))
