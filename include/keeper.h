@@ -51,8 +51,8 @@ extern "C" {
 #define KEEPER_LONGEST_SHEET 410756
 
 /*
- * So many bytes of stack are enough for every call. This is measured, not proved: the most was some 35,500 bytes, for
- * a load or an audit of a full schema in which each class names all others (docs/LAYOUT.md).
+ * So many bytes of stack are enough for every call. This is measured, not proved: the most was some 36,400 bytes, for
+ * a plain change of a full schema in which each class names all others (docs/LAYOUT.md).
  */
 #define KEEPER_STACK 65536
 
