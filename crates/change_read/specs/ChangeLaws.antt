@@ -1,4 +1,6 @@
 -- Laws of a change that was read: it is the whole string, one field and nothing behind it; and what it carries is well-formed.
+use Rattle.prelude.specs.BytesLaws.{zeros-bytes}
+use Rattle.rows_read.specs.BytesLaws.{read-bytes}
 use mathlib.Core.Bool.{Bool, true, false}
 use mathlib.Core.List.{List}
 use mathlib.Core.Logic.{_⊎_, inl, inr}
@@ -27,7 +29,7 @@ use Rattle.rows_format.specs.ColumnsLaws.{formed-at}
 use Rattle.rows_format.specs.Formats.{listAt, newLowerAt, newUpperAt, ownColumns, commonColumns, attributeColumns, rangeColumns, nameColumns}
 use Rattle.rows_format.specs.Formats.{entryColumns, columnsOf, formatWidth, noColumn}
 use Rattle.rows_read.specs.declared.read.RowRead.{RowRead}
-use Rattle.rows_read.specs.Reading.{out, readBy}
+use Rattle.rows_read.specs.Reading.{out, readBy, Out}
 use Rattle.rows_read.specs.ObjectClass.{finished, readRow}
 use Rattle.rows_read.specs.WellFormedLaws.{columnAt, finished-length}
 use Rattle.rows_read.specs.RoundTripLaws.{fields-back, row-read}
@@ -167,6 +169,12 @@ module _ (s : List ℕ) (change : Change) (new : List ℕ) (bytes : Bytes s) (e 
   change-length =
       let f = change-fields in
       ap length (f .is) ∙ format-finished-length (formatOf change) (f .raw) (omega (arith, f .long, format-fits-row change)) ∙ f .long
+
+  -- and holds bytes
+  pub change-bytes : Bytes new
+  change-bytes =
+      let p = change-parts s change new e in
+      subst Bytes (ap (λ (o : Out). o .row) (p .read)) (read-bytes (formatOf change) s (p .start) (length s) scratch bytes (zeros-bytes classWidth))
 
   -- what is kept as it was read, and that is all but an added attribute's oMObjectClass, is well-formed by its columns
   module _ (format : Format) (is : formatOf change ≡ format) (same : (x : List ℕ) → finished format x ≡ x) where

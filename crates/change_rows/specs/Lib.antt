@@ -5,3 +5,5 @@ pub mod RowsLaws
 pub mod Stores
 pub mod StoresLaws
 pub mod FormedLaws
+pub mod FrontLaws
+pub mod BytesLaws

@@ -24,15 +24,12 @@ use Rattle.prelude.specs.SaysLaws.{true-or-false}
 use Rattle.change_read.specs.declared.read.Change.{Change}
 use Rattle.change_read.specs.Carried.{targetOf}
 use Rattle.tables.specs.Filled.{countBytes, plusIn, putIn}
+use Rattle.tables.specs.PutLaws.{count-short}
 
 -- the count that a store says, written again
 count-same : (t : TableId) (s : List ℕ) → Bytes s → storeLength t ≤ length s → splice 0 (countBytes t (countIn t s)) s ≡ s
 count-same Attributes s b long = ap (λ (x : List ℕ). splice 0 x s) (bytes-of-number s b 2 0 (omega arith)) ∙ splice-part 0 2 s (omega arith)
 count-same Classes s b long = splice-front (getD s 0 0 ∷ []) s ∙ sym (drop-cons s 0 0 (omega arith))
-
-count-short : (t : TableId) (n : ℕ) → length (countBytes t n) ≤ rowsAt
-count-short Attributes n = omega (arith, bytes-length 2 n)
-count-short Classes n = omega arith
 
 count-long : (t : TableId) (n m : ℕ) → length (countBytes t n) ≡ length (countBytes t m)
 count-long Attributes n m = bytes-length 2 n ∙ sym (bytes-length 2 m)

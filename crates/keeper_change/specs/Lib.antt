@@ -4,3 +4,4 @@ pub mod MadeLaws
 pub mod Judged
 pub mod Plain
 pub mod PlainLaws
+pub mod DoneLaws

@@ -54,7 +54,7 @@ module _ (s t : Stores) (h : Alike s t) where
 
   -- and then they hold the same rows
   module _ (i : InShape s) where
-    same-rows : SameRows (schemaOf s) (schemaOf t)
+    pub same-rows : SameRows (schemaOf s) (schemaOf t)
     same-rows Attributes =
         store-same Attributes (s .attributes) (t .attributes) (h .attributes)
         (says-formed (s .attributes) (s .classes) (h .left .attributes) (h .left .classes) .holds (i .formed) .attributes .few)
@@ -62,14 +62,14 @@ module _ (s t : Stores) (h : Alike s t) where
         store-same Classes (s .classes) (t .classes) (h .classes)
         (says-formed (s .attributes) (s .classes) (h .left .attributes) (h .left .classes) .holds (i .formed) .classes .few)
 
-    same-fresh : isFresh (schemaOf s .classes) (s .closure) ≡ isFresh (schemaOf t .classes) (t .closure)
+    pub same-fresh : isFresh (schemaOf s .classes) (s .closure) ≡ isFresh (schemaOf t .classes) (t .closure)
     same-fresh = fresh-same (same-rows Classes) (s .closure) ∙ fresh-front (s .closure) (t .closure) (h .closure) (schemaOf t .classes)
 
     same-sheet : sheetOf s ≡ sheetOf t
     same-sheet = sheet-same same-rows
 
   -- a call whose further answers are the same where they are in shape
-  answers-alike : (p q : List Answer) (x y : Answer) → (InShape s → firstAnswer p x ≡ firstAnswer q y) → firstAnswer (shapeAnswers s ++ p) x
+  pub answers-alike : (p q : List Answer) (x y : Answer) → (InShape s → firstAnswer p x ≡ firstAnswer q y) → firstAnswer (shapeAnswers s ++ p) x
       ≡ firstAnswer (shapeAnswers t ++ q) y
   answers-alike p q x y e =
       by-shape

@@ -33,13 +33,13 @@ module _ (n : ℕ) (p q : List ℕ) (e : length p ≡ n) (l : n ≤ length q) wh
   fits : 0 + length p ≤ length q
   fits = omega arith
 
-  put-front : part 0 n (splice 0 p q) ≡ p
+  pub put-front : part 0 n (splice 0 p q) ≡ p
   put-front = part-splice-same 0 p q fits n (sym e)
 
-  put-long : n ≤ length (splice 0 p q)
+  pub put-long : n ≤ length (splice 0 p q)
   put-long = omega (arith, splice-length 0 p q fits)
 
-  put-past : drop n (splice 0 p q) ≡ drop n q
+  pub put-past : drop n (splice 0 p q) ≡ drop n q
   put-past = splice-after 0 p q fits n (omega arith)
 
 -- ---- the fronts of the stores replaced

@@ -1,4 +1,6 @@
 -- What the calls promise as a whole, stated for a reader (Promises), and the proofs.
+pub mod PlainFrontLaws
+pub mod PlainLaws
 pub mod Promises
 pub mod PromisesLaws
 pub mod OrderLaws

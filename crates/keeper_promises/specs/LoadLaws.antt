@@ -4,7 +4,7 @@ use mathlib.Core.Bool.{false, true}
 use mathlib.Core.List.{List}
 use mathlib.Core.Logic.{_↔_, ⊎-elim}
 use mathlib.Core.Path.{_≡_, ap, refl, subst, sym, _∙_}
-use Prim.Native.Nat.{_<_, _≤_, ℕ}
+use Prim.Native.Nat.{_≤_, ℕ}
 use native.Mathlib.Omega.{arith}
 use lib.ListN.{length}
 use Rattle.prelude.specs.Part.{Bytes, splice}
@@ -15,7 +15,7 @@ use Rattle.schema.specs.declared.number.TableId.{TableId}
 use Rattle.schema.specs.declared.number.TableId.the-variants.{Classes}
 use Rattle.schema.specs.Answers.{full, passed, refused, unreadable}
 use Rattle.schema.specs.Layout.{closureLength}
-use Rattle.schema.specs.Store.{LongEnough, Result, Stores, anyShort, result, table}
+use Rattle.schema.specs.Store.{LongEnough, Result, Stores, anyShort, result}
 use Rattle.schema.specs.StoreLaws.{long-enough, says-short}
 use Rattle.tables.specs.Filled.{tableFrom}
 use Rattle.tables.specs.SameLaws.{same-symmetric}
@@ -28,11 +28,11 @@ use Rattle.sheet_read.specs.Held.{Lent}
 use Rattle.sheet_read.specs.Reading.{Rows, SheetOut, readSheet, schemaFrom, sheetOut}
 use Rattle.sheet_read.specs.ReadingLaws.{sheet-sound}
 use Rattle.rules.specs.declared.row.Added.the-variants.{Nothing}
-use Rattle.rules.specs.Rules.{breaks, schemaRules}
+use Rattle.rules.specs.Rules.{schemaRules}
 use Rattle.rules.specs.Judge.{FirstBroken, judged}
-use Rattle.rules.specs.JudgeLaws.{judged-first, judged-least, judged-passed, judged-zero}
-use Rattle.rules.specs.Meets.{Meets}
-use Rattle.rules.specs.MeetsLaws.{meets}
+use Rattle.rules.specs.JudgeLaws.{judged-first, judged-passed, judged-zero}
+use Rattle.rules.specs.Meets.{Meets, Met, RuleName, ruleNumber}
+use Rattle.rules.specs.MeetsLaws.{meets, judged-smallest}
 use Rattle.rules.specs.SameLaws.{kept-same}
 use Rattle.tables_shape.specs.ShapeLaws.{says-formed}
 use Rattle.keeper.specs.AnsweringLaws.{not-short}
@@ -125,9 +125,8 @@ module _ (sheet : List ℕ) where
             subst (FirstBroken (schemaFrom (out .rows)) (schemaRules Nothing)) (sym judged-answer)
             (⊎-elim (λ k. absurd (d (meets Nothing (schemaFrom (out .rows)) .0 k))) (λ f. f) (judged-first Nothing (schemaFrom (out .rows))))
 
-        pub load-least : (n : ℕ) (t : TableId) (k : ℕ) → k < table t (schemaFrom (out .rows)) .count → breaks Nothing (schemaFrom (out .rows)) n t k ≡ true
-            → load sheet s .answer .number ≤ n
-        load-least n t k l b = omega (arith, number-of judged-answer, judged-least Nothing (schemaFrom (out .rows)) n t k l b)
+        pub load-least : (rule : RuleName) → ¬ (Met Nothing rule (schemaFrom (out .rows))) → load sheet s .answer .number ≤ ruleNumber rule
+        load-least rule unmet = omega (arith, number-of judged-answer, judged-smallest Nothing (schemaFrom (out .rows)) rule unmet)
 
     -- ---- a loaded store is in order
 

@@ -8,18 +8,17 @@ use native.Mathlib.Omega.{arith}
 use borrow.Author.Tests.{not-false}
 use Rattle.prelude.specs.SaysLaws.{says-false, says-true}
 use Rattle.schema.specs.declared.answer.Answer.{Answer}
-use Rattle.schema.specs.declared.number.TableId.{TableId}
 use Rattle.schema.specs.Answers.{passed, refused}
-use Rattle.schema.specs.Store.{LongEnough, Stores, schemaOf, table}
+use Rattle.schema.specs.Store.{LongEnough, Stores, schemaOf}
 use Rattle.schema.specs.StoreLaws.{says-short}
 use Rattle.graph.specs.Graph.{isFresh}
 use Rattle.graph.specs.FreshLaws.{says-fresh}
 use Rattle.rules.specs.declared.row.Added.the-variants.{Nothing}
-use Rattle.rules.specs.Rules.{schemaRules, breaks}
+use Rattle.rules.specs.Rules.{schemaRules}
 use Rattle.rules.specs.Judge.{FirstBroken, judged}
-use Rattle.rules.specs.JudgeLaws.{judged-first, judged-least, judged-zero}
-use Rattle.rules.specs.Meets.{Meets}
-use Rattle.rules.specs.MeetsLaws.{meets}
+use Rattle.rules.specs.JudgeLaws.{judged-first, judged-zero}
+use Rattle.rules.specs.Meets.{Meets, Met, RuleName, ruleNumber}
+use Rattle.rules.specs.MeetsLaws.{meets, judged-smallest}
 use Rattle.tables_shape.specs.ShapeLaws.{says-formed}
 use Rattle.keeper.specs.Answering.{InShape, NoneRefuses, firstAnswer, refusedIf, shapeAnswers}
 use Rattle.keeper.specs.AnsweringLaws.{append-passed, append-refused, broken-stores, first-passed, first-refused, if-fails, if-holds, if-passed}
@@ -109,9 +108,9 @@ module _ (s : Stores) where
         subst (FirstBroken (schemaOf s) (schemaRules Nothing)) (sym (audit-judged d))
         (⊎-elim (λ k. absurd (d (meets Nothing (schemaOf s) .0 k))) (λ f. f) (judged-first Nothing (schemaOf s)))
 
-    pub audit-least : ¬ Meets Nothing (schemaOf s) → (n : ℕ) (t : TableId) (k : ℕ) → k < table t (schemaOf s) .count → breaks Nothing (schemaOf s) n t k
-        ≡ true → audit s .number ≤ n
-    audit-least d n t k l e = omega (arith, ap (λ (x : Answer). x .number) (audit-judged d), judged-least Nothing (schemaOf s) n t k l e)
+    pub audit-least : (rule : RuleName) → ¬ (Met Nothing rule (schemaOf s)) → audit s .number ≤ ruleNumber rule
+    audit-least rule unmet =
+        omega (arith, ap (λ (x : Answer). x .number) (audit-judged (λ h. unmet (h rule))), judged-smallest Nothing (schemaOf s) rule unmet)
 
     pub audit-three : Meets Nothing (schemaOf s) → ¬ Fresh s → audit s ≡ refused refusal.notInOrder
     audit-three k d =

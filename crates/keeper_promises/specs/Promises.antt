@@ -1,7 +1,6 @@
 -- What the calls promise, demand by demand, as types alone. The proofs stand in the other files: `demand1` and `demand2` (PromisesLaws) are members
 -- of the two records. `load`, `audit`, `depth` and `write` are the definitions that the contracts of the calls equate with answer and final bytes,
 -- for every input.
-use mathlib.Core.Bool.{true}
 use mathlib.Core.List.{List}
 use mathlib.Core.Logic.{_⊎_, _↔_}
 use mathlib.Core.Path.{_≡_}
@@ -10,25 +9,33 @@ use lib.ListN.{drop, length}
 use Rattle.prelude.specs.Part.{Bytes, part, splice}
 use Rattle.schema.specs.declared.number.TableId.{TableId}
 use Rattle.schema.specs.declared.number.TableId.the-variants.{Attributes, Classes}
-use Rattle.schema.specs.Answers.{passed, done, refused, unreadable, full, shortOutput}
+use Rattle.schema.specs.Answers.{passed, done, refused, unreadable, full, shortOutput, changed}
 use Rattle.schema.specs.Layout.{storeLength, closureLength}
 use Rattle.schema.specs.Numbers.{classLimit}
-use Rattle.schema.specs.Store.{LongEnough, Stores, stores, result, schemaOf, closureAt, table}
+use Rattle.schema.specs.Store.{LongEnough, Stores, stores, result, schemaOf, closureAt, Schema}
 use Rattle.tables.specs.Filled.{emptyStores}
 use Rattle.graph.specs.Graph.{closureRow}
 use Rattle.graph.specs.Depth.{EarlierChain}
 use Rattle.sheet_read.specs.declared.read.SheetRead.the-variants.{Bad, Full, Read}
 use Rattle.sheet_read.specs.Reading.{readSheet, schemaFrom}
 use Rattle.rules.specs.declared.row.Added.the-variants.{Nothing}
-use Rattle.rules.specs.Rules.{schemaRules, breaks}
+use Rattle.rules.specs.Rules.{schemaRules}
 use Rattle.rules.specs.Judge.{FirstBroken}
-use Rattle.rules.specs.Meets.{Meets}
+use Rattle.rules.specs.Meets.{Meets, Met, RuleName, ruleNumber}
 use Rattle.tables_shape.specs.Shape.{StoresFormed}
+use Rattle.tables.specs.Same.{SameRows}
 use Rattle.sheet_round_trip.specs.Exact.{ExactSheet}
 use Rattle.keeper.specs.Load.{emptied, filled, load}
 use Rattle.keeper.specs.Audit.{audit}
 use Rattle.keeper.specs.Depth.{depth}
 use Rattle.keeper.specs.Write.{sheetOf, write, written}
+use Rattle.change_read.specs.declared.read.Change.{Change}
+use Rattle.change_read.specs.Reading.{changeOut, readChange}
+use Rattle.change_model.specs.Conditions.{Condition, DemandDiffers}
+use Rattle.change_model.specs.Model.{addedBy, rowsAfter}
+use Rattle.change_rows.specs.Rows.{numberFor, schemaAfter, tableFor}
+use Rattle.keeper_change.specs.Plain.{plainChange}
+use Rattle.change_read.specs.declared.read.ChangeRead.the-variants as changes
 use Rattle.schema.specs.Refusals as refusal
 
 -- ---- the words
@@ -56,6 +63,16 @@ pub record InOrder (s : Stores) : Type 0 where
 pub record Acceptable (sheet : List ℕ) : Type 0 where
   pub reads : readSheet sheet .answer ≡ Read
   pub rules : Meets Nothing (schemaFrom (readSheet sheet .rows))
+
+-- a change that is accepted by rows m: it reads, none of numbers 5 to 11 holds, the result meets every rule, what was added too, and no class that was
+-- there would demand other attributes
+pub record Accepted (x : List ℕ) (m : Schema) : Type 0 where
+  pub change : Change
+  pub carried : List ℕ
+  pub reads : readChange x ≡ changeOut (changes.Read change) carried
+  pub asked : (n : ℕ) → n ≤ refusal.stillNeeded → ¬ (Condition change carried m n)
+  pub rules : Meets (addedBy change carried (m .classes .count)) (schemaAfter change carried m)
+  pub demands : ¬ (DemandDiffers (m .classes) (schemaAfter change carried m .classes))
 
 -- both have their lengths, and the bytes up to these are the same (docs/DECISIONS.md, R36: only the first bytes of a longer store count)
 pub record Alike (s t : Stores) : Type 0 where
@@ -101,11 +118,20 @@ pub record Demand1 : Type 0 where
   pub audit-alike : (s t : Stores) → Alike s t → audit s ≡ audit t
   pub depth-alike : (s t : Stores) → Alike s t → (c : ℕ) → depth s c ≡ depth t c
   pub write-alike : (s t : Stores) → Alike s t → (out : List ℕ) → write s out ≡ write t out
+  -- "A refused change alters no byte of any lent store"
+  pub plain-kept : (x : List ℕ) (s : Stores) → ¬ (plainChange x s .answer .number ≡ 0) → plainChange x s .left ≡ s
+  -- "bytes past [the lengths] are never touched", nor looked at
+  pub plain-past : (x : List ℕ) (s : Stores) → Bytes x → SamePast (plainChange x s .left) s
+  pub plain-alike : (x : List ℕ) (s t : Stores) → Bytes x → Alike s t
+      → (plainChange x s .answer ≡ plainChange x t .answer) × Alike (plainChange x s .left) (plainChange x t .left)
+  -- stores of bytes stay such
+  pub plain-bytes : (x : List ℕ) (s : Stores) → Bytes x → OfBytes s → OfBytes (plainChange x s .left)
   -- "Refused .. writes .. alter nothing"
   pub write-kept : (s : Stores) (out : List ℕ) → ¬ (write s out .answer .number ≡ 0) → write s out .output ≡ out
 
--- ---- demand 2: "Otherwise the smallest number whose condition holds is returned. An accepted schema written as a sheet and loaded again is the same
--- schema."
+-- ---- demand 2: "A change is accepted and applied by the whole check exactly when the change rules hold and the resulting schema meets every schema
+-- rule of document 01, after the published checks. Otherwise the smallest number whose condition holds is returned. An accepted
+-- schema written as a sheet and loaded again is the same schema."
 
 pub record Demand2 : Type 0 where
   -- load: 0 exactly if the stores are long enough, the sheet reads and its rows meet every rule
@@ -122,18 +148,36 @@ pub record Demand2 : Type 0 where
   -- the sheet reads, and some row breaks a rule: the first that is broken, "the table and lowest row that break the rule found, attributes first"
   pub load-rule : (sheet : List ℕ) (s : Stores) → LongEnough s → readSheet sheet .answer ≡ Read → ¬ Meets Nothing (schemaFrom (readSheet sheet .rows))
       → FirstBroken (schemaFrom (readSheet sheet .rows)) (schemaRules Nothing) (load sheet s .answer)
-  -- it is the smallest: no row of the sheet breaks a rule of a smaller number
-  pub load-least : (sheet : List ℕ) (s : Stores) → LongEnough s → readSheet sheet .answer ≡ Read → (n : ℕ) (t : TableId) (k : ℕ)
-      → k < table t (schemaFrom (readSheet sheet .rows)) .count → breaks Nothing (schemaFrom (readSheet sheet .rows)) n t k ≡ true
-      → load sheet s .answer .number ≤ n
+  -- it is the smallest: every rule with a smaller number is met
+  pub load-least : (sheet : List ℕ) (s : Stores) → LongEnough s → readSheet sheet .answer ≡ Read → (rule : RuleName)
+      → ¬ (Met Nothing rule (schemaFrom (readSheet sheet .rows))) → load sheet s .answer .number ≤ ruleNumber rule
+  -- plain change: 0 exactly if the stores are in order and their rows accept the change
+  pub plain-zero : (x : List ℕ) (s : Stores) → (plainChange x s .answer .number ≡ 0) ↔ (InOrder s × Accepted x (schemaOf s))
+  -- then "only that change is made": the stores hold exactly the rows of the model after it; "and the stores are in order"
+  pub plain-rows : (x : List ℕ) (s : Stores) → Bytes x → plainChange x s .answer .number ≡ 0
+      → SameRows (schemaOf (plainChange x s .left)) (rowsAfter (readChange x .answer) (readChange x .row) (schemaOf s))
+  pub plain-order : (x : List ℕ) (s : Stores) → Bytes x → plainChange x s .answer .number ≡ 0 → InOrder (plainChange x s .left)
+  -- "table and row changed or added"
+  pub plain-done : (x : List ℕ) (s : Stores) → InOrder s → (h : Accepted x (schemaOf s))
+      → plainChange x s .answer ≡ changed (tableFor (h .change)) (numberFor (h .change) (h .carried) (schemaOf s))
+  -- else 1, 2, 3, 4 with its place, or the smallest number from 5 to 30 whose condition holds
+  pub plain-one : (x : List ℕ) (s : Stores) → SomeShort s → plainChange x s ≡ result (refused refusal.shortStore) s
+  pub plain-two : (x : List ℕ) (s : Stores) → LongEnough s → ¬ Shape s → plainChange x s ≡ result (refused refusal.brokenShape) s
+  pub plain-three : (x : List ℕ) (s : Stores) → LongEnough s → Shape s → ¬ InOrder s → plainChange x s ≡ result (refused refusal.notInOrder) s
+  pub plain-unreadable : (x : List ℕ) (s : Stores) → InOrder s → (at : ℕ) → readChange x .answer ≡ changes.Bad at
+      → plainChange x s ≡ result (unreadable at) s
+  pub plain-refused : (x : List ℕ) (s : Stores) → InOrder s → (change : Change) (r : List ℕ) → readChange x ≡ changeOut (changes.Read change) r
+      → ¬ (plainChange x s .answer .number ≡ 0)
+      → Condition change r (schemaOf s) (plainChange x s .answer .number) × (plainChange x s .answer ≡ refused (plainChange x s .answer .number))
+  pub plain-least : (x : List ℕ) (s : Stores) → InOrder s → (change : Change) (r : List ℕ) → readChange x ≡ changeOut (changes.Read change) r
+      → (n : ℕ) → Condition change r (schemaOf s) n → plainChange x s .answer .number ≤ n
   -- audit: 0 exactly if the stores are in order, and then no table and no place is named
   pub audit-zero : (s : Stores) → (audit s .number ≡ 0) ↔ InOrder s
   pub audit-done : (s : Stores) → InOrder s → audit s ≡ passed
   pub audit-one : (s : Stores) → SomeShort s → audit s ≡ refused refusal.shortStore
   pub audit-two : (s : Stores) → LongEnough s → ¬ Shape s → audit s ≡ refused refusal.brokenShape
   pub audit-rule : (s : Stores) → LongEnough s → Shape s → ¬ Meets Nothing (schemaOf s) → FirstBroken (schemaOf s) (schemaRules Nothing) (audit s)
-  pub audit-least : (s : Stores) → LongEnough s → Shape s → ¬ Meets Nothing (schemaOf s) → (n : ℕ) (t : TableId) (k : ℕ) → k < table t (schemaOf s) .count
-      → breaks Nothing (schemaOf s) n t k ≡ true → audit s .number ≤ n
+  pub audit-least : (s : Stores) → LongEnough s → Shape s → (rule : RuleName) → ¬ (Met Nothing rule (schemaOf s)) → audit s .number ≤ ruleNumber rule
   -- "3 .. Audit: only kept sets are wrong"
   pub audit-three : (s : Stores) → LongEnough s → Shape s → Meets Nothing (schemaOf s) → ¬ Fresh s → audit s ≡ refused refusal.notInOrder
   -- write: "0 and the length"; the output too short: nothing is written, and the place is the length needed
@@ -154,6 +198,11 @@ pub record Demand2 : Type 0 where
   -- "Tables, sheet, tables gives the same bytes if in order": written into any output with room, and loaded into any stores
   pub write-load : (s t : Stores) (out : List ℕ) → InOrder s → OfBytes s → LongEnough t → length (sheetOf s) ≤ length out
       → load (part 0 (write s out .answer .place) (write s out .output)) t ≡ result passed (moved s t)
+  -- and so is one that was changed
+  pub plain-write-load : (x : List ℕ) (s t : Stores) (out : List ℕ) → Bytes x → OfBytes s → plainChange x s .answer .number ≡ 0 → LongEnough t
+      → length (sheetOf (plainChange x s .left)) ≤ length out
+      → load (part 0 (write (plainChange x s .left) out .answer .place) (write (plainChange x s .left) out .output)) t
+      ≡ result passed (moved (plainChange x s .left) t)
   -- "An accepted schema written as a sheet and loaded again is the same schema": whatever stores it was loaded into at first, and at last
   pub load-write-load : (sheet : List ℕ) (s t : Stores) (out : List ℕ) → Bytes sheet → OfBytes s → LongEnough s → Acceptable sheet → LongEnough t
       → length (sheetOf (load sheet s .left)) ≤ length out

@@ -5,6 +5,8 @@ use Rattle.keeper_promises.specs.CallLaws as calls
 use Rattle.keeper_promises.specs.FrontLaws as front
 use Rattle.keeper_promises.specs.LoadLaws as loads
 use Rattle.keeper_promises.specs.OrderLaws as order
+use Rattle.keeper_promises.specs.PlainFrontLaws as plainly
+use Rattle.keeper_promises.specs.PlainLaws as plain
 use Rattle.keeper_promises.specs.RoundTripLaws as trips
 
 pub demand1 : Demand1
@@ -16,6 +18,10 @@ demand1 = record {
   audit-alike = alike.audit-alike;
   depth-alike = alike.depth-alike;
   write-alike = alike.write-alike;
+  plain-kept = plain.plain-kept;
+  plain-past = λ x s bytes. plainly.plain-past x bytes s;
+  plain-alike = λ x s t bytes. plainly.plain-alike x bytes s t;
+  plain-bytes = λ x s bytes. plainly.plain-bytes x bytes s;
   write-kept = calls.write-kept;
 }
 
@@ -29,6 +35,16 @@ demand2 = record {
   load-full = loads.load-full;
   load-rule = loads.load-rule;
   load-least = loads.load-least;
+  plain-zero = plain.plain-zero;
+  plain-rows = plain.plain-rows;
+  plain-order = plain.plain-ordered;
+  plain-done = plain.plain-done;
+  plain-one = plain.plain-one;
+  plain-two = plain.plain-two;
+  plain-three = plain.plain-three;
+  plain-unreadable = plain.plain-unreadable;
+  plain-refused = plain.plain-refused;
+  plain-least = plain.plain-least;
   audit-zero = order.audit-zero;
   audit-done = order.audit-done;
   audit-one = order.audit-one;
@@ -46,6 +62,7 @@ demand2 = record {
   depth-steps = λ s c k long shape. calls.depth-steps s c long shape k;
   depth-late = calls.depth-late;
   write-load = trips.write-load;
+  plain-write-load = plainly.plain-write-load;
   load-write-load = trips.load-write-load;
   load-write = trips.load-write;
 }

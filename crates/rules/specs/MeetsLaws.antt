@@ -372,6 +372,18 @@ says-unmet added m rule =
     let e = kept-met added m rule in
     says-iff (says-broken m (numbered (schemaRules added) (ruleNumber rule))) (λ n met. n (e .1 met), λ n kept. n (e .0 kept))
 
+-- a rule that cannot fail is met
+pub met-of : (added : Added) (m : Schema) (rule : RuleName) → ¬ (¬ (Met added rule m)) → Met added rule m
+met-of added m rule n =
+    kept-met added m rule .0 (kept-of (says-split (says-broken m (numbered (schemaRules added) (ruleNumber rule)))))
+  where
+    kept-of : ((broken m (numbered (schemaRules added) (ruleNumber rule)) ≡ true) × ¬ (Kept m (numbered (schemaRules added) (ruleNumber rule))))
+        ⊎ ((broken m (numbered (schemaRules added) (ruleNumber rule)) ≡ false) × ¬ (¬ (Kept m (numbered (schemaRules added) (ruleNumber rule)))))
+        → Kept m (numbered (schemaRules added) (ruleNumber rule))
+    kept-of (inl q) = absurd (n (λ met. q .1 (kept-met added m rule .1 met)))
+    kept-of (inr q) = λ t k l. says-false (says-test (numbered (schemaRules added) (ruleNumber rule) .breaks m t k))
+        (λ b. q .1 (λ kept. false≢true (sym (kept t k l) ∙ b)))
+
 -- every rule of the list has a name
 all-named : (added : Added) → Each (λ r. (rule : RuleName) × (ruleNumber rule ≡ r .number)) (schemaRules added)
 all-named added =
@@ -433,3 +445,25 @@ module _ (added : Added) (m : Schema) where
         first-least 0 (ruleNumber rule) (brokenCases (schemaRules added) m) (rising added m)
             (unmet-among rule n),
       )
+
+-- ---- what is met whatever was added is met where nothing was
+
+pub meets-nothing : (added : Added) (m : Schema) → Meets added m → Meets Nothing m
+meets-nothing added m h RuleName.nameInvalid = h RuleName.nameInvalid
+meets-nothing added m h RuleName.nameTaken = h RuleName.nameTaken
+meets-nothing added m h RuleName.identifierInvalid = h RuleName.identifierInvalid
+meets-nothing added m h RuleName.identifierTaken = h RuleName.identifierTaken
+meets-nothing added m h RuleName.guidTaken = h RuleName.guidTaken
+meets-nothing added m h RuleName.attributeNotLive = (h RuleName.attributeNotLive .0, tt)
+meets-nothing added m h RuleName.classNotLive = let p = h RuleName.classNotLive in (p .0, p .1, tt, tt)
+meets-nothing added m h RuleName.notAnAuxiliary = h RuleName.notAnAuxiliary
+meets-nothing added m h RuleName.notASuperior = h RuleName.notASuperior
+meets-nothing added m h RuleName.categoryMisfit = h RuleName.categoryMisfit
+meets-nothing added m h RuleName.chainAstray = h RuleName.chainAstray
+meets-nothing added m h RuleName.namingUnfit = h RuleName.namingUnfit
+meets-nothing added m h RuleName.mapiTaken = h RuleName.mapiTaken
+meets-nothing added m h RuleName.rangeEmpty = h RuleName.rangeEmpty
+meets-nothing added m h RuleName.syntaxMisfit = h RuleName.syntaxMisfit
+meets-nothing added m h RuleName.objectClassWrong = h RuleName.objectClassWrong
+meets-nothing added m h RuleName.linkTaken = h RuleName.linkTaken
+meets-nothing added m h RuleName.linkAlone = h RuleName.linkAlone

@@ -2,6 +2,7 @@
 pub mod Filled
 pub mod FilledLaws
 pub mod PutLaws
+pub mod PutFrontLaws
 pub mod Same
 pub mod SameLaws
 pub mod Chain

@@ -95,7 +95,7 @@ unfolding splice
 written-count Attributes n s l = number-of-bytes 2 n [] _ (omega arith)
 written-count Classes n s l = refl
 
-count-short : (t : TableId) (n : ℕ) → length (countBytes t n) ≤ rowsAt
+pub count-short : (t : TableId) (n : ℕ) → length (countBytes t n) ≤ rowsAt
 count-short Attributes n = omega (arith, bytes-length 2 n)
 count-short Classes n = omega arith
 
