@@ -1,6 +1,6 @@
 -- What the calls promise, demand by demand, as types alone. The proofs stand in the other files: `demand1` and `demand2` (PromisesLaws) are members
--- of the two records. `load`, `audit`, `depth` and `write` are the definitions that the contracts of the calls equate with answer and final bytes,
--- for every input.
+-- of the two records. `load`, `audit`, `depth`, `write` and `plainChange` are the definitions that the contracts of the calls equate with answer and
+-- final bytes, for every input.
 use mathlib.Core.Bool.{false}
 use mathlib.Core.List.{List}
 use mathlib.Core.Logic.{_⊎_, _↔_}
