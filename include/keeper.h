@@ -6,7 +6,7 @@
  * target/staticlib/libkeeper_c.a (made by `rt staticlib keeper_c`). The archive is for x86-64 Linux; it needs nothing
  * but the C library's memcpy and memset, and no heap is used.
  * What each call gives and which bytes it writes is proved for every input; docs/PROOFS.md says where.
- * examples/load.c is a small program that uses it.
+ * examples/load.c and examples/change.c are small programs that use it.
  *
  * What a caller owes. The proof speaks of what stands in the bytes lent, whatever it is; it cannot speak of pointers:
  *   - Each pointer is valid for the length given beside it, and not NULL even where that length is 0.
@@ -17,7 +17,7 @@
  *     stores may run at the same time in other threads.
  *   - KEEPER_STACK bytes of stack are free.
  *
- * What a caller need not do: check anything. Any bytes may stand in sheet and stores, of any length.
+ * What a caller need not do: check anything. Any bytes may stand in sheet, change and stores, of any length.
  */
 #ifndef KEEPER_H
 #define KEEPER_H
@@ -51,8 +51,8 @@ extern "C" {
 #define KEEPER_LONGEST_SHEET 410756
 
 /*
- * So many bytes of stack are enough for every call. This is measured, not proved: the most was some 35,500 bytes, for
- * a load or an audit of a full schema in which each class names all others (docs/LAYOUT.md).
+ * So many bytes of stack are enough for every call. This is measured, not proved: the most was some 36,400 bytes, for
+ * a plain change of a full schema in which each class names all others (docs/LAYOUT.md).
  */
 #define KEEPER_STACK 65536
 
@@ -69,18 +69,30 @@ extern "C" {
 
 /*
  * The numbers that are no rule of the schema. docs/NUMBERS.md says of every number what it means and what can be done
- * about it. 7 to 11 and 30 are numbers of calls to come, and will be named here with them.
+ * about it.
  */
-#define KEEPER_DONE 0           /* done; or, audited, in order */
-#define KEEPER_SHORT_STORE 1    /* a lent store is shorter than its length: nothing but detail is written */
-#define KEEPER_BROKEN_SHAPE 2   /* counts, rows or unused rows hold bytes that no load could have left there */
-#define KEEPER_NOT_IN_ORDER 3   /* audit: every row is fine, but the closure store is not what the rows give */
-#define KEEPER_UNREADABLE 4     /* the sheet cannot be read; place: the byte offset */
-#define KEEPER_NO_SUCH_ROW 5    /* the class asked for is not there */
-#define KEEPER_NO_FREE_ROW 6    /* the sheet has more rows than fit; table, and place: the limit */
-#define KEEPER_SHORT_OUTPUT 31  /* write: the output is too short; place: the length needed */
+#define KEEPER_DONE 0               /* done; or, audited, in order */
+#define KEEPER_SHORT_STORE 1        /* a lent store is shorter than its length: nothing but detail is written */
+#define KEEPER_BROKEN_SHAPE 2       /* counts, rows or unused rows hold bytes that no load could have left there */
+/*
+ * 3 has two meanings. Audit: every row is fine, but the closure store is not what the rows give. Plain change: an audit
+ * would not give 0, for that reason or because a row breaks a rule.
+ */
+#define KEEPER_NOT_IN_ORDER 3
+#define KEEPER_UNREADABLE 4         /* the sheet or the change cannot be read; place: the byte offset */
+#define KEEPER_NO_SUCH_ROW 5        /* the class asked for, or the row to be changed, is not there */
+#define KEEPER_NO_FREE_ROW 6        /* more rows than fit; load: table, and place: the limit */
+#define KEEPER_WRONG_STATE 7        /* a change of a defunct row, or the reactivation of an active one */
+#define KEEPER_BASE_ROW 8           /* range, name or deactivation of a row that came with the server */
+#define KEEPER_ADDED_BASE_ROW 9     /* the added row is marked as one that came with the server */
+#define KEEPER_ENTRY_CONFLICT 10    /* the entry to be added is listed already, or the one to be removed is not */
+#define KEEPER_STILL_NEEDED 11      /* something active needs the row that is to be deactivated */
+#define KEEPER_MANDATORY_DIFFERS 30 /* some class would demand other attributes than before */
+#define KEEPER_SHORT_OUTPUT 31      /* write: the output is too short; place: the length needed */
 
-/* The rules of the schema: table and place name the lowest row that breaks the rule, attributes first. */
+/*
+ * The rules of the schema. Load and audit: table and place name the lowest row that breaks the rule, attributes first.
+ */
 #define KEEPER_NAME_INVALID 12
 #define KEEPER_NAME_TAKEN 13
 #define KEEPER_IDENTIFIER_INVALID 14
@@ -139,6 +151,25 @@ uint64_t keeper_audit(const uint8_t *attributes, size_t attributes_length,
                       const uint8_t *classes, size_t classes_length,
                       const uint8_t *closure, size_t closure_length,
                       uint64_t *detail, size_t detail_length);
+
+/*
+ * Plain change: is the schema, with this change made to it, in order too? Then the change is made. The stores are
+ * audited before, and the whole result is judged; docs/FORMAT.md shows changes byte by byte.
+ *   0       done: only this change is made, and the stores are in order; table and place: the row changed or added
+ *   1, 2    the stores are too short, or out of shape
+ *   3       they are not in order: a row breaks a rule, or the closure store is not what the rows give
+ *   4       the change cannot be read; place: the byte offset
+ *   5..11   the row that it asks for cannot be changed or added so
+ *   12..29  some row of the result breaks a rule: the smallest number
+ *   30      some class would demand other attributes than before
+ * The smallest number that holds is given. Refused, no byte of any store is altered, and table and place are 0 but for
+ * the place of 4.
+ */
+uint64_t keeper_plain_change(const uint8_t *change, size_t change_length,
+                             uint8_t *attributes, size_t attributes_length,
+                             uint8_t *classes, size_t classes_length,
+                             uint8_t *closure, size_t closure_length,
+                             uint64_t *detail, size_t detail_length);
 
 /*
  * How many steps lead from a class up its superclasses to class 0?

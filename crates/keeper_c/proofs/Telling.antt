@@ -1,19 +1,18 @@
--- A load and a write as C sees them, put together from what the keeper's call gives and what is told of its answer. Assumes nothing.
+-- Calls as C sees them, put together from what the keeper's call gives and what is told of its answer. Assumes nothing.
 use mathlib.Core.Path.{_≡_, ap, _∙_}
 use mathlib.Core.Bool.{false}
 use mathlib.Core.List.{List}
 use Prim.Native.Nat.{ℕ}
 use Rattle.schema.specs.Store.{Stores, Result, result}
 use Rattle.schema.specs.declared.answer.Answer.{Answer}
-use Rattle.keeper.specs.Load.{load}
 use Rattle.keeper.specs.Write.{Written, written, write}
-use Rattle.keeper_c.specs.Calls.{Told, told, answered, isShort, loaded, loadedBy, loadCall, wrote, wroteBy, writeCall}
+use Rattle.keeper_c.specs.Calls.{Told, told, answered, isShort, outcome, outcomeBy, storesCall, wrote, wroteBy, writeCall}
 
 module _ (detail : List ℕ) {detail' : List ℕ} {n : ℕ} {a : Answer} (tells : told n detail' ≡ answered a detail) (room : isShort detail ≡ false) where
-  pub load-told : (sheet : List ℕ) (s : Stores) {s' : Stores} → result a s' ≡ load sheet s → loaded (told n detail') s' ≡ loadCall sheet s detail
-  unfolding loadCall
-  load-told sheet s {s'} left =
-      rw room (ap (λ (t : Told). loaded t s') tells ∙ ap (λ (r : Result). loadedBy r detail) left)
+  pub stores-told : (r : Result) (s : Stores) {s' : Stores} → result a s' ≡ r → outcome (told n detail') s' ≡ storesCall r s detail
+  unfolding storesCall
+  stores-told r s {s'} left =
+      rw room (ap (λ (t : Told). outcome t s') tells ∙ ap (λ (x : Result). outcomeBy x detail) left)
 
   pub write-told : (s : Stores) (output : List ℕ) {output' : List ℕ} → written a output' ≡ write s output → wrote (told n detail') output'
       ≡ writeCall s output detail

@@ -12,6 +12,7 @@ use Rattle.keeper.specs.Audit.{audit}
 use Rattle.keeper.specs.Depth.{depth}
 use Rattle.keeper.specs.Load.{load}
 use Rattle.keeper.specs.Write.{Written, write}
+use Rattle.keeper_change.specs.Plain.{plainChange}
 
 -- table and place
 abbrev pub detailLength : ℕ
@@ -38,19 +39,26 @@ auditCall s detail = cond (isShort detail) (told refusal.shortStore detail) (ans
 unfoldable pub depthCall : Stores → ℕ → List ℕ → Told
 depthCall s c detail = cond (isShort detail) (told refusal.shortStore detail) (answered (depth s c) detail)
 
--- what a load tells, and the stores as it leaves them
-pub record Loaded : Type 0 where
+-- what a call that may write the stores tells, and the stores as it leaves them
+pub record Outcome : Type 0 where
   pub tells : Told
   pub left : Stores
 
-abbrev pub loaded : Told → Stores → Loaded
-loaded t s = record { tells = t; left = s }
+abbrev pub outcome : Told → Stores → Outcome
+outcome t s = record { tells = t; left = s }
 
-abbrev pub loadedBy : Result → List ℕ → Loaded
-loadedBy r detail = loaded (answered (r .answer) detail) (r .left)
+abbrev pub outcomeBy : Result → List ℕ → Outcome
+outcomeBy r detail = outcome (answered (r .answer) detail) (r .left)
 
-unfoldable pub loadCall : List ℕ → Stores → List ℕ → Loaded
-loadCall sheet s detail = cond (isShort detail) (loaded (told refusal.shortStore detail) s) (loadedBy (load sheet s) detail)
+-- such a call: what the keeper's own comes to, told of the stores that it was lent
+unfoldable pub storesCall : Result → Stores → List ℕ → Outcome
+storesCall r s detail = cond (isShort detail) (outcome (told refusal.shortStore detail) s) (outcomeBy r detail)
+
+abbrev pub loadCall : List ℕ → Stores → List ℕ → Outcome
+loadCall sheet s detail = storesCall (load sheet s) s detail
+
+abbrev pub plainChangeCall : List ℕ → Stores → List ℕ → Outcome
+plainChangeCall change s detail = storesCall (plainChange change s) s detail
 
 -- what a write tells, and the output as it leaves it
 pub record Wrote : Type 0 where

@@ -4,12 +4,13 @@ use keeper::audit::audit;
 use keeper::depth::depth;
 use keeper::load::load;
 use keeper::write::write;
+use keeper_change::plain::plain_change;
 use schema::answer::Answer;
 ghost use mathlib.Core.Path.{_≡_};
 ghost use Prim.Native.Nat.{_≤_};
 ghost use lib.ListN.{length};
 ghost use Rattle.schema.specs.Store.{stores};
-ghost use Rattle.keeper_c.specs.Calls.{told, answered, detailLength, auditCall, depthCall, loaded, loadCall, wrote, writeCall};
+ghost use Rattle.keeper_c.specs.Calls.{told, answered, detailLength, auditCall, depthCall, outcome, loadCall, plainChangeCall, wrote, writeCall};
 
 // Table and place: so many numbers.
 pub const DETAIL: usize = 2;
@@ -32,13 +33,30 @@ pub extern "C" fn keeper_load(
     closure: &mut [u8],
     detail: &mut [u64],
 ) -> u64
-    ensures { λ r. ⌜ loaded (told r (now (detail .exit))) (stores (now (attributes .exit)) (now (classes .exit)) (now (closure .exit)))
+    ensures { λ r. ⌜ outcome (told r (now (detail .exit))) (stores (now (attributes .exit)) (now (classes .exit)) (now (closure .exit)))
         ≡ loadCall (now (sheet .entry)) (stores (now (attributes .entry)) (now (classes .entry)) (now (closure .entry))) (now (detail .entry)) ⌝ }
 {
     if detail.len() < DETAIL {
         return 1;
     }
     answer_in(load(sheet, attributes, classes, closure), detail)
+}
+
+#[no_mangle]
+pub extern "C" fn keeper_plain_change(
+    change: &[u8],
+    attributes: &mut [u8],
+    classes: &mut [u8],
+    closure: &mut [u8],
+    detail: &mut [u64],
+) -> u64
+    ensures { λ r. ⌜ outcome (told r (now (detail .exit))) (stores (now (attributes .exit)) (now (classes .exit)) (now (closure .exit)))
+        ≡ plainChangeCall (now (change .entry)) (stores (now (attributes .entry)) (now (classes .entry)) (now (closure .entry))) (now (detail .entry)) ⌝ }
+{
+    if detail.len() < DETAIL {
+        return 1;
+    }
+    answer_in(plain_change(attributes, classes, closure, change), detail)
 }
 
 #[no_mangle]

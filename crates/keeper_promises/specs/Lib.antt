@@ -1,6 +1,9 @@
 -- What the calls promise as a whole, stated for a reader (Promises), and the proofs.
 pub mod PlainFrontLaws
 pub mod PlainLaws
+pub mod ReadingLaws
+pub mod Pieces
+pub mod PiecesLaws
 pub mod Promises
 pub mod Demand3
 pub mod Demand3Laws

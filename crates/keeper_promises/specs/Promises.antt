@@ -1,39 +1,48 @@
 -- What the calls promise, demand by demand, as types alone; demand 3 has a file of its own (Demand3). The proofs stand in the other files: `demand1` and
 -- `demand2` (PromisesLaws) are members of the two records. `load`, `audit`, `depth`, `write`, `plainChange` and `quickChange` are the definitions that the
 -- contracts of the calls equate with answer and final bytes, for every input.
+use mathlib.Core.Bool.{false}
 use mathlib.Core.List.{List}
 use mathlib.Core.Logic.{_⊎_, _↔_}
 use mathlib.Core.Path.{_≡_}
 use Prim.Native.Nat.{ℕ, _≤_, _<_}
 use lib.ListN.{drop, length}
 use Rattle.prelude.specs.Part.{Bytes, part, splice}
+use Rattle.wire.specs.Wire.{fieldAt}
+use Rattle.wire.specs.declared.FieldRead.the-variants.{Field}
 use Rattle.schema.specs.declared.number.TableId.{TableId}
 use Rattle.schema.specs.declared.number.TableId.the-variants.{Attributes, Classes}
-use Rattle.schema.specs.Answers.{passed, done, refused, unreadable, full, shortOutput, changed}
+use Rattle.schema.specs.Answers.{passed, done, refused, shortOutput, changed, fieldAnswer, numberAnswer}
 use Rattle.schema.specs.Layout.{storeLength, closureLength}
-use Rattle.schema.specs.Numbers.{classLimit}
+use Rattle.schema.specs.Numbers.{classLimit, numberRead}
 use Rattle.schema.specs.Store.{LongEnough, Stores, stores, result, schemaOf, closureAt, Schema}
 use Rattle.tables.specs.Filled.{emptyStores}
 use Rattle.graph.specs.Graph.{closureRow}
-use Rattle.graph.specs.Depth.{EarlierChain}
+use Rattle.graph.specs.declared.depth.Depth.the-variants.{Steps, NotEarlier}
+use Rattle.graph.specs.Depth.{EarlierChain, depthAnswer}
 use Rattle.sheet_read.specs.declared.read.SheetRead.the-variants.{Bad, Full, Read}
-use Rattle.sheet_read.specs.Reading.{readSheet, schemaFrom}
+use Rattle.sheet_read.specs.Reading.{readSheet, schemaFrom, sheetAnswer}
 use Rattle.rules.specs.declared.row.Added.the-variants.{Nothing}
 use Rattle.rules.specs.Rules.{schemaRules}
 use Rattle.rules.specs.Judge.{FirstBroken}
 use Rattle.rules.specs.Meets.{Meets, Met, RuleName, ruleNumber}
 use Rattle.tables_shape.specs.Shape.{StoresFormed}
 use Rattle.tables.specs.Same.{SameRows}
+use Rattle.rows_read.specs.declared.read.RowRead.{RowRead}
+use Rattle.rows_read.specs.Reading.{rowAnswer}
+use Rattle.rows_read.specs.ObjectClass.{readRow}
 use Rattle.sheet_round_trip.specs.Exact.{ExactSheet}
 use Rattle.keeper.specs.Load.{emptied, filled, load}
 use Rattle.keeper.specs.Audit.{audit}
 use Rattle.keeper.specs.Depth.{depth}
 use Rattle.keeper.specs.Write.{sheetOf, write, written}
 use Rattle.change_read.specs.declared.read.Change.{Change}
-use Rattle.change_read.specs.Reading.{changeOut, readChange}
+use Rattle.change_read.specs.declared.read.Tagged.the-variants.{Known}
+use Rattle.change_read.specs.Carried.{targetOf}
+use Rattle.change_read.specs.Reading.{changeOut, readChange, changeAnswer, changeOf, formatOf, scratch}
 use Rattle.change_model.specs.Conditions.{Condition, DemandDiffers}
 use Rattle.change_model.specs.Model.{addedBy, rowsAfter}
-use Rattle.change_rows.specs.Rows.{numberFor, schemaAfter, tableFor}
+use Rattle.change_rows.specs.Rows.{isAddition, numberFor, schemaAfter, tableFor}
 use Rattle.keeper_change.specs.Plain.{plainChange}
 use Rattle.keeper_change.specs.Quick.{quickChange}
 use Rattle.change_read.specs.declared.read.ChangeRead.the-variants as changes
@@ -100,6 +109,10 @@ moved s t =
     stores (splice 0 (part 0 (storeLength Attributes) (s .attributes)) (t .attributes)) (splice 0 (part 0 (storeLength Classes) (s .classes)) (t .classes))
     (splice 0 (part 0 closureLength (s .closure)) (t .closure))
 
+-- what the value of a change reads as, from start up to stop
+abbrev pub valueRead : Change → List ℕ → ℕ → ℕ → RowRead
+valueRead change x start stop = readRow (formatOf change) x start stop scratch .answer
+
 -- ---- demand 1: "Any bytes may come in as sheet, change or tables. No call wraps, reads astray or runs on, and none relies on its caller." That is
 -- in the contracts:
 -- no call has a `requires`, and each has its equation for every input. "a refused load leaves them empty, or untouched if one was too short":
@@ -134,6 +147,8 @@ pub record Demand1 : Type 0 where
 -- ---- demand 2: "A change is accepted and applied by the whole check exactly when the change rules hold and the resulting schema meets every schema
 -- rule of document 01, after the published checks. Otherwise the smallest number whose condition holds is returned. An accepted
 -- schema written as a sheet and loaded again is the same schema."
+-- What a reading or the chain of superclasses comes to is an enum; `sheetAnswer`, `changeAnswer`, `fieldAnswer`, `rowAnswer`, `numberAnswer` and
+-- `depthAnswer` give the number and values of each of their cases.
 
 pub record Demand2 : Type 0 where
   -- load: 0 exactly if the stores are long enough, the sheet reads and its rows meet every rule
@@ -145,8 +160,9 @@ pub record Demand2 : Type 0 where
   pub load-audits : (sheet : List ℕ) (s : Stores) → Bytes sheet → LongEnough s → Acceptable sheet → audit (load sheet s .left) ≡ passed
   -- "4 sheet or change unreadable; place is the byte offset", "6 no free row; at load .. with table and limit"
   pub load-unreadable : (sheet : List ℕ) (s : Stores) → LongEnough s → (at : ℕ) → readSheet sheet .answer ≡ Bad at → load sheet s
-      ≡ result (unreadable at) (emptied s)
-  pub load-full : (sheet : List ℕ) (s : Stores) → LongEnough s → (t : TableId) → readSheet sheet .answer ≡ Full t → load sheet s ≡ result (full t) (emptied s)
+      ≡ result (sheetAnswer (Bad at)) (emptied s)
+  pub load-full : (sheet : List ℕ) (s : Stores) → LongEnough s → (t : TableId) → readSheet sheet .answer ≡ Full t → load sheet s
+      ≡ result (sheetAnswer (Full t)) (emptied s)
   -- the sheet reads, and some row breaks a rule: the first that is broken, "the table and lowest row that break the rule found, attributes first"
   pub load-rule : (sheet : List ℕ) (s : Stores) → LongEnough s → readSheet sheet .answer ≡ Read → ¬ Meets Nothing (schemaFrom (readSheet sheet .rows))
       → FirstBroken (schemaFrom (readSheet sheet .rows)) (schemaRules Nothing) (load sheet s .answer)
@@ -167,7 +183,18 @@ pub record Demand2 : Type 0 where
   pub plain-two : (x : List ℕ) (s : Stores) → LongEnough s → ¬ Shape s → plainChange x s ≡ result (refused refusal.brokenShape) s
   pub plain-three : (x : List ℕ) (s : Stores) → LongEnough s → Shape s → ¬ InOrder s → plainChange x s ≡ result (refused refusal.notInOrder) s
   pub plain-unreadable : (x : List ℕ) (s : Stores) → InOrder s → (at : ℕ) → readChange x .answer ≡ changes.Bad at
-      → plainChange x s ≡ result (unreadable at) s
+      → plainChange x s ≡ result (changeAnswer (changes.Bad at)) s
+  -- a change is one field, which may be missing or cut
+  pub plain-field : (x : List ℕ) (s : Stores) → InOrder s → ¬ (fieldAnswer (length x) (fieldAt x 0 (length x)) .number ≡ 0)
+      → plainChange x s ≡ result (fieldAnswer (length x) (fieldAt x 0 (length x))) s
+  -- its value is read as a row is
+  pub plain-value : (x : List ℕ) (s : Stores) → InOrder s → (tag start stop : ℕ) (change : Change) → fieldAt x 0 (length x) ≡ Field tag start stop
+      → changeOf tag ≡ Known change → ¬ (rowAnswer (valueRead change x start stop) .number ≡ 0)
+      → plainChange x s ≡ result (rowAnswer (valueRead change x start stop)) s
+  -- a target that is no number of its table
+  pub plain-target : (x : List ℕ) (s : Stores) → InOrder s → (change : Change) (r : List ℕ) → readChange x ≡ changeOut (changes.Read change) r
+      → isAddition change ≡ false → ¬ (numberAnswer (numberRead (tableFor change) (targetOf r)) .number ≡ 0)
+      → plainChange x s ≡ result (numberAnswer (numberRead (tableFor change) (targetOf r))) s
   pub plain-refused : (x : List ℕ) (s : Stores) → InOrder s → (change : Change) (r : List ℕ) → readChange x ≡ changeOut (changes.Read change) r
       → ¬ (plainChange x s .answer .number ≡ 0)
       → Condition change r (schemaOf s) (plainChange x s .answer .number) × (plainChange x s .answer ≡ refused (plainChange x s .answer .number))
@@ -199,9 +226,9 @@ pub record Demand2 : Type 0 where
   pub depth-two : (s : Stores) (c : ℕ) → LongEnough s → ¬ Shape s → depth s c ≡ refused refusal.brokenShape
   pub depth-five : (s : Stores) (c : ℕ) → LongEnough s → Shape s → schemaOf s .classes .count ≤ c → depth s c ≡ refused refusal.noSuchRow
   pub depth-steps : (s : Stores) (c k : ℕ) → LongEnough s → Shape s → c < schemaOf s .classes .count → EarlierChain (schemaOf s .classes) c k
-      → depth s c ≡ done k
+      → depth s c ≡ depthAnswer (Steps k)
   pub depth-late : (s : Stores) (c : ℕ) → LongEnough s → Shape s → c < schemaOf s .classes .count → ((k : ℕ) → ¬ EarlierChain (schemaOf s .classes) c k)
-      → depth s c ≡ refused refusal.classNotLive
+      → depth s c ≡ depthAnswer NotEarlier
   -- "Tables, sheet, tables gives the same bytes if in order": written into any output with room, and loaded into any stores
   pub write-load : (s t : Stores) (out : List ℕ) → InOrder s → OfBytes s → LongEnough t → length (sheetOf s) ≤ length out
       → load (part 0 (write s out .answer .place) (write s out .output)) t ≡ result passed (moved s t)

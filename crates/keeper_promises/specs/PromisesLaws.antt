@@ -11,6 +11,7 @@ use Rattle.keeper_promises.specs.OrderLaws as order
 use Rattle.keeper_promises.specs.PlainFrontLaws as plainly
 use Rattle.keeper_promises.specs.PlainLaws as plain
 use Rattle.keeper_promises.specs.QuickLaws as quick
+use Rattle.keeper_promises.specs.ReadingLaws as reading
 use Rattle.keeper_promises.specs.RoundTripLaws as trips
 
 pub demand1 : Demand1
@@ -48,6 +49,9 @@ demand2 = record {
   plain-two = plain.plain-two;
   plain-three = plain.plain-three;
   plain-unreadable = plain.plain-unreadable;
+  plain-field = reading.plain-field;
+  plain-value = reading.plain-value;
+  plain-target = reading.plain-target;
   plain-refused = plain.plain-refused;
   plain-least = plain.plain-least;
   quick-one = quick.quick-one;

@@ -11,10 +11,10 @@ use Rattle.prelude.specs.SpliceLaws.{splice-length, splice-append, splice-over,
 use Rattle.prelude.specs.LentLaws.{lent-back}
 use Rattle.schema.specs.declared.answer.Answer.{Answer}
 use Rattle.schema.specs.Store.{Stores, stores, Result, result}
-use Rattle.keeper.specs.Load.{load}
 use Rattle.keeper.specs.Write.{Written, written, write}
+use Rattle.replay.specs.declared.step.Call.{Call}
 use Rattle.replay.specs.declared.play.Lengths.{Lengths}
-use Rattle.replay.specs.Playing.{pastByte, pastBytes, lengthened, lent, returnedBy, loadLent, writtenTo, writeLent}
+use Rattle.replay.specs.Playing.{pastByte, pastBytes, lengthened, lent, returnedBy, called, calledLent, writtenTo, writeLent}
 
 -- ---- bytes A5
 
@@ -65,16 +65,16 @@ front-length n s h = ap length (front n s) ∙ part-length 0 n s (omega arith)
 back : (n : ℕ) (s new : List ℕ) → length new ≡ n → take 0 s ++ (new ++ drop (n - 0) (drop 0 s)) ≡ splice 0 new s
 back n s new e = lent-back 0 n s new new (omega (arith, e)) refl
 
-pub load-back : (sheet : List ℕ) (l : Lengths) (s : Stores) (r : Answer) (a c k : List ℕ)
-    → result r (stores a c k) ≡ load sheet (stores (take (l .attributes - 0) (drop 0 (s .attributes))) (take (l .classes - 0) (drop 0 (s .classes)))
+pub call-back : (call : Call) (bytes : List ℕ) (l : Lengths) (s : Stores) (r : Answer) (a c k : List ℕ)
+    → result r (stores a c k) ≡ called call bytes (stores (take (l .attributes - 0) (drop 0 (s .attributes))) (take (l .classes - 0) (drop 0 (s .classes)))
     (take (l .closure - 0) (drop 0 (s .closure))))
     → length a ≡ l .attributes → length c ≡ l .classes → length k ≡ l .closure
     → result r (stores (take 0 (s .attributes) ++ (a ++ drop (l .attributes - 0) (drop 0 (s .attributes))))
     (take 0 (s .classes) ++ (c ++ drop (l .classes - 0) (drop 0 (s .classes))))
     (take 0 (s .closure) ++ (k ++ drop (l .closure - 0) (drop 0 (s .closure)))))
-    ≡ loadLent sheet l s
-unfolding loadLent
-load-back sheet l s r a c k e la lc lk =
+    ≡ calledLent call bytes l s
+unfolding calledLent
+call-back call bytes l s r a c k e la lc lk =
     rw (back (l .attributes) (s .attributes) a la, back (l .classes) (s .classes) c lc, back (l .closure) (s .closure) k lk)
     (ap (λ (x : Result). returnedBy x s)
     (e ∙ rw (front (l .attributes) (s .attributes), front (l .classes) (s .classes), front (l .closure) (s .closure))))

@@ -7,7 +7,7 @@ use native.Mathlib.Omega.{arith}
 use lib.Dec.{eqb}
 use lib.ListN.{length}
 use Rattle.replay.specs.declared.step.Step.{Step}
-use Rattle.replay.specs.declared.step.Step.the-variants.{Load, Audit, Write, Depth, Poke, Resize}
+use Rattle.replay.specs.declared.step.Step.the-variants.{Called, Audit, Write, Depth, Poke, Resize}
 use Rattle.replay.specs.declared.play.Lengths.{Lengths}
 use Rattle.replay.specs.Steps.{longest, StepWithin}
 use Rattle.replay.specs.Playing.{AtMost, lengths, firstLengths, resizedLengths, lengthsAfter}
@@ -41,7 +41,7 @@ resized-at-most store n l h m = go (eqb store 0) (eqb store 1)
     go false false = record { attributes = m .attributes; classes = m .classes; closure = h }
 
 pub after-at-most : (script : List ℕ) (step : Step) (l : Lengths) → StepWithin script step → AtMost longest l → AtMost longest (lengthsAfter step l)
-after-at-most script (Load start stop) l w m = m
+after-at-most script (Called call start stop) l w m = m
 after-at-most script Audit l w m = m
 after-at-most script (Write n) l w m = m
 after-at-most script (Depth c) l w m = m

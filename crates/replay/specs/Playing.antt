@@ -15,8 +15,11 @@ use Rattle.keeper.specs.Audit.{audit}
 use Rattle.keeper.specs.Depth.{depth}
 use Rattle.keeper.specs.Load.{load}
 use Rattle.keeper.specs.Write.{Written, written, write}
+use Rattle.keeper_change.specs.Plain.{plainChange}
+use Rattle.replay.specs.declared.step.Call.{Call}
+use Rattle.replay.specs.declared.step.Call.the-variants.{Load, PlainChange}
 use Rattle.replay.specs.declared.step.Step.{Step}
-use Rattle.replay.specs.declared.step.Step.the-variants.{Load, Audit, Write, Depth, Poke, Resize}
+use Rattle.replay.specs.declared.step.Step.the-variants.{Called, Audit, Write, Depth, Poke, Resize}
 use Rattle.replay.specs.declared.play.Lengths.{Lengths}
 
 -- bytes that no call has written
@@ -52,8 +55,13 @@ returned new s = stores (splice 0 (new .attributes) (s .attributes)) (splice 0 (
 abbrev pub returnedBy : Result → Stores → Result
 returnedBy r s = result (r .answer) (returned (r .left) s)
 
-unfoldable pub loadLent : List ℕ → Lengths → Stores → Result
-loadLent sheet l s = returnedBy (load sheet (lent l s)) s
+-- a call that is lent bytes of the script, and may write the stores
+abbrev pub called : Call → List ℕ → Stores → Result
+called Load bytes s = load bytes s
+called PlainChange bytes s = plainChange bytes s
+
+unfoldable pub calledLent : Call → List ℕ → Lengths → Stores → Result
+calledLent call bytes l s = returnedBy (called call bytes (lent l s)) s
 
 abbrev pub writtenTo : Written → List ℕ → Written
 writtenTo w out = written (w .answer) (splice 0 (w .output) out)
@@ -91,7 +99,7 @@ resizedLengths store n l =
     (cond (eqb store 1) (lengths (l .attributes) n (l .closure)) (lengths (l .attributes) (l .classes) n))
 
 abbrev pub lengthsAfter : Step → Lengths → Lengths
-lengthsAfter (Load start stop) l = l
+lengthsAfter (Called call start stop) l = l
 lengthsAfter Audit l = l
 lengthsAfter (Write n) l = l
 lengthsAfter (Depth c) l = l
@@ -109,15 +117,15 @@ pub record Played : Type 0 where
 abbrev pub played : Answer → Stores → List ℕ → Played
 played a s out = record { answer = a; left = s; output = out }
 
-abbrev pub playedLoad : Result → List ℕ → Played
-playedLoad r out = played (r .answer) (r .left) out
+abbrev pub playedCall : Result → List ℕ → Played
+playedCall r out = played (r .answer) (r .left) out
 
 abbrev pub playedWrite : Written → Stores → Played
 playedWrite w s = played (w .answer) s (w .output)
 
 -- "(poke, resize: 0 0 0)"
 abbrev pub playStep : Step → List ℕ → Lengths → Stores → List ℕ → Played
-playStep (Load start stop) script l s out = playedLoad (loadLent (part start (stop - start) script) l s) out
+playStep (Called call start stop) script l s out = playedCall (calledLent call (part start (stop - start) script) l s) out
 playStep Audit script l s out = played (audit (lent l s)) s out
 playStep (Write n) script l s out = playedWrite (writeLent l s n out) s
 playStep (Depth c) script l s out = played (depth (lent l s) c) s out

@@ -1,4 +1,4 @@
-// Plays a replay script from standard input: loads, audits, writes, depths, pokes and resizes. Each step prints a line. The script, every store and
+// Plays a replay script from standard input: loads, plain changes, audits, writes, depths, pokes and resizes. Each step prints a line. The script, every store and
 // every output has at most 64 KiB, since there is no heap; a step that is cut, unknown or asks for more ends the play, with no line of its own.
 mod hash;
 mod play;
@@ -9,6 +9,7 @@ use crate::play::Lengths;
 use crate::play::lengthen;
 use crate::play::lengths_after;
 use crate::play::take_step;
+use crate::step::Call;
 use crate::step::Step;
 use crate::step::Turn;
 use crate::step::read_turn;
@@ -49,11 +50,24 @@ fn start(attributes: &mut [u8], classes: &mut [u8], closure: &mut [u8]) -> Lengt
 // adds the hash of the whole output lent". No contract can say which bytes a call of C's writes, so the functions that print have none; the gate
 // compares what is printed.
 
-fn say_name(step: Step) {
-    match step {
-        Step::Load { start: _, stop: _ } => {
+fn say_call(call: Call) {
+    match call {
+        Call::Load => {
             io::write_all(STDOUT_FILENO, &[b'l', b'o', b'a', b'd']);
         }
+        Call::PlainChange => {
+            io::write_all(STDOUT_FILENO, &[b'p', b'l', b'a', b'i', b'n']);
+        }
+    }
+}
+
+fn say_name(step: Step) {
+    match step {
+        Step::Called {
+            call,
+            start: _,
+            stop: _,
+        } => say_call(call),
         Step::Audit => {
             io::write_all(STDOUT_FILENO, &[b'a', b'u', b'd', b'i', b't']);
         }
@@ -109,7 +123,11 @@ fn say_output(script: &[u8], step: Step, output: &[u8])
     requires { ⌜ StepWithin (now script) step × (longest ≤ length (now output)) ⌝ }
 {
     match step {
-        Step::Load { start: _, stop: _ } => {}
+        Step::Called {
+            call: _,
+            start: _,
+            stop: _,
+        } => {}
         Step::Audit => {}
         Step::Write { length } => say_hash(part_of(output, 0, length)),
         Step::Depth { class: _ } => {}

@@ -1,9 +1,11 @@
 // What a step answers and leaves. The stores are arrays of the longest length; of each only a front is lent, as long as the last resize said.
+use crate::step::Call;
 use crate::step::Step;
 use keeper::audit::audit;
 use keeper::depth::depth;
 use keeper::load::load;
 use keeper::write::write;
+use keeper_change::plain::plain_change;
 use prelude::part::part_of;
 use schema::answer::Answer;
 ghost use mathlib.Core.Path.{_≡_};
@@ -15,7 +17,7 @@ ghost use Rattle.keeper.specs.Audit.{audit as audited};
 ghost use Rattle.keeper.specs.Depth.{depth as depthFrom};
 ghost use Rattle.keeper.specs.Write.{written};
 ghost use Rattle.replay.specs.Steps.{longest, StepWithin};
-ghost use Rattle.replay.specs.Playing.{pastBytes, lent, Fits, loadLent, writeLent, poked, pokeLent, resizeLent, resizedLengths, lengthsAfter};
+ghost use Rattle.replay.specs.Playing.{pastBytes, lent, Fits, called, calledLent, writeLent, poked, pokeLent, resizeLent, resizedLengths, lengthsAfter};
 ghost use Rattle.replay.specs.Playing.{played, playStep};
 
 // How much of each store is lent.
@@ -40,8 +42,27 @@ pub fn lengthen(store: &mut [u8], from: usize, to: usize)
     }
 }
 
-fn load_lent(
-    sheet: &[u8],
+// A call that is lent bytes of the script.
+fn take_call(
+    call: Call,
+    bytes: &[u8],
+    attributes: &mut [u8],
+    classes: &mut [u8],
+    closure: &mut [u8],
+) -> Answer
+    ensures { λ r. ⌜ result r (stores (now (attributes .exit)) (now (classes .exit)) (now (closure .exit)))
+        ≡ called call (now (bytes .entry)) (stores (now (attributes .entry)) (now (classes .entry)) (now (closure .entry))) ⌝ }
+{
+    match call {
+        Call::Load => load(bytes, attributes, classes, closure),
+        Call::PlainChange => plain_change(attributes, classes, closure, bytes),
+    }
+}
+
+// With what is lent of the stores.
+fn call_lent(
+    call: Call,
+    bytes: &[u8],
     attributes: &mut [u8],
     classes: &mut [u8],
     closure: &mut [u8],
@@ -49,13 +70,14 @@ fn load_lent(
 ) -> Answer
     requires { ⌜ Fits lengths (stores (now attributes) (now classes) (now closure)) ⌝ }
     ensures { λ r. ⌜ result r (stores (now (attributes .exit)) (now (classes .exit)) (now (closure .exit)))
-        ≡ loadLent (now (sheet .entry)) lengths (stores (now (attributes .entry)) (now (classes .entry)) (now (closure .entry))) ⌝ }
+        ≡ calledLent call (now (bytes .entry)) lengths (stores (now (attributes .entry)) (now (classes .entry)) (now (closure .entry))) ⌝ }
 {
     let a = lengths.attributes;
     let c = lengths.classes;
     let k = lengths.closure;
-    load(
-        sheet,
+    take_call(
+        call,
+        bytes,
         &mut attributes[0..a],
         &mut classes[0..c],
         &mut closure[0..k],
@@ -204,7 +226,11 @@ pub fn lengths_after(step: Step, lengths: Lengths) -> Lengths
     ensures { λ r. ⌜ r ≡ lengthsAfter step lengths ⌝ }
 {
     match step {
-        Step::Load { start: _, stop: _ } => lengths,
+        Step::Called {
+            call: _,
+            start: _,
+            stop: _,
+        } => lengths,
         Step::Audit => lengths,
         Step::Write { length: _ } => lengths,
         Step::Depth { class: _ } => lengths,
@@ -235,9 +261,14 @@ pub fn take_step(
         (now (output .entry)) ⌝ }
 {
     match step {
-        Step::Load { start, stop } => {
-            load_lent(&script[start..stop], attributes, classes, closure, lengths)
-        }
+        Step::Called { call, start, stop } => call_lent(
+            call,
+            &script[start..stop],
+            attributes,
+            classes,
+            closure,
+            lengths,
+        ),
         Step::Audit => audit_lent(attributes, classes, closure, lengths),
         Step::Write { length } => {
             write_lent(attributes, classes, closure, lengths, output, length)

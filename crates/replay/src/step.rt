@@ -5,18 +5,39 @@ use prelude::number::read_u32;
 ghost use mathlib.Core.Path.{_≡_};
 ghost use Prim.Native.Nat.{_<_};
 ghost use lib.ListN.{length};
-ghost use Rattle.replay.specs.Steps.{Within, loadAt, writeAt, depthAt, pokeAt, resizeAt, turnAt};
+ghost use Rattle.replay.specs.Steps.{Within, calledAt, writeAt, depthAt, pokeAt, resizeAt, turnAt};
+
+// A call that is lent bytes of the script, and may write the stores.
+pub enum Call {
+    Load,
+    PlainChange,
+}
 
 // One step.
 pub enum Step {
-    // The sheet, by where it begins and ends in the script.
-    Load { start: usize, stop: usize },
+    // Such a call, with where its sheet or change begins and ends in the script.
+    Called {
+        call: Call,
+        start: usize,
+        stop: usize,
+    },
     Audit,
     // The length of the output lent.
-    Write { length: usize },
-    Depth { class: u16 },
-    Poke { store: u8, offset: usize, byte: u8 },
-    Resize { store: u8, length: usize },
+    Write {
+        length: usize,
+    },
+    Depth {
+        class: u16,
+    },
+    Poke {
+        store: u8,
+        offset: usize,
+        byte: u8,
+    },
+    Resize {
+        store: u8,
+        length: usize,
+    },
 }
 
 // The step at a place and where the next one begins; or none that can be played.
@@ -30,6 +51,8 @@ pub const LONGEST: usize = 65536;
 
 pub const LOAD: u8 = 0x01;
 
+pub const PLAIN_CHANGE: u8 = 0x02;
+
 pub const AUDIT: u8 = 0x04;
 
 pub const WRITE: u8 = 0x05;
@@ -40,22 +63,22 @@ pub const POKE: u8 = 0x07;
 
 pub const RESIZE: u8 = 0x08;
 
-// "01 load (u32 length, sheet)"
-fn read_load(s: &[u8], at: usize) -> Turn
+// "01 load (u32 length, sheet), 02 plain change (u32 length, change)"
+fn read_called(call: Call, s: &[u8], at: usize) -> Turn
     requires { ⌜ at < length (now s) ⌝ }
-    ensures { λ r. ⌜ (r ≡ loadAt (now (s .entry)) at) × Within (now (s .entry)) at r ⌝ }
+    ensures { λ r. ⌜ (r ≡ calledAt call (now (s .entry)) at) × Within (now (s .entry)) at r ⌝ }
 {
     if s.len() - at < 5 {
         return Turn::Stop;
     }
-    let sheet = read_u32(s, at + 1) as usize;
-    if s.len() - at - 5 < sheet {
+    let lent = read_u32(s, at + 1) as usize;
+    if s.len() - at - 5 < lent {
         return Turn::Stop;
     }
     let start = at + 5;
-    let stop = start + sheet;
+    let stop = start + lent;
     Turn::On {
-        step: Step::Load { start, stop },
+        step: Step::Called { call, start, stop },
         next: stop,
     }
 }
@@ -147,7 +170,10 @@ pub fn read_turn(s: &[u8], at: usize) -> Turn
 {
     let code = byte_at(s, at);
     if code == LOAD {
-        return read_load(s, at);
+        return read_called(Call::Load, s, at);
+    }
+    if code == PLAIN_CHANGE {
+        return read_called(Call::PlainChange, s, at);
     }
     if code == AUDIT {
         return Turn::On {

@@ -9,4 +9,3 @@ pub mod SameLaws
 pub mod RowChange
 pub mod RowChangeLaws
 pub mod ReadLaws
-pub mod Pieces

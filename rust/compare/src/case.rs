@@ -17,6 +17,8 @@ pub enum Call {
     Write(usize),
     /// An audit.
     Audit,
+    /// This plain change.
+    Plain(Vec<u8>),
     /// The depth of this class.
     Depth(u16),
 }
@@ -28,6 +30,7 @@ impl Call {
             Call::Load(_) => "load",
             Call::Write(_) => "write",
             Call::Audit => "audit",
+            Call::Plain(_) => "plain",
             Call::Depth(_) => "depth",
         }
     }
@@ -66,6 +69,7 @@ impl Case {
             Call::Load(sheet) => keeper.load(sheet, lent_mut(&mut stores), &mut detail),
             Call::Write(_) => keeper.write(lent(&stores), &mut output, &mut detail),
             Call::Audit => keeper.audit(lent(&stores), &mut detail),
+            Call::Plain(change) => keeper.plain_change(change, lent_mut(&mut stores), &mut detail),
             Call::Depth(class) => keeper.depth(lent(&stores), *class, &mut detail),
         };
         Outcome {
@@ -86,7 +90,7 @@ fn lent(stores: &Stores) -> Lent<'_> {
     }
 }
 
-/// The stores, to be loaded into.
+/// The stores, to be written to.
 fn lent_mut(stores: &mut Stores) -> LentMut<'_> {
     LentMut {
         attributes: &mut stores.attrs,

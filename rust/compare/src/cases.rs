@@ -1,8 +1,10 @@
 //! The inputs: as many at random as asked for, and then some families in full.
 
 use crate::case::{Call, Case};
+use crate::lists;
+use crate::page;
 use generate::stores::{self, PAST};
-use generate::{Random, Stores, sheets};
+use generate::{Random, Stores, changes, sheets};
 use reference::layout::{ATTRIBUTE_STORE, CLASS_STORE, CLOSURE_STORE};
 
 /// "A whole sheet, 67 bytes"
@@ -18,15 +20,20 @@ const WHOLE: &[u8] = &[
 const FOREST: &[u8] = include_bytes!("../../../samples/forest.sheet");
 
 /// So many inputs the families in full have.
-pub const EXPECTED: usize = 256 * WHOLE.len() + (FOREST.len() + 1) + POKED * 3 * POKES.len();
+pub const EXPECTED: usize =
+    256 * WHOLE.len() + (FOREST.len() + 1) + POKED * 4 * POKES.len() + page::EXPECTED;
 
-/// All inputs, the same for the same seed.
+/// All inputs, the same for the same seed: so many of every call, and as many
+/// changes in lists.
 pub fn cases(seed: u64, count: usize) -> impl Iterator<Item = Case> {
     let random = (0..count as u64).map(move |number| any(&mut Random::nth(seed, number)));
     random
+        .chain(lists::all(seed).take(count))
         .chain(every_byte())
         .chain(every_prefix())
         .chain(every_poke())
+        .chain(page::every_byte())
+        .chain(page::every_prefix())
 }
 
 /// The whole sheet with each byte replaced by each value.
@@ -55,6 +62,9 @@ const POKED: usize = (2 + 2 * 189) + (2 + 2 * 315) + 2 * 80;
 /// Each is poked with these.
 const POKES: [u8; 8] = [0x00, 0x01, 0x02, 0x0A, 0x40, 0x41, 0x7F, 0xFF];
 
+/// A change that the forest accepts: attribute 17 is named `woodedHa`.
+const RENAMING: &[u8] = b"\x43\x00\x10\x20\x00\x02\x00\x11\x01\x00\x08woodedHa";
+
 /// The forest's stores with a byte poked, asked by every call that reads them.
 fn every_poke() -> impl Iterator<Item = Case> {
     let mut forest = Stores::default();
@@ -69,7 +79,12 @@ fn every_poke() -> impl Iterator<Item = Case> {
         if let Some(bytes) = stores.store_mut(store) {
             bytes[place] = byte;
         }
-        let calls = [Call::Audit, Call::Write(FOREST.len()), Call::Depth(19)];
+        let calls = [
+            Call::Audit,
+            Call::Write(FOREST.len()),
+            Call::Depth(19),
+            Call::Plain(RENAMING.to_vec()),
+        ];
         calls.map(|call| Case::new(call, stores.clone()))
     })
 }
@@ -77,17 +92,24 @@ fn every_poke() -> impl Iterator<Item = Case> {
 /// An input of any kind.
 fn any(random: &mut Random) -> Case {
     let stores = any_stores(random);
-    let call = match random.below(10) {
+    let call = match random.below(12) {
         0..=3 => Call::Load(any_sheet(random)),
         4..=5 => Call::Write(any_length(random, &stores)),
         6..=7 => Call::Audit,
+        8..=9 => Call::Plain(changes::any(random, &stores.schema())),
         _ => Call::Depth(any_class(random, &stores)),
     };
     let mut case = Case::new(call, stores);
-    if random.once_in(12) {
-        case.detail = random.pick(&[0, 1, 3, 7]).copied().unwrap_or(2);
-    }
+    case.detail = any_detail(random);
     case
+}
+
+/// Mostly room for what a call tells, sometimes less or more.
+pub fn any_detail(random: &mut Random) -> usize {
+    match random.once_in(12) {
+        true => random.pick(&[0, 1, 3, 7]).copied().unwrap_or(2),
+        false => 2,
+    }
 }
 
 /// Sheets of every kind, and sometimes bytes alone.
@@ -107,7 +129,7 @@ pub fn any_sheet(random: &mut Random) -> Vec<u8> {
 
 /// Stores of every kind: those that a caller might have, noise, and any
 /// lengths.
-fn any_stores(random: &mut Random) -> Stores {
+pub fn any_stores(random: &mut Random) -> Stores {
     let mut stores = match random.below(16) {
         0 => noise(random),
         1 => Stores::default(),

@@ -13,7 +13,7 @@ pub struct Lent<'a> {
     pub closure: &'a [u8],
 }
 
-/// The three stores, lent to be loaded into.
+/// The three stores, lent to be written to.
 #[derive(Debug)]
 pub struct LentMut<'a> {
     /// The attribute store.
@@ -35,6 +35,9 @@ pub trait Keeper {
 
     /// `keeper_audit`
     fn audit(&self, stores: Lent<'_>, detail: &mut [u64]) -> u64;
+
+    /// `keeper_plain_change`
+    fn plain_change(&self, change: &[u8], stores: LentMut<'_>, detail: &mut [u64]) -> u64;
 
     /// `keeper_depth`
     fn depth(&self, stores: Lent<'_>, class: u16, detail: &mut [u64]) -> u64;
@@ -71,6 +74,12 @@ impl Keeper for Reference {
     fn audit(&self, s: Lent<'_>, detail: &mut [u64]) -> u64 {
         tell(detail, || {
             reference::audit(s.attributes, s.classes, s.closure)
+        })
+    }
+
+    fn plain_change(&self, change: &[u8], s: LentMut<'_>, detail: &mut [u64]) -> u64 {
+        tell(detail, || {
+            reference::plain_change(s.attributes, s.classes, s.closure, change)
         })
     }
 

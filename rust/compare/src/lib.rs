@@ -9,7 +9,9 @@ mod keeper;
 #[cfg(feature = "linked")]
 pub mod linked;
 mod listings;
+mod lists;
 mod outcome;
+mod page;
 mod run;
 
 pub use case::{Call, Case};

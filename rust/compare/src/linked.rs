@@ -20,6 +20,10 @@ impl Keeper for Declared {
         keeper::c::audit(s.attributes, s.classes, s.closure, detail)
     }
 
+    fn plain_change(&self, change: &[u8], s: LentMut<'_>, detail: &mut [u64]) -> u64 {
+        keeper::c::plain_change(change, s.attributes, s.classes, s.closure, detail)
+    }
+
     fn depth(&self, s: Lent<'_>, class: u16, detail: &mut [u64]) -> u64 {
         keeper::c::depth(s.attributes, s.classes, s.closure, class, detail)
     }
@@ -60,6 +64,17 @@ impl Keeper for Wrapped {
     fn audit(&self, s: Lent<'_>, detail: &mut [u64]) -> u64 {
         tell(detail, || {
             same(keeper::audit(s.attributes, s.classes, s.closure))
+        })
+    }
+
+    fn plain_change(&self, change: &[u8], s: LentMut<'_>, detail: &mut [u64]) -> u64 {
+        tell(detail, || {
+            let LentMut {
+                attributes,
+                classes,
+                closure,
+            } = s;
+            same(keeper::plain_change(change, attributes, classes, closure))
         })
     }
 

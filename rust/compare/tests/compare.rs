@@ -1,23 +1,34 @@
 //! The comparison finds what it is there to find, without the library linked.
 
 use compare::{EXPECTED, Keeper, Lent, LentMut, Reference, compare};
+use generate::Stores;
 use generate::coverage::may_give;
+
+/// So many inputs `rust/run` makes at random, from seed 1.
+const COUNT: usize = 20_000;
+
+/// At least so often every number is met that a plain change may give.
+const OFTEN: u64 = 20;
 
 #[test]
 fn the_reference_does_not_differ_from_itself_and_every_number_is_reached() {
-    let report = compare(&Reference, &Reference, 1, 12_000);
+    let report = compare(&Reference, &Reference, 1, COUNT);
+    println!("{}", report.coverage);
     assert_eq!(report.differences, Vec::<String>::new());
-    assert_eq!(report.inputs, EXPECTED + 12_000);
-    for call in ["load", "write", "audit", "depth"] {
+    assert_eq!(report.inputs, EXPECTED + 2 * COUNT);
+    for call in ["load", "write", "audit", "plain", "depth"] {
+        let least = if call == "plain" { OFTEN } else { 1 };
         for number in 0..=40 {
-            let reached = report.coverage.count(call, number) > 0;
-            assert_eq!(reached, may_give(call, number), "{call} {number}");
+            let count = report.coverage.count(call, number);
+            let expected = may_give(call, number);
+            assert_eq!(count > 0, expected, "{call} {number}");
+            assert!(!expected || count >= least, "{call} {number}: {count}");
         }
     }
 }
 
 /// A keeper that is wrong in one thing.
-#[derive(Clone, Copy)]
+#[derive(Clone, Copy, Debug)]
 enum Wrong {
     /// Empties a byte past the attribute store at each load.
     PastTheEnd,
@@ -29,6 +40,34 @@ enum Wrong {
     OneByteMore,
     /// Counts one step too few.
     OneStepLess,
+    /// Refuses every change.
+    AllRefused,
+    /// Answers a change with 0 and writes nothing.
+    NothingWritten,
+    /// Makes a change without its closure.
+    ClosureLeft,
+    /// Leaves a trace of a change that breaks a rule.
+    NotTakenBack,
+    /// Names the row of a change that is refused.
+    RowOfRefusal,
+    /// Tells which rule stores out of order break.
+    RuleForThree,
+}
+
+impl Wrong {
+    /// What this keeper makes of a plain change that it should answer so.
+    fn plain_number(&self, right: u64) -> u64 {
+        match (self, right) {
+            (Wrong::AllRefused, 0) => 30,
+            (Wrong::RuleForThree, 3) => 12,
+            _ => right,
+        }
+    }
+
+    /// Whether it leaves the stores as they were, though they should not be.
+    fn keeps_all(&self) -> bool {
+        matches!(self, Wrong::AllRefused | Wrong::NothingWritten)
+    }
 }
 
 impl Keeper for Wrong {
@@ -58,6 +97,33 @@ impl Keeper for Wrong {
         }
     }
 
+    fn plain_change(&self, change: &[u8], stores: LentMut<'_>, detail: &mut [u64]) -> u64 {
+        let mut made = Stores {
+            attrs: stores.attributes.to_vec(),
+            classes: stores.classes.to_vec(),
+            closure: stores.closure.to_vec(),
+        };
+        let lent = LentMut {
+            attributes: &mut made.attrs,
+            classes: &mut made.classes,
+            closure: &mut made.closure,
+        };
+        let number = Reference.plain_change(change, lent, detail);
+        match (self, number, &mut *detail) {
+            (Wrong::NotTakenBack, 12.., _) => made.attrs[3] ^= 1,
+            (Wrong::RowOfRefusal, 12.., [table, _]) => *table = 1,
+            _ => {}
+        }
+        if !self.keeps_all() {
+            stores.attributes.copy_from_slice(&made.attrs);
+            stores.classes.copy_from_slice(&made.classes);
+        }
+        if !self.keeps_all() && !matches!(self, Wrong::ClosureLeft) {
+            stores.closure.copy_from_slice(&made.closure);
+        }
+        self.plain_number(number)
+    }
+
     fn depth(&self, stores: Lent<'_>, class: u16, detail: &mut [u64]) -> u64 {
         let number = Reference.depth(stores, class, detail);
         if let (Wrong::OneStepLess, [_, place]) = (self, detail) {
@@ -75,9 +141,15 @@ fn a_wrong_keeper_differs() {
         Wrong::ClosurePassed,
         Wrong::OneByteMore,
         Wrong::OneStepLess,
+        Wrong::AllRefused,
+        Wrong::NothingWritten,
+        Wrong::ClosureLeft,
+        Wrong::NotTakenBack,
+        Wrong::RowOfRefusal,
+        Wrong::RuleForThree,
     ];
     for keeper in wrong {
         let report = compare(&keeper, &Reference, 1, 3000);
-        assert!(!report.differences.is_empty());
+        assert!(!report.differences.is_empty(), "{keeper:?}");
     }
 }

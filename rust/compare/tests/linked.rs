@@ -1,12 +1,13 @@
 //! The safe functions of `keeper` as a caller uses them: with the lengths and
 //! the stack that the crate names.
 
-use generate::Stores;
+use generate::{Stores, changes};
 use keeper::{Answer, DONE, LONGEST_SHEET};
+use reference::changes::{Alteration, Change};
 use reference::layout::Tables;
 use reference::schema::{
     ARC_LIMIT, ATTRIBUTE_LIMIT, Attribute, CLASS_LIMIT, Category, Class, Common, NAME_LIMIT,
-    Numbers, OBJECT_CLASS_LIMIT, Schema,
+    Numbers, OBJECT_CLASS_LIMIT, OpenList, Row, Schema,
 };
 use reference::{closure, writing};
 use std::thread;
@@ -14,6 +15,7 @@ use std::thread;
 const FOREST: &[u8] = include_bytes!("../../../samples/forest.sheet");
 
 /// Stores of just the lengths needed.
+#[derive(Clone, PartialEq, Eq)]
 struct Lent {
     attributes: Vec<u8>,
     classes: Vec<u8>,
@@ -44,6 +46,15 @@ impl Lent {
 
     fn audit(&self) -> Answer {
         keeper::audit(&self.attributes, &self.classes, &self.closure)
+    }
+
+    fn plain_change(&mut self, change: &Change) -> Answer {
+        let Lent {
+            attributes,
+            classes,
+            closure,
+        } = self;
+        keeper::plain_change(&changes::bytes(change), attributes, classes, closure)
     }
 
     fn depth(&self, class: u16) -> Answer {
@@ -80,6 +91,30 @@ fn a_refused_sheet_tells_table_and_row() {
     let refused = include_bytes!("../../../samples/refused.sheet");
     let told = Lent::new().load(refused);
     assert_eq!((told.number, told.table, told.place), (13, 1, 1));
+}
+
+/// An attribute gets a name.
+fn renamed(attribute: u16, name: &[u8]) -> Change {
+    Change::Alter {
+        target: Row::Attribute(attribute),
+        alteration: Alteration::Name(name.to_vec()),
+    }
+}
+
+/// A change that is done tells its row, one that is refused alters nothing.
+#[test]
+fn the_forest_is_changed() {
+    let mut lent = Lent::new();
+    assert_eq!(lent.load(FOREST), answer(DONE, 0));
+    let loaded = lent.clone();
+    assert_eq!(lent.plain_change(&renamed(19, b"AREAHA")), answer(13, 0));
+    assert!(lent == loaded);
+    let told = lent.plain_change(&renamed(17, b"woodedHa"));
+    assert_eq!((told.number, told.table, told.place), (0, 1, 17));
+    assert!(lent != loaded);
+    assert_eq!(lent.audit(), answer(DONE, 0));
+    let told = lent.plain_change(&renamed(19, b"AREAHA"));
+    assert_eq!((told.number, told.table, told.place), (0, 1, 19));
 }
 
 /// All rows below the limit.
@@ -171,6 +206,17 @@ fn deepest() -> Schema {
     }
 }
 
+/// The last class of that schema may have attribute 0, which it demands anyway.
+fn allowed_more() -> Change {
+    Change::Alter {
+        target: Row::Class(127),
+        alteration: Alteration::AddEntry {
+            list: OpenList::Optional,
+            entry: 0,
+        },
+    }
+}
+
 #[test]
 fn the_stack_named_is_enough_for_the_deepest_schema() {
     let sheet = writing::sheet(&deepest());
@@ -182,6 +228,8 @@ fn the_stack_named_is_enough_for_the_deepest_schema() {
         assert_eq!(lent.depth(127), answer(DONE, 127));
         assert_eq!(lent.write(&mut output), answer(DONE, sheet.len()));
         assert!(output == sheet);
+        let told = lent.plain_change(&allowed_more());
+        assert_eq!((told.number, told.table, told.place), (0, 2, 127));
     };
     let thread = thread::Builder::new().stack_size(keeper::STACK);
     let ended = thread.spawn(calls).map(|thread| thread.join().is_ok());

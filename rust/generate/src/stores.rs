@@ -2,7 +2,8 @@
 //! shape but not in order, broken, short, long.
 
 use crate::random::Random;
-use crate::{schemas, spoil};
+use crate::schemas::{self, Size};
+use crate::spoil;
 use reference::closure::{self, Kept};
 use reference::layout::{self, ATTRIBUTE_STORE, CLASS_STORE, CLOSURE_STORE, Tables};
 use reference::schema::{ATTRIBUTE_LIMIT, CLASS_LIMIT, Numbers, Schema};
@@ -121,8 +122,20 @@ impl Stores {
 
 /// Stores that a load accepted.
 pub fn in_order(random: &mut Random) -> Stores {
+    let schema = schemas::any(random);
+    loaded(&schema)
+}
+
+/// Stores in order with a table that is full, or lacks one row.
+pub fn nearly_full(random: &mut Random) -> Stores {
+    let size = Size::full(random);
+    loaded(&schemas::schema(random, size))
+}
+
+/// Stores that a schema was loaded into.
+fn loaded(schema: &Schema) -> Stores {
     let mut stores = Stores::default();
-    stores.load(&writing::sheet(&schemas::any(random)));
+    stores.load(&writing::sheet(schema));
     stores
 }
 

@@ -30,7 +30,7 @@ pub const CLOSURE_LENGTH: usize = 10_240;
 /// output is too short says so (number 31).
 pub const LONGEST_SHEET: usize = 4 + 256 * 224 + 128 * 2761;
 /// So many bytes of stack are enough for every call. This is measured, not
-/// proved: the most was some 35,500 (docs/LAYOUT.md).
+/// proved: the most was some 36,400 (docs/LAYOUT.md).
 pub const STACK: usize = 64 * 1024;
 /// The number of an answer that refuses nothing.
 pub const DONE: u64 = 0;
@@ -71,6 +71,17 @@ pub fn write(attributes: &[u8], classes: &[u8], closure: &[u8], output: &mut [u8
 /// Whether the stores are in order.
 pub fn audit(attributes: &[u8], classes: &[u8], closure: &[u8]) -> Answer {
     answer(|detail| c::audit(attributes, classes, closure, detail))
+}
+
+/// Makes a change, where the schema with it is in order too. Refused, no byte of
+/// any store is altered.
+pub fn plain_change(
+    change: &[u8],
+    attributes: &mut [u8],
+    classes: &mut [u8],
+    closure: &mut [u8],
+) -> Answer {
+    answer(|detail| c::plain_change(change, attributes, classes, closure, detail))
 }
 
 /// How many steps lead from a class up its superclasses to class 0.

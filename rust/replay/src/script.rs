@@ -19,7 +19,7 @@ const MOST_POKES: usize = 60;
 pub enum Kind {
     /// Every step of the format.
     Whole,
-    /// What the Rattle player plays: no changes, and nothing over 64 KiB.
+    /// What the Rattle player plays: no quick changes, and nothing over 64 KiB.
     Small,
 }
 
@@ -65,14 +65,15 @@ impl Script {
         let empty = self.player.stores().schema().is_empty();
         match self.random.below(100) {
             _ if empty && self.random.once_in(2) => self.plan_sound_load(),
+            _ if self.is_changed_again() => self.plan_change(Step::Plain),
             0..=4 => self.plan_load(),
             5..=6 => self.plan_sound_load(),
-            7..=29 if self.kind == Kind::Whole => self.plan_change(Step::Plain),
+            7..=29 => self.plan_change(Step::Plain),
             30..=72 if self.kind == Kind::Whole => self.plan_change(Step::Quick),
-            7..=14 => self.plan_load(),
-            15..=50 => self.plan_disorder_asked(),
-            51..=58 => self.plan_write(),
-            59..=66 => self.plan_depth(),
+            30..=37 => self.plan_load(),
+            38..=54 => self.plan_disorder_asked(),
+            55..=60 => self.plan_write(),
+            61..=66 => self.plan_depth(),
             73..=79 => self.planned.push_back(Step::Audit),
             80..=84 => self.plan_write(),
             85..=89 => self.plan_depth(),
@@ -80,6 +81,13 @@ impl Script {
             93..=97 => self.plan_disorder(),
             _ => self.plan_resize(),
         }
+    }
+
+    /// Whether a small script goes on with changes: mostly, while the stores
+    /// are in order, since a plain change says nothing but 3 of others.
+    fn is_changed_again(&mut self) -> bool {
+        let small = self.kind == Kind::Small;
+        small && self.player.stores().audit().number == 0 && !self.random.once_in(6)
     }
 
     fn plan_load(&mut self) {
@@ -174,7 +182,7 @@ impl Script {
         self.planned.push_back(resize(short));
         match self.random.below(4) {
             0 => self.plan_load(),
-            1 if self.kind == Kind::Whole => self.plan_change(Step::Plain),
+            1 => self.plan_change(Step::Plain),
             2 if self.kind == Kind::Whole => self.plan_change(Step::Quick),
             _ => self
                 .planned

@@ -129,10 +129,10 @@ fn pokes_and_resizes() {
 }
 
 #[test]
-fn a_small_script_holds_no_changes_and_nothing_over_its_limit() {
+fn a_small_script_holds_no_quick_changes_and_nothing_over_its_limit() {
     for step in Script::new(4, Kind::Small).take(2000) {
         let small = match step {
-            Step::Plain(_) | Step::Quick(_) => false,
+            Step::Quick(_) => false,
             Step::Write(length) | Step::Resize { length, .. } => length <= replay::SMALL,
             _ => true,
         };
@@ -155,4 +155,9 @@ fn the_stored_output_is_what_the_reference_plays() {
     assert!(script.len() <= replay::SMALL as usize);
     assert_eq!(lines.collect::<String>(), stored);
     assert!(stored.lines().count() > 200);
+    let plain: BTreeSet<&str> = stored
+        .lines()
+        .filter_map(|line| line.strip_prefix("plain ")?.split(' ').next())
+        .collect();
+    assert!(plain.contains("0") && plain.len() > 20);
 }

@@ -1,12 +1,12 @@
 use borrow.Author.Tests.{lt-ltb, le-ltb}
-use Rattle.keeper_c.specs.Calls.{isShort, loadCall}
-use Rattle.keeper_c.proofs.Telling.{load-told}
+use Rattle.keeper_c.specs.Calls.{isShort, storesCall}
+use Rattle.keeper_c.proofs.Telling.{stores-told}
 use borrow.Author.Needs.{needs}
 use Rattle.keeper_c.proofs.keeper_load.Statement.{statement}
 use Rattle.keeper_c.proofs.keeper_load.Tie as tie
 
 returns : tie.Need-returns
-unfolding loadCall isShort
+unfolding storesCall isShort
 returns c = rw (lt-ltb _ _ (c .if1 .taken))
 
 load-requires : tie.Need-load-requires
@@ -33,7 +33,7 @@ returns-2 c =
     let c₁ = c .before .before in
     let c₂ = c₁ .before .before .before .before .before .before .before .before in
     let c₃ = c₂ .before .before .before .before in
-    load-told _ (c₁ .answer-in .ensures) (le-ltb _ _ (c₃ .if1 .left)) _ _ (c₂ .load .ensures)
+    stores-told _ (c₁ .answer-in .ensures) (le-ltb _ _ (c₃ .if1 .left)) _ _ (c₂ .load .ensures)
 
 pub keeper-load-spec : {M : Type 1} → statement M
 keeper-load-spec =

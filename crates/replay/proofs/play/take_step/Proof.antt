@@ -10,26 +10,26 @@ use Rattle.replay.proofs.play.take_step.Tie as tie
 enum-known-step : tie.Need-enum-known-step
 enum-known-step c = search needs
 
-sub-load-lent : tie.Need-sub-load-lent
-sub-load-lent c =
+sub-call-lent : tie.Need-sub-call-lent
+sub-call-lent c =
     let c₁ = c .before in
     let start = c₁ .before .before .before .before .before .before .before in
     (subst (λ (x : Step). StepWithin (start .args .script .now) x) (c₁ .step .given .1) (start .pre .0 .1)) .0
 
-part-load-lent-start : tie.Need-part-load-lent-start
-part-load-lent-start c =
+part-call-lent-start : tie.Need-part-call-lent-start
+part-call-lent-start c =
     let c₁ = c .before in
     let start = c₁ .before .before .before .before .before .before .before in
     (subst (λ (x : Step). StepWithin (start .args .script .now) x) (c₁ .step .given .1) (start .pre .0 .1)) .0
 
-part-load-lent-end : tie.Need-part-load-lent-end
-part-load-lent-end c =
+part-call-lent-end : tie.Need-part-call-lent-end
+part-call-lent-end c =
     let c₁ = c .before in
     let start = c₁ .before .before .before .before .before .before .before in
     (subst (λ (x : Step). StepWithin (start .args .script .now) x) (c₁ .step .given .1) (start .pre .0 .1)) .1
 
-load-lent-requires : tie.Need-load-lent-requires
-load-lent-requires c κs = search needs
+call-lent-requires : tie.Need-call-lent-requires
+call-lent-requires c κs = search needs
 
 enum-told : tie.Need-enum-told
 enum-told c = search needs
@@ -99,7 +99,7 @@ unfolding part
 returns c =
     let c₁ = c .before .before .before .before .before .before in
     let c₂ = c₁ .before .before .before .before .before .before in
-    rw (c₂ .step .given .1, ← (c₁ .load-lent .ensures))
+    rw (c₂ .step .given .1, ← (c₁ .call-lent .ensures))
 
 same-length-4 : tie.Need-same-length-4
 same-length-4 c = search needs
@@ -178,10 +178,10 @@ take-step-spec =
     tie.close
     (tie.spec
     enum-known-step
-    sub-load-lent
-    part-load-lent-start
-    part-load-lent-end
-    load-lent-requires
+    sub-call-lent
+    part-call-lent-start
+    part-call-lent-end
+    call-lent-requires
     enum-told
     audit-lent-requires
     enum-known-step-2
