@@ -4,3 +4,4 @@ pub mod After
 pub mod KeptLaws
 pub mod JoinedLaws
 pub mod FreshLaws
+pub mod SameLaws
