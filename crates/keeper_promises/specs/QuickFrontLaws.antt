@@ -12,6 +12,7 @@ use Rattle.prelude.specs.Part.{Bytes}
 use Rattle.prelude.specs.PartLaws.{row-length}
 use Rattle.prelude.specs.SaysLaws.{choose, says-eq, says-false, says-true}
 use Rattle.prelude.specs.SpliceLaws.{splice-after}
+use Rattle.sets.specs.Sets.{union}
 use Rattle.sets.specs.SetsLaws.{set-length, union-length}
 use Rattle.schema.specs.Answers.{passed}
 use Rattle.schema.specs.Layout.{closureLength, closureWidth}
@@ -45,26 +46,34 @@ use Rattle.keeper_promises.specs.QuickLaws.{quick-kept, quick-shaped}
 
 -- ---- the closure store
 
--- sets put in for the classes whose kept reach holds class k
-each-past : (n k : ℕ) (f : ℕ → List ℕ → List ℕ) (closure : List ℕ) → closureLength ≤ length closure
-    → ((c : ℕ) → c < classLimit → length (f c (closureAt closure c)) ≡ closureWidth)
-    → drop closureLength (eachHolding n k f closure) ≡ drop closureLength closure
-unfolding eachHolding rowWhere
-each-past n k f closure long wide =
-    put-past closureLength (concatBelow classLimit (rowWhere n k f closure)) closure
-    (concat-length (rowWhere n k f closure) closureWidth classLimit row-wide) long
-  where
-    row-wide : (c : ℕ) → c < classLimit → length (rowWhere n k f closure c) ≡ closureWidth
-    row-wide c l =
-        let row = closureAt closure c in
-        choose (λ (x : List ℕ). length x ≡ closureWidth) (holds n k c row) {x = f c row} {y = row} (λ e. wide c l)
-        (λ e. row-length 0 closureWidth classLimit c closure long l)
+-- sets put in for the classes whose kept reach holds class k, each as wide as it was
+module _ (n k : ℕ) (f : ℕ → List ℕ → List ℕ) (closure : List ℕ) (long : closureLength ≤ length closure)
+    (wide : (c : ℕ) → c < classLimit → length (f c (closureAt closure c)) ≡ closureWidth) where
+  row-wide : (c : ℕ) → c < classLimit → length (rowWhere n k f closure c) ≡ closureWidth
+  unfolding rowWhere
+  row-wide c l =
+      let row = closureAt closure c in
+      choose (λ (x : List ℕ). length x ≡ closureWidth) (holds n k c row) {x = f c row} {y = row} (λ e. wide c l)
+      (λ e. row-length 0 closureWidth classLimit c closure long l)
+
+  pub each-length : length (concatBelow classLimit (rowWhere n k f closure)) ≡ closureLength
+  each-length = concat-length (rowWhere n k f closure) closureWidth classLimit row-wide
+
+  each-past : drop closureLength (eachHolding n k f closure) ≡ drop closureLength closure
+  unfolding eachHolding
+  each-past = put-past closureLength (concatBelow classLimit (rowWhere n k f closure)) closure each-length long
 
 module _ (t : Table) (n : ℕ) (closure : List ℕ) (long : closureLength ≤ length closure) where
+  pub joined-wide : (more : List ℕ) (c : ℕ) → c < classLimit → length (union (closureAt closure c) more) ≡ closureWidth
+  joined-wide more c l = union-length (closureAt closure c) more ∙ row-length 0 closureWidth classLimit c closure long l
+
+  pub new-wide : length (newRow t closure n) ≡ closureWidth
+  unfolding newRow namedSets
+  new-wide = union-length (namedSets t closure n) _ ∙ set-length closureWidth _
+
   joined-past : (k : ℕ) (more : List ℕ) → drop closureLength (joinedInto n k more closure) ≡ drop closureLength closure
   unfolding joinedInto
-  joined-past k more =
-      each-past n k _ closure long (λ c l. union-length (closureAt closure c) more ∙ row-length 0 closureWidth classLimit c closure long l)
+  joined-past k more = each-past n k _ closure long (joined-wide more)
 
   entry-past : (list : OpenList) (b k : ℕ) → drop closureLength (entryJoined list b n k closure) ≡ drop closureLength closure
   entry-past Optional b k = joined-past k _
@@ -76,10 +85,8 @@ module _ (t : Table) (n : ℕ) (closure : List ℕ) (long : closureLength ≤ le
   refreshed-past k = each-past n k _ closure long (λ c l. closure-row-length t c)
 
   new-past : n < classLimit → drop closureLength (withNew t n closure) ≡ drop closureLength closure
-  unfolding withNew newRow namedSets
-  new-past l =
-      let w : length (newRow t closure n) ≡ closureWidth = union-length (namedSets t closure n) _ ∙ set-length closureWidth _ in
-      splice-after (closureWidth * n) (newRow t closure n) closure (omega arith) closureLength (omega arith)
+  unfolding withNew
+  new-past l = splice-after (closureWidth * n) (newRow t closure n) closure (omega (arith, new-wide)) closureLength (omega (arith, new-wide))
 
   closure-past : (change : Change) (r : List ℕ) → (change ≡ Add Classes → n < classLimit)
       → drop closureLength (closureAfter change r t n closure) ≡ drop closureLength closure
@@ -128,70 +135,72 @@ module _ (x : List ℕ) (bytes : Bytes x) (s : Stores) where
       go (yes e) = e
       go (no d) = absurd (d (ap (λ (a : Answer). a .number) (refused-any (shapeAnswers s) passed _ refl d) ∙ z))
 
-  -- and from a change that reads and that numbers 5 to 11 let pass; then it is made
-  record Made : Type 0 where
-    pub change : Change
-    pub carried : List ℕ
-    pub reads : Reads x change carried
-    pub ok : InShape s × (firstAsked change carried m ≡ 0)
-    pub left : quickChange x s .left ≡ quickMade (Read change) carried s
+  abbrev r : List ℕ
+  r = readChange x .row
 
-  left-made : Done → quickChange x s .left ≡ quickMade (readChange x .answer) (readChange x .row) s
+  -- and from a change that reads and that numbers 5 to 30 let pass; then it is made
+  pub record Made (change : Change) : Type 0 where
+    pub reads : Reads x change r
+    pub shape : InShape s
+    pub number : quickNumber change r m (s .closure) ≡ 0
+    pub left : quickChange x s .left ≡ quickMade (Read change) r s
+
+  left-made : Done → quickChange x s .left ≡ quickMade (readChange x .answer) r s
   unfolding quickChange quickRead
-  left-made z = rw (says-true (says-eq (quickAnswer (readChange x .answer) (readChange x .row) s .number) 0) z)
+  left-made z = rw (says-true (says-eq (quickAnswer (readChange x .answer) r s .number) 0) z)
 
-  told-number : Done → (y : ChangeRead) → readChange x .answer ≡ y → quickTo y (readChange x .row) s .number ≡ 0
+  told-number : Done → (y : ChangeRead) → readChange x .answer ≡ y → quickTo y r s .number ≡ 0
   told-number z y e =
-      ap (λ (a : Answer). a .number) (sym (quick-shaped x s (done-shape z) ∙ ap (λ (w : ChangeRead). quickTo w (readChange x .row) s) e)) ∙ z
+      ap (λ (a : Answer). a .number) (sym (quick-shaped x s (done-shape z) ∙ ap (λ (w : ChangeRead). quickTo w r s) e)) ∙ z
 
-  made : Done → Made
-  made z = go (readChange x .answer) refl
+  pub done-reads : Done → (change : Change) × (readChange x .answer ≡ Read change)
+  done-reads z = go (readChange x .answer) refl
     where
-      r : List ℕ
-      r = readChange x .row
-
-      go : (y : ChangeRead) → readChange x .answer ≡ y → Made
+      go : (y : ChangeRead) → readChange x .answer ≡ y → (change : Change) × (readChange x .answer ≡ Read change)
       go (Bad at) e = let q : _≡_ {A = ℕ} 4 0 = told-number z (Bad at) e in absurd (omega arith)
-      go (Read change) e = record {
-        change = change;
-        carried = r;
-        reads = ap (λ (w : ChangeRead). changeOut w r) e;
-        ok = (done-shape z, quick-asked change r m (s .closure) (answer-zero change r m (quickNumber change r m (s .closure)) (told-number z (Read change) e)));
-        left = left-made z ∙ ap (λ (w : ChangeRead). quickMade w r s) e;
-      }
+      go (Read change) e = (change, e)
 
-  module _ (h : Made) where
-    abbrev change : Change
-    change = h .change
+  pub made : Done → (change : Change) → readChange x .answer ≡ Read change → Made change
+  made z change e = record {
+    reads = ap (λ (w : ChangeRead). changeOut w r) e;
+    shape = done-shape z;
+    number = answer-zero change r m (quickNumber change r m (s .closure)) (told-number z (Read change) e);
+    left = left-made z ∙ ap (λ (w : ChangeRead). quickMade w r s) e;
+  }
 
-    abbrev r : List ℕ
-    r = h .carried
+  module _ (change : Change) (h : Made change) where
+    pub allowed : InShape s × (firstAsked change r m ≡ 0)
+    allowed = (h .shape, quick-asked change r m (s .closure) (h .number))
 
-    room : change ≡ Add Classes → m .classes .count < classLimit
-    room e = asked-room (Add Classes) r m (rw e at (h .ok .1)) refl
+    pub room : change ≡ Add Classes → m .classes .count < classLimit
+    room e = asked-room (Add Classes) r m (rw e at (allowed .1)) refl
 
     left-past : SamePast (quickMade (Read change) r s) s
     left-past =
-        let p = made-past change x r bytes (h .reads) s (h .ok) in
+        let p = made-past change x r bytes (h .reads) s allowed in
         record {
           attributes = p .attributes;
           classes = p .classes;
-          closure = closure-past (schemaAfter change r m .classes) (m .classes .count) (s .closure) (h .ok .0 .long .closure) change r room;
+          closure = closure-past (schemaAfter change r m .classes) (m .classes .count) (s .closure) (h .shape .long .closure) change r room;
         }
 
     left-bytes : OfBytes s → OfBytes (quickMade (Read change) r s)
-    left-bytes b = let p = made-bytes change x r bytes (h .reads) s (h .ok) b in record { attributes = p .attributes; classes = p .classes }
+    left-bytes b = let p = made-bytes change x r bytes (h .reads) s allowed b in record { attributes = p .attributes; classes = p .classes }
 
   pub quick-past : SamePast (quickChange x s .left) s
   quick-past = go (ℕ-discrete (quickChange x s .answer .number) 0)
     where
       go : Dec Done → SamePast (quickChange x s .left) s
-      go (yes z) = subst (λ (w : Stores). SamePast w s) (sym (made z .left)) (left-past (made z))
+      go (yes z) =
+          let c = done-reads z in
+          let h = made z (c .0) (c .1) in subst (λ (w : Stores). SamePast w s) (sym (h .left)) (left-past (c .0) h)
       go (no d) = subst (λ (w : Stores). SamePast w s) (sym (quick-kept x s d)) (past-reflexive s)
 
   pub quick-bytes : OfBytes s → OfBytes (quickChange x s .left)
   quick-bytes b = go (ℕ-discrete (quickChange x s .answer .number) 0)
     where
       go : Dec Done → OfBytes (quickChange x s .left)
-      go (yes z) = subst OfBytes (sym (made z .left)) (left-bytes (made z) b)
+      go (yes z) =
+          let c = done-reads z in
+          let h = made z (c .0) (c .1) in subst OfBytes (sym (h .left)) (left-bytes (c .0) h b)
       go (no d) = subst OfBytes (sym (quick-kept x s d)) b
