@@ -137,10 +137,12 @@ pub record Demand1 : Type 0 where
   pub quick-kept : (x : List ℕ) (s : Stores) → ¬ (quickChange x s .answer .number ≡ 0) → quickChange x s .left ≡ s
   -- "bytes past [the lengths] are never touched", nor looked at
   pub plain-past : (x : List ℕ) (s : Stores) → Bytes x → SamePast (plainChange x s .left) s
+  pub quick-past : (x : List ℕ) (s : Stores) → Bytes x → SamePast (quickChange x s .left) s
   pub plain-alike : (x : List ℕ) (s t : Stores) → Bytes x → Alike s t
       → (plainChange x s .answer ≡ plainChange x t .answer) × Alike (plainChange x s .left) (plainChange x t .left)
   -- stores of bytes stay such
   pub plain-bytes : (x : List ℕ) (s : Stores) → Bytes x → OfBytes s → OfBytes (plainChange x s .left)
+  pub quick-bytes : (x : List ℕ) (s : Stores) → Bytes x → OfBytes s → OfBytes (quickChange x s .left)
   -- "Refused .. writes .. alter nothing"
   pub write-kept : (s : Stores) (out : List ℕ) → ¬ (write s out .answer .number ≡ 0) → write s out .output ≡ out
 

@@ -10,6 +10,7 @@ use Rattle.keeper_promises.specs.LoadLaws as loads
 use Rattle.keeper_promises.specs.OrderLaws as order
 use Rattle.keeper_promises.specs.PlainFrontLaws as plainly
 use Rattle.keeper_promises.specs.PlainLaws as plain
+use Rattle.keeper_promises.specs.QuickFrontLaws as quickly
 use Rattle.keeper_promises.specs.QuickLaws as quick
 use Rattle.keeper_promises.specs.ReadingLaws as reading
 use Rattle.keeper_promises.specs.RoundTripLaws as trips
@@ -26,8 +27,10 @@ demand1 = record {
   plain-kept = plain.plain-kept;
   quick-kept = quick.quick-kept;
   plain-past = λ x s bytes. plainly.plain-past x bytes s;
+  quick-past = λ x s bytes. quickly.quick-past x bytes s;
   plain-alike = λ x s t bytes. plainly.plain-alike x bytes s t;
   plain-bytes = λ x s bytes. plainly.plain-bytes x bytes s;
+  quick-bytes = λ x s bytes. quickly.quick-bytes x bytes s;
   write-kept = calls.write-kept;
 }
 
