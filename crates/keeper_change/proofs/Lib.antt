@@ -2,3 +2,4 @@
 pub mod Saving
 pub mod Whole
 pub mod Making
+pub mod Alone
