@@ -6,6 +6,7 @@ pub mod Demand3
 pub mod Demand3Laws
 pub mod QuickLaws
 pub mod QuickFrontLaws
+pub mod QuickAlikeLaws
 pub mod AfterLaws
 pub mod AloneLaws
 pub mod StepLaws
