@@ -1,4 +1,4 @@
--- What the calls promise as a whole, stated for a reader (Promises), and the proofs.
+-- What the calls promise as a whole, stated for a reader (Promises, Demand3), and the proofs.
 pub mod PlainFrontLaws
 pub mod PlainLaws
 pub mod Promises
