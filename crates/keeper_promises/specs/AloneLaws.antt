@@ -78,7 +78,7 @@ module _ (r : List ℕ) (m : Schema) where
   unfolding schemaAfter tableAfter withRow
   same-count = refl
 
-  entry-there : listOf r ≡ Auxiliary → NoneHolds (changedCases AddEntry r m) → entryOf r < m .classes .count
+  pub entry-there : listOf r ≡ Auxiliary → NoneHolds (changedCases AddEntry r m) → entryOf r < m .classes .count
   unfolding classNotLive numberFor
   entry-there e none =
       let wrong = none .1 .1 .1 .1 .1 .1 .0 in

@@ -1,4 +1,4 @@
--- What the calls promise as a whole, stated for a reader (Promises), and the proofs.
+-- What the calls promise as a whole, stated for a reader (Promises, Demand3), and the proofs.
 pub mod PlainFrontLaws
 pub mod PlainLaws
 pub mod ReadingLaws
@@ -9,6 +9,7 @@ pub mod Demand3
 pub mod Demand3Laws
 pub mod QuickLaws
 pub mod QuickFrontLaws
+pub mod QuickAlikeLaws
 pub mod AfterLaws
 pub mod AloneLaws
 pub mod StepLaws

@@ -140,6 +140,8 @@ pub record Demand1 : Type 0 where
   pub quick-past : (x : List ℕ) (s : Stores) → Bytes x → SamePast (quickChange x s .left) s
   pub plain-alike : (x : List ℕ) (s t : Stores) → Bytes x → Alike s t
       → (plainChange x s .answer ≡ plainChange x t .answer) × Alike (plainChange x s .left) (plainChange x t .left)
+  pub quick-alike : (x : List ℕ) (s t : Stores) → Bytes x → Alike s t
+      → (quickChange x s .answer ≡ quickChange x t .answer) × Alike (quickChange x s .left) (quickChange x t .left)
   -- stores of bytes stay such
   pub plain-bytes : (x : List ℕ) (s : Stores) → Bytes x → OfBytes s → OfBytes (plainChange x s .left)
   pub quick-bytes : (x : List ℕ) (s : Stores) → Bytes x → OfBytes s → OfBytes (quickChange x s .left)

@@ -10,6 +10,7 @@ use Rattle.keeper_promises.specs.LoadLaws as loads
 use Rattle.keeper_promises.specs.OrderLaws as order
 use Rattle.keeper_promises.specs.PlainFrontLaws as plainly
 use Rattle.keeper_promises.specs.PlainLaws as plain
+use Rattle.keeper_promises.specs.QuickAlikeLaws as both
 use Rattle.keeper_promises.specs.QuickFrontLaws as quickly
 use Rattle.keeper_promises.specs.QuickLaws as quick
 use Rattle.keeper_promises.specs.ReadingLaws as reading
@@ -29,6 +30,7 @@ demand1 = record {
   plain-past = λ x s bytes. plainly.plain-past x bytes s;
   quick-past = λ x s bytes. quickly.quick-past x bytes s;
   plain-alike = λ x s t bytes. plainly.plain-alike x bytes s t;
+  quick-alike = λ x s t bytes h. both.quick-alike x s t h bytes;
   plain-bytes = λ x s bytes. plainly.plain-bytes x bytes s;
   quick-bytes = λ x s bytes. quickly.quick-bytes x bytes s;
   write-kept = calls.write-kept;

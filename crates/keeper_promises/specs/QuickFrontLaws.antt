@@ -11,7 +11,7 @@ use Rattle.prelude.specs.FirstLaws.{append-first}
 use Rattle.prelude.specs.Part.{Bytes}
 use Rattle.prelude.specs.PartLaws.{row-length}
 use Rattle.prelude.specs.SaysLaws.{choose, says-eq, says-false, says-true}
-use Rattle.prelude.specs.SpliceLaws.{splice-after}
+use Rattle.prelude.specs.SpliceLaws.{splice-after, splice-length}
 use Rattle.sets.specs.Sets.{union}
 use Rattle.sets.specs.SetsLaws.{set-length, union-length}
 use Rattle.schema.specs.Answers.{passed}
@@ -39,7 +39,7 @@ use Rattle.closure_change.specs.Kept.{eachHolding, holds, joinedInto, namedSets
 use Rattle.keeper.specs.Answering.{InShape, firstAnswer, shapeAnswers}
 use Rattle.keeper.specs.AnsweringLaws.{refused-any, shape-passed, zero-iff-pass}
 use Rattle.keeper_change.specs.Quick.{quickAnswer, quickChange, quickMade, quickNumber, quickRead, quickTo}
-use Rattle.keeper_promises.specs.FrontLaws.{put-past}
+use Rattle.keeper_promises.specs.FrontLaws.{put-long, put-past}
 use Rattle.keeper_promises.specs.PlainFrontLaws.{made-bytes, made-past, past-reflexive}
 use Rattle.keeper_promises.specs.Promises.{OfBytes, SamePast}
 use Rattle.keeper_promises.specs.QuickLaws.{quick-kept, quick-shaped}
@@ -58,6 +58,10 @@ module _ (n k : ℕ) (f : ℕ → List ℕ → List ℕ) (closure : List ℕ) (l
 
   pub each-length : length (concatBelow classLimit (rowWhere n k f closure)) ≡ closureLength
   each-length = concat-length (rowWhere n k f closure) closureWidth classLimit row-wide
+
+  each-long : closureLength ≤ length (eachHolding n k f closure)
+  unfolding eachHolding
+  each-long = put-long closureLength (concatBelow classLimit (rowWhere n k f closure)) closure each-length long
 
   each-past : drop closureLength (eachHolding n k f closure) ≡ drop closureLength closure
   unfolding eachHolding
@@ -98,6 +102,34 @@ module _ (t : Table) (n : ℕ) (closure : List ℕ) (long : closureLength ≤ le
   closure-past (Reactivate u) r l = refl
   closure-past AddEntry r l = entry-past (listOf r) (entryOf r) (targetOf r)
   closure-past RemoveEntry r l = refreshed-past (targetOf r)
+
+  -- and it stays as long as it must be
+  joined-long : (k : ℕ) (more : List ℕ) → closureLength ≤ length (joinedInto n k more closure)
+  unfolding joinedInto
+  joined-long k more = each-long n k _ closure long (joined-wide more)
+
+  entry-long : (list : OpenList) (b k : ℕ) → closureLength ≤ length (entryJoined list b n k closure)
+  entry-long Optional b k = joined-long k _
+  entry-long Auxiliary b k = joined-long k _
+  entry-long Superior b k = long
+
+  refreshed-long : (k : ℕ) → closureLength ≤ length (refreshedAt t n k closure)
+  unfolding refreshedAt
+  refreshed-long k = each-long n k _ closure long (λ c l. closure-row-length t c)
+
+  new-long : n < classLimit → closureLength ≤ length (withNew t n closure)
+  unfolding withNew
+  new-long l = omega (arith, new-wide, splice-length (closureWidth * n) (newRow t closure n) closure (omega (arith, new-wide)))
+
+  pub closure-long : (change : Change) (r : List ℕ) → (change ≡ Add Classes → n < classLimit) → closureLength ≤ length (closureAfter change r t n closure)
+  closure-long (Add Attributes) r l = long
+  closure-long (Add Classes) r l = new-long (l refl)
+  closure-long SetRange r l = long
+  closure-long (Rename u) r l = long
+  closure-long (Deactivate u) r l = long
+  closure-long (Reactivate u) r l = long
+  closure-long AddEntry r l = entry-long (listOf r) (entryOf r) (targetOf r)
+  closure-long RemoveEntry r l = refreshed-long (targetOf r)
 
 -- ---- the call
 
