@@ -150,7 +150,7 @@ module _ (change : Change) (r : List ℕ) {m n : Schema} (s : SameRows m n) wher
       go (yes z) = number-judged change r m z ∙ result-same z ∙ sym (number-judged change r n (sym asked-same ∙ z))
       go (no d) = number-asked change r m d ∙ asked-same ∙ sym (number-asked change r n (λ z. d (asked-same ∙ z)))
 
-  row-number-same : numberFor change r m ≡ numberFor change r n
+  pub row-number-same : numberFor change r m ≡ numberFor change r n
   unfolding numberFor
   row-number-same = ap (λ (c : ℕ). cond (isAddition change) c (targetOf r)) (s of .count)
 

@@ -2,6 +2,12 @@
 pub mod PlainFrontLaws
 pub mod PlainLaws
 pub mod Promises
+pub mod Demand3
+pub mod Demand3Laws
+pub mod QuickLaws
+pub mod AfterLaws
+pub mod AloneLaws
+pub mod StepLaws
 pub mod PromisesLaws
 pub mod OrderLaws
 pub mod LoadLaws

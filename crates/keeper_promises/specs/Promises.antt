@@ -1,6 +1,6 @@
--- What the calls promise, demand by demand, as types alone. The proofs stand in the other files: `demand1` and `demand2` (PromisesLaws) are members
--- of the two records. `load`, `audit`, `depth` and `write` are the definitions that the contracts of the calls equate with answer and final bytes,
--- for every input.
+-- What the calls promise, demand by demand, as types alone; demand 3 has a file of its own (Demand3). The proofs stand in the other files: `demand1` and
+-- `demand2` (PromisesLaws) are members of the two records. `load`, `audit`, `depth`, `write`, `plainChange` and `quickChange` are the definitions that the
+-- contracts of the calls equate with answer and final bytes, for every input.
 use mathlib.Core.List.{List}
 use mathlib.Core.Logic.{_⊎_, _↔_}
 use mathlib.Core.Path.{_≡_}
@@ -35,6 +35,7 @@ use Rattle.change_model.specs.Conditions.{Condition, DemandDiffers}
 use Rattle.change_model.specs.Model.{addedBy, rowsAfter}
 use Rattle.change_rows.specs.Rows.{numberFor, schemaAfter, tableFor}
 use Rattle.keeper_change.specs.Plain.{plainChange}
+use Rattle.keeper_change.specs.Quick.{quickChange}
 use Rattle.change_read.specs.declared.read.ChangeRead.the-variants as changes
 use Rattle.schema.specs.Refusals as refusal
 
@@ -120,6 +121,7 @@ pub record Demand1 : Type 0 where
   pub write-alike : (s t : Stores) → Alike s t → (out : List ℕ) → write s out ≡ write t out
   -- "A refused change alters no byte of any lent store"
   pub plain-kept : (x : List ℕ) (s : Stores) → ¬ (plainChange x s .answer .number ≡ 0) → plainChange x s .left ≡ s
+  pub quick-kept : (x : List ℕ) (s : Stores) → ¬ (quickChange x s .answer .number ≡ 0) → quickChange x s .left ≡ s
   -- "bytes past [the lengths] are never touched", nor looked at
   pub plain-past : (x : List ℕ) (s : Stores) → Bytes x → SamePast (plainChange x s .left) s
   pub plain-alike : (x : List ℕ) (s t : Stores) → Bytes x → Alike s t
@@ -171,6 +173,11 @@ pub record Demand2 : Type 0 where
       → Condition change r (schemaOf s) (plainChange x s .answer .number) × (plainChange x s .answer ≡ refused (plainChange x s .answer .number))
   pub plain-least : (x : List ℕ) (s : Stores) → InOrder s → (change : Change) (r : List ℕ) → readChange x ≡ changeOut (changes.Read change) r
       → (n : ℕ) → Condition change r (schemaOf s) n → plainChange x s .answer .number ≤ n
+  -- quick change, on any stores, in order or not: 1, 2, and 4 with its place
+  pub quick-one : (x : List ℕ) (s : Stores) → SomeShort s → quickChange x s ≡ result (refused refusal.shortStore) s
+  pub quick-two : (x : List ℕ) (s : Stores) → LongEnough s → ¬ Shape s → quickChange x s ≡ result (refused refusal.brokenShape) s
+  pub quick-unreadable : (x : List ℕ) (s : Stores) → LongEnough s → Shape s → (at : ℕ) → readChange x .answer ≡ changes.Bad at
+      → quickChange x s ≡ result (unreadable at) s
   -- audit: 0 exactly if the stores are in order, and then no table and no place is named
   pub audit-zero : (s : Stores) → (audit s .number ≡ 0) ↔ InOrder s
   pub audit-done : (s : Stores) → InOrder s → audit s ≡ passed

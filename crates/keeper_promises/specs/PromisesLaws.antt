@@ -1,12 +1,16 @@
--- The promises, kept.
+-- The promises, kept. Demand 3 still asks for one law: that on stores in order a quick change is the plain one.
+use Rattle.keeper_promises.specs.Demand3.{Demand3}
+use Rattle.keeper_promises.specs.Demand3Laws.{QuickIsPlain, agreement}
 use Rattle.keeper_promises.specs.Promises.{Demand1, Demand2}
 use Rattle.keeper_promises.specs.AlikeLaws as alike
+use Rattle.keeper_promises.specs.AloneLaws as apart
 use Rattle.keeper_promises.specs.CallLaws as calls
 use Rattle.keeper_promises.specs.FrontLaws as front
 use Rattle.keeper_promises.specs.LoadLaws as loads
 use Rattle.keeper_promises.specs.OrderLaws as order
 use Rattle.keeper_promises.specs.PlainFrontLaws as plainly
 use Rattle.keeper_promises.specs.PlainLaws as plain
+use Rattle.keeper_promises.specs.QuickLaws as quick
 use Rattle.keeper_promises.specs.RoundTripLaws as trips
 
 pub demand1 : Demand1
@@ -19,6 +23,7 @@ demand1 = record {
   depth-alike = alike.depth-alike;
   write-alike = alike.write-alike;
   plain-kept = plain.plain-kept;
+  quick-kept = quick.quick-kept;
   plain-past = λ x s bytes. plainly.plain-past x bytes s;
   plain-alike = λ x s t bytes. plainly.plain-alike x bytes s t;
   plain-bytes = λ x s bytes. plainly.plain-bytes x bytes s;
@@ -45,6 +50,9 @@ demand2 = record {
   plain-unreadable = plain.plain-unreadable;
   plain-refused = plain.plain-refused;
   plain-least = plain.plain-least;
+  quick-one = quick.quick-one;
+  quick-two = quick.quick-two;
+  quick-unreadable = quick.quick-unreadable;
   audit-zero = order.audit-zero;
   audit-done = order.audit-done;
   audit-one = order.audit-one;
@@ -66,3 +74,6 @@ demand2 = record {
   load-write-load = trips.load-write-load;
   load-write = trips.load-write;
 }
+
+pub demand3 : QuickIsPlain → Demand3
+demand3 one = record { agree = agreement one; alone = apart.quick-alone }
