@@ -5,6 +5,7 @@ pub mod Promises
 pub mod Demand3
 pub mod Demand3Laws
 pub mod QuickLaws
+pub mod AgreeLaws
 pub mod AfterLaws
 pub mod AloneLaws
 pub mod StepLaws
