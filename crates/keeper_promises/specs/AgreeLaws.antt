@@ -145,6 +145,8 @@ module _ (x : List ℕ) (s : Stores) (bytes : Bytes x) (h : InOrder s) (change :
   read-agrees : quickChange x s ≡ plainChange x s
   read-agrees = ap₂ result same-answer same-left
 
+-- ---- any change: one that does not read gets the same 4
+
 pub quick-plain : (x : List ℕ) (s : Stores) → Bytes x → InOrder s → quickChange x s ≡ plainChange x s
 quick-plain x s bytes h = go (readChange x .answer) refl
   where

@@ -16,13 +16,11 @@ use Rattle.change_model.specs.SameLaws.{answer-same, rows-same}
 use Rattle.keeper.specs.Load.{filled, load}
 use Rattle.keeper_change.specs.Quick.{quickChange}
 use Rattle.keeper_promises.specs.AgreeLaws.{quick-plain}
-use Rattle.keeper_promises.specs.BytesLaws.{load-bytes}
 use Rattle.keeper_promises.specs.Demand3.{Agreement, AllBytes, SameDemand, Stays, after, changeAt, copyAt, modelAnswer, modelAt, plainTold, quickTold}
 use Rattle.keeper_promises.specs.Demand3.{rowsGiven, sheetRows, storesAt}
 use Rattle.keeper_promises.specs.LoadLaws.{load-done, load-order, load-zero}
-use Rattle.keeper_promises.specs.PlainFrontLaws.{plain-bytes}
 use Rattle.keeper_promises.specs.PlainLaws.{plain-answer}
-use Rattle.keeper_promises.specs.Promises.{Acceptable, InOrder, OfBytes}
+use Rattle.keeper_promises.specs.Promises.{Acceptable, InOrder}
 use Rattle.keeper_promises.specs.StepLaws.{rows-transitive, step-demand, step-order, step-rows, step-stays}
 use Rattle.keeper.specs.LoadLaws as loading
 
@@ -52,7 +50,7 @@ module _ (sheet : List ℕ) (first : Stores) (bytes : Bytes sheet) (long : LongE
 
 -- ---- a list of changes
 
-module _ (sheet : List ℕ) (first : Stores) (xs : List (List ℕ)) (bytes : Bytes sheet) (lent : OfBytes first) (all : AllBytes xs)
+module _ (sheet : List ℕ) (first : Stores) (xs : List (List ℕ)) (bytes : Bytes sheet) (all : AllBytes xs)
     (accepted : load sheet first .answer .number ≡ 0) where
   long : LongEnough first
   long = load-zero sheet first .0 accepted .0
@@ -67,7 +65,6 @@ module _ (sheet : List ℕ) (first : Stores) (xs : List (List ℕ)) (bytes : Byt
   record Holds (i : ℕ) : Type 0 where
     pub same : storesAt sheet first xs i ≡ copy i
     pub order : InOrder (copy i)
-    pub memory : OfBytes (copy i)
     pub rows : SameRows (schemaOf (copy i)) (modelAt sheet xs i)
 
   holds : (i : ℕ) → i ≤ length xs → Holds i
@@ -75,7 +72,6 @@ module _ (sheet : List ℕ) (first : Stores) (xs : List (List ℕ)) (bytes : Byt
   holds zero l = record {
     same = refl;
     order = load-order sheet first bytes long acceptable;
-    memory = load-bytes sheet first bytes lent;
     rows = load-rows sheet first bytes long acceptable;
   }
   holds (suc i) l =
@@ -85,7 +81,6 @@ module _ (sheet : List ℕ) (first : Stores) (xs : List (List ℕ)) (bytes : Byt
       record {
         same = ap (λ (s : Stores). quickChange x s .left) (h .same) ∙ ap (λ (y : Result). y .left) (quick-plain x (copy i) b (h .order));
         order = step-order x b (copy i) (h .order);
-        memory = plain-bytes x b (copy i) (h .memory);
         rows = rows-transitive (step-rows x b (copy i) (h .order)) (rows-same (readChange x .answer) (readChange x .row) (h .rows));
       }
 
