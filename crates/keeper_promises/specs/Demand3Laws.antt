@@ -1,4 +1,4 @@
--- Demand 3, over whole lists of changes, from one law about one change: on stores in order, a quick change is the plain one.
+-- Demand 3, over whole lists of changes: on stores in order a quick change is the plain one, and a plain change leaves stores in order.
 use mathlib.Core.List.{List}
 use mathlib.Core.Path.{_∙_, _≡_, ap, refl, subst, subst₂, sym}
 use Prim.Native.Nat.{_<_, _≤_, suc, zero, ℕ}
@@ -14,21 +14,15 @@ use Rattle.sheet_read.specs.ReadingLaws.{sheet-sound}
 use Rattle.change_read.specs.Reading.{readChange}
 use Rattle.change_model.specs.SameLaws.{answer-same, rows-same}
 use Rattle.keeper.specs.Load.{filled, load}
-use Rattle.keeper_change.specs.Plain.{plainChange}
 use Rattle.keeper_change.specs.Quick.{quickChange}
-use Rattle.keeper_promises.specs.BytesLaws.{load-bytes}
+use Rattle.keeper_promises.specs.AgreeLaws.{quick-plain}
 use Rattle.keeper_promises.specs.Demand3.{Agreement, AllBytes, SameDemand, Stays, after, changeAt, copyAt, modelAnswer, modelAt, plainTold, quickTold}
 use Rattle.keeper_promises.specs.Demand3.{rowsGiven, sheetRows, storesAt}
 use Rattle.keeper_promises.specs.LoadLaws.{load-done, load-order, load-zero}
-use Rattle.keeper_promises.specs.PlainFrontLaws.{plain-bytes}
 use Rattle.keeper_promises.specs.PlainLaws.{plain-answer}
-use Rattle.keeper_promises.specs.Promises.{Acceptable, InOrder, OfBytes}
+use Rattle.keeper_promises.specs.Promises.{Acceptable, InOrder}
 use Rattle.keeper_promises.specs.StepLaws.{rows-transitive, step-demand, step-order, step-rows, step-stays}
 use Rattle.keeper.specs.LoadLaws as loading
-
--- on stores in order, a quick change is the plain one: the same answer, and the same bytes
-abbrev pub QuickIsPlain : Type 0
-QuickIsPlain = (x : List ℕ) (s : Stores) → Bytes x → OfBytes s → InOrder s → quickChange x s ≡ plainChange x s
 
 -- ---- what a class demands, and what stays, of stores that are the same
 
@@ -56,7 +50,7 @@ module _ (sheet : List ℕ) (first : Stores) (bytes : Bytes sheet) (long : LongE
 
 -- ---- a list of changes
 
-module _ (one : QuickIsPlain) (sheet : List ℕ) (first : Stores) (xs : List (List ℕ)) (bytes : Bytes sheet) (lent : OfBytes first) (all : AllBytes xs)
+module _ (sheet : List ℕ) (first : Stores) (xs : List (List ℕ)) (bytes : Bytes sheet) (all : AllBytes xs)
     (accepted : load sheet first .answer .number ≡ 0) where
   long : LongEnough first
   long = load-zero sheet first .0 accepted .0
@@ -71,7 +65,6 @@ module _ (one : QuickIsPlain) (sheet : List ℕ) (first : Stores) (xs : List (Li
   record Holds (i : ℕ) : Type 0 where
     pub same : storesAt sheet first xs i ≡ copy i
     pub order : InOrder (copy i)
-    pub memory : OfBytes (copy i)
     pub rows : SameRows (schemaOf (copy i)) (modelAt sheet xs i)
 
   holds : (i : ℕ) → i ≤ length xs → Holds i
@@ -79,7 +72,6 @@ module _ (one : QuickIsPlain) (sheet : List ℕ) (first : Stores) (xs : List (Li
   holds zero l = record {
     same = refl;
     order = load-order sheet first bytes long acceptable;
-    memory = load-bytes sheet first bytes lent;
     rows = load-rows sheet first bytes long acceptable;
   }
   holds (suc i) l =
@@ -87,9 +79,8 @@ module _ (one : QuickIsPlain) (sheet : List ℕ) (first : Stores) (xs : List (Li
       let x = changeAt xs i in
       let b = all i (omega arith) in
       record {
-        same = ap (λ (s : Stores). quickChange x s .left) (h .same) ∙ ap (λ (y : Result). y .left) (one x (copy i) b (h .memory) (h .order));
+        same = ap (λ (s : Stores). quickChange x s .left) (h .same) ∙ ap (λ (y : Result). y .left) (quick-plain x (copy i) b (h .order));
         order = step-order x b (copy i) (h .order);
-        memory = plain-bytes x b (copy i) (h .memory);
         rows = rows-transitive (step-rows x b (copy i) (h .order)) (rows-same (readChange x .answer) (readChange x .row) (h .rows));
       }
 
@@ -104,7 +95,7 @@ module _ (one : QuickIsPlain) (sheet : List ℕ) (first : Stores) (xs : List (Li
 
     same-answers : quickTold sheet first xs i ≡ plainTold sheet first xs i
     same-answers =
-        ap (λ (s : Stores). quickChange x s .answer) (now .same) ∙ ap (λ (y : Result). y .answer) (one x (copy i) (all i l) (now .memory) (now .order))
+        ap (λ (s : Stores). quickChange x s .answer) (now .same) ∙ ap (λ (y : Result). y .answer) (quick-plain x (copy i) (all i l) (now .order))
 
     given-answer : quickTold sheet first xs i ≡ modelAnswer x (modelAt sheet xs i)
     given-answer = same-answers ∙ plain-answer x (copy i) (now .order) ∙ answer-same (readChange x .answer) (readChange x .row) (now .rows)

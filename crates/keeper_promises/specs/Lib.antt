@@ -10,6 +10,7 @@ pub mod Demand3Laws
 pub mod QuickLaws
 pub mod QuickFrontLaws
 pub mod QuickAlikeLaws
+pub mod AgreeLaws
 pub mod AfterLaws
 pub mod AloneLaws
 pub mod StepLaws

@@ -1,6 +1,6 @@
--- The promises, kept. Demand 3 still asks for one law: that on stores in order a quick change is the plain one.
+-- The promises, kept: each demand, with no assumption left.
 use Rattle.keeper_promises.specs.Demand3.{Demand3}
-use Rattle.keeper_promises.specs.Demand3Laws.{QuickIsPlain, agreement}
+use Rattle.keeper_promises.specs.Demand3Laws.{agreement}
 use Rattle.keeper_promises.specs.Promises.{Demand1, Demand2}
 use Rattle.keeper_promises.specs.AlikeLaws as alike
 use Rattle.keeper_promises.specs.AloneLaws as apart
@@ -84,5 +84,5 @@ demand2 = record {
   load-write = trips.load-write;
 }
 
-pub demand3 : QuickIsPlain → Demand3
-demand3 one = record { agree = agreement one; alone = apart.quick-alone }
+pub demand3 : Demand3
+demand3 = record { agree = λ sheet first xs bytes lent. agreement sheet first xs bytes; alone = apart.quick-alone }
