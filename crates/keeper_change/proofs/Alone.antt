@@ -19,7 +19,7 @@ use Rattle.schema.specs.Layout.{classWidth}
 use Rattle.schema.specs.Numbers.{classLimit, numberOf, tableOf}
 use Rattle.schema.specs.Store.{Schema, Stores, Table, plusRow, result, schemaIn, schemaOf, stores, table, tableIn, tableStore, withRow, withTable}
 use Rattle.tables.specs.Shaped.{Shaped}
-use Rattle.tables_shape.specs.ShapedLaws.{formed-shaped}
+use Rattle.tables_shape.specs.ShapeLaws.{formed-shaped}
 use Rattle.rules.specs.declared.row.Added.{Added}
 use Rattle.rules.specs.Rules.{rowCases, schemaRules}
 use Rattle.rules.specs.SameLaws.{row-cases-same}
@@ -30,7 +30,7 @@ use Rattle.change_read.specs.declared.read.ChangeRead.{ChangeRead}
 use Rattle.change_read.specs.declared.read.ChangeRead.the-variants.{Bad, Read}
 use Rattle.change_read.specs.Carried.{entryOf, listOf, targetOf}
 use Rattle.change_read.specs.ChangeLaws.{change-length}
-use Rattle.change_read.specs.Reading.{changeOut, readChange}
+use Rattle.change_read.specs.Reading.{Came, changeOut, readChange}
 use Rattle.change_rows.specs.Rows.{isAddition, numberFor, schemaAfter, tableAfter, tableFor}
 use Rattle.change_rows.specs.Stores.{rowChanged}
 use Rattle.change_asked.specs.Asked.{askedCases, firstAsked}
@@ -41,7 +41,7 @@ use Rattle.change_model.specs.ThereLaws.{class-room, entry-class}
 use Rattle.closure_change.specs.After.{Updatable, closureAfter, demandBefore, demandChanges}
 use Rattle.closure_change.specs.SameLaws.{after-same, demand-same}
 use Rattle.keeper.specs.Answering.{InShape, firstAnswer, shapeAnswers}
-use Rattle.keeper.specs.AnsweringLaws.{passed-last, passed-shape, refused-any}
+use Rattle.keeper.specs.AnsweringLaws.{passed-last, passed-shape, refused-any, shape-passed}
 use Rattle.keeper_change.specs.declared.rows.Before.{Before}
 use Rattle.keeper_change.specs.Judged.{RowThere, judgedRow}
 use Rattle.keeper_change.specs.Made.{Allowed, before, rowsMade}
@@ -269,7 +269,7 @@ module _ (x : List ℕ) (s : Stores) {o : Answer} (is : o ≡ firstAnswer (shape
     pub change-bad : (at : ℕ) (a : Answer) → read ≡ Bad at → a ≡ unreadable at → result a s ≡ quickChange x s
     unfolding quickChange
     change-bad at a e q =
-        quick-kept s (shape-passed s is z) (readChange x .answer) (readChange x .row) a
+        quick-kept s (in-shape s is z) (readChange x .answer) (readChange x .row) a
         (q ∙ ap (λ (y : ChangeRead). quickTo y (readChange x .row) s) (sym (sym (came .answer) ∙ e)))
         (λ w. (let no : _≡_ {A = ℕ} 4 0 = ap (λ (y : Answer). y .number) (sym q) ∙ w in omega arith))
 
@@ -278,7 +278,7 @@ module _ (x : List ℕ) (s : Stores) {o : Answer} (is : o ≡ firstAnswer (shape
       pub change-in-shape : Bytes x → InShapeFor change r s
       change-in-shape b = record {
         read = record { text = x; bytes = b; reads = ap₂ changeOut (sym (came .answer) ∙ e) (sym (came .row)) };
-        shape = shape-passed s is z;
+        shape = in-shape s is z;
       }
 
       pub change-read : quickRead (Read change) r s ≡ quickChange x s
