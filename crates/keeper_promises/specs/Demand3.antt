@@ -28,7 +28,7 @@ use Rattle.change_model.specs.Model.{answerTo, rowsAfter}
 use Rattle.keeper.specs.Load.{load}
 use Rattle.keeper_change.specs.Plain.{plainChange}
 use Rattle.keeper_change.specs.Quick.{quickChange}
-use Rattle.keeper_promises.specs.Promises.{Fresh, InOrder, OfBytes, SamePast, SomeShort}
+use Rattle.keeper_promises.specs.Promises.{Fresh, InOrder, SamePast, SomeShort}
 
 -- ---- a list of changes, played with a call
 
@@ -152,7 +152,7 @@ pub record AlikeFor (x : List ℕ) (s t : Stores) : Type 0 where
 
 pub record Demand3 : Type 0 where
   -- "For every list of changes given to both, unreadable and otherwise refused ones among them, this holds."
-  pub agree : (sheet : List ℕ) (first : Stores) (xs : List (List ℕ)) → Bytes sheet → OfBytes first → AllBytes xs → load sheet first .answer .number ≡ 0
+  pub agree : (sheet : List ℕ) (first : Stores) (xs : List (List ℕ)) → Bytes sheet → AllBytes xs → load sheet first .answer .number ≡ 0
       → Agreement sheet first xs
   -- "On any two lots of stores, in order or not, .. quick answers to the same change are equal."
   pub alone : (x : List ℕ) (s t : Stores) → AlikeFor x s t → quickChange x s .answer ≡ quickChange x t .answer

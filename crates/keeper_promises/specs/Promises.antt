@@ -208,7 +208,7 @@ pub record Demand2 : Type 0 where
   pub quick-one : (x : List ℕ) (s : Stores) → SomeShort s → quickChange x s ≡ result (refused refusal.shortStore) s
   pub quick-two : (x : List ℕ) (s : Stores) → LongEnough s → ¬ Shape s → quickChange x s ≡ result (refused refusal.brokenShape) s
   pub quick-unreadable : (x : List ℕ) (s : Stores) → LongEnough s → Shape s → (at : ℕ) → readChange x .answer ≡ changes.Bad at
-      → quickChange x s ≡ result (unreadable at) s
+      → quickChange x s ≡ result (changeAnswer (changes.Bad at)) s
   -- audit: 0 exactly if the stores are in order, and then no table and no place is named
   pub audit-zero : (s : Stores) → (audit s .number ≡ 0) ↔ InOrder s
   pub audit-done : (s : Stores) → InOrder s → audit s ≡ passed

@@ -85,4 +85,4 @@ demand2 = record {
 }
 
 pub demand3 : Demand3
-demand3 = record { agree = λ sheet first xs bytes lent. agreement sheet first xs bytes; alone = apart.quick-alone }
+demand3 = record { agree = agreement; alone = apart.quick-alone }
