@@ -23,9 +23,9 @@ use Rattle.graph.specs.Graph.{closureRows, demandedSet, isFresh, mandatoryDiffe
 use Rattle.graph.specs.FreshLaws.{closure-rows-length, fresh-bytes, says-fresh}
 use Rattle.closure_change.specs.After.{closureAfter, demandChanges}
 use Rattle.closure_change.specs.KeptLaws.{after-past}
-use Rattle.change_model.specs.Model.{addedBy, changeNumber}
+use Rattle.change_model.specs.Model.{addedBy, changeNumber, changedCases}
 use Rattle.change_model.specs.ModelLaws.{number-asked, number-judged}
-use Rattle.change_model.specs.Accepted.{Accepted, Sound, changedCases, rowNumber}
+use Rattle.change_model.specs.Sound.{Passed, Sound, rowNumber}
 use Rattle.change_model.specs.AloneLaws.{cases-agree}
 use Rattle.change_model.specs.QuickLaws.{closure-agrees, demand-agrees}
 use Rattle.change_model.specs.ThereLaws.{class-room}
@@ -77,7 +77,7 @@ module _ (change : Change) (r : List ℕ) (m : Schema) (closure : List ℕ) wher
 
   -- ---- the closure store
 
-  module _ (s : Accepted change r m closure) where
+  module _ (s : Passed change r m closure) where
     abbrev left : List ℕ
     left = closureAfter change r after (before .count) closure
 

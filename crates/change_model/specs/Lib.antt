@@ -6,7 +6,7 @@ pub mod ConditionsLaws
 pub mod SameLaws
 pub mod EditedLaws
 pub mod AloneLaws
-pub mod Accepted
+pub mod Sound
 pub mod ThereLaws
 pub mod QuickLaws
 pub mod AgreeLaws

@@ -16,7 +16,7 @@ use Rattle.change_read.specs.declared.read.Change.{Change}
 use Rattle.rules.specs.declared.row.Added.the-variants.{Nothing, Class, Entry}
 use Rattle.rules.specs.declared.row.Added.{Added}
 use Rattle.graph.specs.Graph.{mandatoryDiffers}
-use Rattle.rules.specs.Rules.{schemaRules}
+use Rattle.rules.specs.Rules.{rowCases, schemaRules}
 use Rattle.rules.specs.Judge.{brokenCases}
 use Rattle.prelude.specs.First.{Case, _when_, firstOf}
 use Rattle.change_asked.specs.Asked.{askedCases}
@@ -40,6 +40,11 @@ abbrev pub resultCases : Change → List ℕ → Schema → List Case
 resultCases change r m =
     brokenCases (schemaRules (addedBy change r (m .classes .count))) (schemaAfter change r m)
     ++ ((refusal.mandatoryDiffers when mandatoryDiffers (m .classes) (schemaAfter change r m .classes)) ∷ [])
+
+-- of the quick change: 12 to 29 "for the changed row alone, against all rows", these after the change
+abbrev pub changedCases : Change → List ℕ → Schema → List Case
+changedCases change r m =
+    rowCases (schemaRules (addedBy change r (m .classes .count))) (schemaAfter change r m) (tableFor change) (numberFor change r m)
 
 -- numbers 5 to 30, row for row
 abbrev pub changeCases : Change → List ℕ → Schema → List Case

@@ -35,7 +35,7 @@ use Rattle.graph.specs.ClosureLaws.{closure-before, closure-kept, closure-untou
 use Rattle.graph.specs.ClosureLaws.{rule30-untouched}
 use Rattle.closure_change.specs.After.{closureAfter, demandChanges, entryDemands, entryJoined}
 use Rattle.closure_change.specs.FreshLaws.{auxiliary-fresh, class-fresh, optional-fresh, refreshed-fresh}
-use Rattle.change_model.specs.Accepted.{Accepted, Sound}
+use Rattle.change_model.specs.Sound.{Passed, Sound}
 use Rattle.change_model.specs.EditedLaws.{auxiliary-more, front-lists, front-names, name-wide, open-wide, optional-more, superior-lists}
 use Rattle.change_model.specs.EditedLaws.{superior-names, with-wide}
 use Rattle.change_model.specs.ThereLaws.{entry-there, unnamed}
@@ -49,7 +49,7 @@ no-difference t = sym (any-false (λ c. not (sameBytes (demandedSet t c) (demand
 
 -- ---- a change that was accepted
 
-module _ {change : Change} {r : List ℕ} {m : Schema} {closure : List ℕ} (s : Accepted change r m closure) where
+module _ {change : Change} {r : List ℕ} {m : Schema} {closure : List ℕ} (s : Passed change r m closure) where
   there : isAddition change ≡ false → targetOf r < table (tableFor change) m .count
   there e = asked-there change r m (s .asked) e
 
@@ -60,7 +60,7 @@ module _ {change : Change} {r : List ℕ} {m : Schema} {closure : List ℕ} (s :
   target-whole e = s .sound .wide (tableFor change) (targetOf r) (omega (arith, there e, s .sound .few (tableFor change)))
 
 -- the number of an added class is not named yet
-new-unnamed : {r : List ℕ} {m : Schema} {closure : List ℕ} → Accepted (Add Classes) r m closure → (x : ℕ) → x < m .classes .count
+new-unnamed : {r : List ℕ} {m : Schema} {closure : List ℕ} → Passed (Add Classes) r m closure → (x : ℕ) → x < m .classes .count
     → inherits (m .classes) x (m .classes .count) ≡ false
 new-unnamed {r} {m} s = unnamed m (s .sound .kept) (room s refl)
 
@@ -133,7 +133,7 @@ module _ (r : List ℕ) (m : Schema) (closure : List ℕ) where
   after change = schemaAfter change r m .classes
 
   -- the kept sets are afresh after it
-  pub closure-agrees : (change : Change) → Accepted change r m closure → (c : ℕ) → c < classLimit
+  pub closure-agrees : (change : Change) → Passed change r m closure → (c : ℕ) → c < classLimit
       → closureAt (closureAfter change r (after change) (before .count) closure) c ≡ closureRow (after change) c
   unfolding schemaAfter tableAfter editedRow
   closure-agrees (Add Attributes) s c l = s .sound .fresh c l
@@ -161,7 +161,7 @@ module _ (r : List ℕ) (m : Schema) (closure : List ℕ) where
       (there s refl) c l
 
   -- rule 30 is judged as by the rows
-  pub demand-agrees : (change : Change) → Accepted change r m closure
+  pub demand-agrees : (change : Change) → Passed change r m closure
       → demandChanges change r (after change) (demandedSet before (targetOf r)) closure ≡ mandatoryDiffers before (after change)
   unfolding schemaAfter tableAfter editedRow
   demand-agrees (Add Attributes) s = no-difference before
@@ -196,7 +196,7 @@ module _ (r : List ℕ) (m : Schema) (closure : List ℕ) where
       ∙ says-false (says-reaches (withRow before k new .count) (inherits (withRow before k new)) c k) d)
   edit-kept k new c (inr q) = absurd (apart (sym q))
 
-  rows-kept : (change : Change) → Accepted change r m closure → (c : ℕ) → ¬ (ReachesChanged change c) ⊎ (tableFor change ≡ Attributes)
+  rows-kept : (change : Change) → Passed change r m closure → (c : ℕ) → ¬ (ReachesChanged change c) ⊎ (tableFor change ≡ Attributes)
       → closureRow (after change) c ≡ closureRow before c
   unfolding schemaAfter tableAfter numberFor
   rows-kept (Add Attributes) s c d = refl
@@ -213,7 +213,7 @@ module _ (r : List ℕ) (m : Schema) (closure : List ℕ) where
   rows-kept AddEntry s c d = edit-kept (targetOf r) (editedRow AddEntry r (before .row (targetOf r))) c d
   rows-kept RemoveEntry s c d = edit-kept (targetOf r) (editedRow RemoveEntry r (before .row (targetOf r))) c d
 
-  pub kept-untouched : (change : Change) → Accepted change r m closure → (c : ℕ) → c < classLimit
+  pub kept-untouched : (change : Change) → Passed change r m closure → (c : ℕ) → c < classLimit
       → ¬ (ReachesChanged change c) ⊎ (tableFor change ≡ Attributes)
       → closureAt (closureAfter change r (after change) (before .count) closure) c ≡ closureAt closure c
   kept-untouched change s c l d = closure-agrees change s c l ∙ rows-kept change s c d ∙ sym (s .sound .fresh c l)

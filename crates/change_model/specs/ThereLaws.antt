@@ -39,7 +39,7 @@ use Rattle.tables.specs.NamedLaws.{says-lists}
 use Rattle.tables.specs.Named.{Lists}
 use Rattle.tables.specs.declared.named.ClassList.the-variants.{Auxiliaries}
 use Rattle.graph.specs.Graph.{inherits}
-use Rattle.change_model.specs.Accepted.{rowNumber}
+use Rattle.change_model.specs.Sound.{rowNumber}
 
 -- ---- an entry
 

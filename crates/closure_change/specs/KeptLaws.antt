@@ -41,7 +41,7 @@ module _ (closure : List ℕ) (long : closureLength ≤ length closure) where
     unfolding rowWhere
     where-length c l = choose (λ (x : List ℕ). length x ≡ closureWidth) (holds n k c (closureAt closure c)) (λ q. wide c l) (λ q. kept-length c l)
 
-    rows-length : length rows ≡ closureLength
+    pub rows-length : length rows ≡ closureLength
     rows-length = concat-length (rowWhere n k f closure) closureWidth classLimit where-length
 
     pub each-length : length (eachHolding n k f closure) ≡ length closure
@@ -69,7 +69,7 @@ module _ (closure : List ℕ) (long : closureLength ≤ length closure) where
   -- ---- an added class
 
   module _ (t : Table) (n : ℕ) (room : n < classLimit) where
-    new-length : length (newRow t closure n) ≡ closureWidth
+    pub new-length : length (newRow t closure n) ≡ closureWidth
     unfolding newRow namedSets
     new-length = union-length (namedSets t closure n) (ownRow n (t .row n)) ∙ set-length closureWidth _
 

@@ -3,7 +3,7 @@ use Rattle.keeper.specs.CheckedLaws.{in-shape}
 use lib.ListN.{length}
 use native.Mathlib.Omega.{arith}
 use native.Mathlib.Decide.{ℕ-discrete}
-use Prim.Native.Nat.{ℕ, suc, _<_, _≤_}
+use Prim.Native.Nat.{ℕ, _<_}
 use mathlib.Core.Bool.{Bool, cond, true, false}
 use mathlib.Core.List.{List, [], _∷_, _++_}
 use mathlib.Core.Logic.{_⊎_, inl, inr}
@@ -37,18 +37,18 @@ use Rattle.change_rows.specs.Rows.{isAddition, numberFor, schemaAfter, tableAft
 use Rattle.change_rows.specs.Stores.{rowChanged}
 use Rattle.change_asked.specs.Asked.{askedCases, firstAsked}
 use Rattle.change_asked.specs.AskedLaws.{asked-there}
-use Rattle.change_model.specs.Accepted.{rowNumber}
-use Rattle.change_model.specs.Model.{addedBy, answerBy}
+use Rattle.change_model.specs.Sound.{rowNumber}
+use Rattle.change_model.specs.Model.{addedBy, answerBy, changedCases}
 use Rattle.change_model.specs.ThereLaws.{class-room, entry-class}
 use Rattle.closure_change.specs.After.{Updatable, closureAfter, demandBefore, demandChanges}
 use Rattle.closure_change.specs.SameLaws.{after-same, demand-same}
 use Rattle.keeper.specs.Answering.{InShape, firstAnswer, shapeAnswers}
-use Rattle.keeper.specs.AnsweringLaws.{passed-last, passed-shape, refused-any, shape-passed}
+use Rattle.keeper.specs.AnsweringLaws.{passed-last, passed-shape, refused-any}
 use Rattle.keeper_change.specs.declared.rows.Before.{Before}
 use Rattle.keeper_change.specs.Judged.{RowThere, judgedRow}
 use Rattle.keeper_change.specs.Made.{Allowed, before, rowsMade}
 use Rattle.keeper_change.specs.MadeLaws.{made-same, row-table}
-use Rattle.keeper_change.specs.Quick.{InShapeFor, changedCases, quickAnswer, quickChange, quickDiffers, quickMade, quickNumber, quickRead, quickTo}
+use Rattle.keeper_change.specs.Quick.{InShapeFor, quickAnswer, quickChange, quickDiffers, quickMade, quickNumber, quickRead, quickTo}
 use Rattle.keeper_change.proofs.Making.{classes-few, closure-long, made-readable, made-shaped, number-is}
 use Rattle.schema.specs.Refusals as refusal
 

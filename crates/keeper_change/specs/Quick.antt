@@ -4,29 +4,22 @@ use lib.Dec.{eqb}
 use Prim.Native.Nat.{ℕ}
 use mathlib.Core.Bool.{Bool, cond}
 use mathlib.Core.List.{List, [], _++_, _∷_}
-use Rattle.prelude.specs.First.{Case, _when_, firstOf}
+use Rattle.prelude.specs.First.{_when_, firstOf}
 use Rattle.schema.specs.declared.answer.Answer.{Answer}
-use Rattle.schema.specs.Answers.{refused, changed}
 use Rattle.schema.specs.Store.{Result, Schema, Stores, result, schemaOf, stores}
 use Rattle.graph.specs.Graph.{demandedSet}
-use Rattle.rules.specs.Rules.{rowCases, schemaRules}
 use Rattle.change_read.specs.declared.read.Change.{Change}
 use Rattle.change_read.specs.declared.read.ChangeRead.{ChangeRead}
 use Rattle.change_read.specs.declared.read.ChangeRead.the-variants.{Bad, Read}
 use Rattle.change_read.specs.Carried.{targetOf}
 use Rattle.change_read.specs.Reading.{changeAnswer, readChange}
-use Rattle.change_rows.specs.Rows.{numberFor, schemaAfter, tableFor}
+use Rattle.change_rows.specs.Rows.{schemaAfter}
 use Rattle.change_asked.specs.Asked.{askedCases}
-use Rattle.change_model.specs.Model.{addedBy, answerBy}
+use Rattle.change_model.specs.Model.{answerBy, changedCases}
 use Rattle.closure_change.specs.After.{closureAfter, demandChanges}
 use Rattle.keeper.specs.Answering.{InShape, firstAnswer, shapeAnswers}
 use Rattle.keeper_change.specs.Made.{WasRead, rowsMade}
 use Rattle.schema.specs.Refusals as refusal
-
--- 12 to 29 "for the changed row alone, against all rows", these after the change
-abbrev pub changedCases : Change → List ℕ → Schema → List Case
-changedCases change r m =
-    rowCases (schemaRules (addedBy change r (m .classes .count))) (schemaAfter change r m) (tableFor change) (numberFor change r m)
 
 -- 30, by the closure as it stands
 abbrev pub quickDiffers : Change → List ℕ → Schema → List ℕ → Bool

@@ -28,14 +28,14 @@ use Rattle.change_read.specs.declared.read.ChangeRead.the-variants.{Bad, Read}
 use Rattle.change_rows.specs.Rows.{tableFor}
 use Rattle.change_rows.specs.Stores.{storeAfter}
 use Rattle.change_asked.specs.Asked.{askedCases, firstAsked}
-use Rattle.change_model.specs.Accepted.{Accepted, Sound, rowNumber}
+use Rattle.change_model.specs.Sound.{Passed, Sound, rowNumber}
 use Rattle.change_model.specs.AgreeLaws.{closure-refreshed, number-agrees}
-use Rattle.change_model.specs.Model.{answerBy, answerTo, changeNumber}
+use Rattle.change_model.specs.Model.{answerBy, answerTo, changeNumber, changedCases}
 use Rattle.change_model.specs.ModelLaws.{asked-zero}
 use Rattle.keeper_change.specs.Made.{refreshed, rowsMade}
 use Rattle.keeper_change.specs.MadeLaws.{made-same}
 use Rattle.keeper_change.specs.Plain.{plainChange}
-use Rattle.keeper_change.specs.Quick.{changedCases, quickChange, quickDiffers, quickMade, quickNumber, quickRead, quickTo}
+use Rattle.keeper_change.specs.Quick.{quickChange, quickDiffers, quickMade, quickNumber, quickRead, quickTo}
 use Rattle.keeper_promises.specs.OrderLaws.{order-shape}
 use Rattle.keeper_promises.specs.PlainLaws.{left-made, number-is, plain-kept, plain-unreadable, read-answer}
 use Rattle.keeper_promises.specs.Promises.{InOrder}
@@ -111,7 +111,7 @@ module _ (x : List ℕ) (s : Stores) (bytes : Bytes x) (h : InOrder s) (change :
     asked : firstAsked change r m ≡ 0
     asked = asked-zero change r m number-zero
 
-    accepted : Accepted change r m (s .closure)
+    accepted : Passed change r m (s .closure)
     accepted = record { sound = sound; asked = asked; passed = row-zero change r m (s .closure) asked (same-number ∙ number-zero) }
 
     quick-made : quickChange x s .left ≡ quickMade (Read change) r s

@@ -44,10 +44,10 @@ use Rattle.change_rows.specs.Lists.{listTable}
 use Rattle.change_rows.specs.Rows.{numberFor, schemaAfter, tableAfter, tableFor}
 use Rattle.change_asked.specs.Asked.{askedCases, firstAsked}
 use Rattle.change_asked.specs.AskedLaws.{asked-there}
-use Rattle.change_model.specs.Model.{addedBy, answerBy}
+use Rattle.change_model.specs.Model.{addedBy, answerBy, changedCases}
 use Rattle.change_model.specs.SameLaws.{after-same, asked-same, row-number-same}
 use Rattle.keeper.specs.Answering.{InShape}
-use Rattle.keeper_change.specs.Quick.{changedCases, quickChange, quickDiffers, quickNumber, quickTo}
+use Rattle.keeper_change.specs.Quick.{quickChange, quickDiffers, quickNumber, quickTo}
 use Rattle.keeper_promises.specs.AfterLaws.{after-changed}
 use Rattle.keeper_promises.specs.AlikeLaws.{front-rows}
 use Rattle.keeper_promises.specs.Demand3.{AlikeFor, Concerned}

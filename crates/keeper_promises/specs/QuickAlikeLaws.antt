@@ -7,6 +7,8 @@ use native.Mathlib.Decide.{ℕ-discrete}
 use native.Mathlib.Omega.{arith}
 use lib.Dec.{eqb}
 use lib.ListN.{length}
+use Rattle.closure_change.specs.KeptLaws.{after-length, joined-wide, new-length, rows-length}
+use Rattle.change_model.specs.Model.{changedCases}
 use Rattle.prelude.specs.BelowLaws.{any-cong}
 use Rattle.prelude.specs.Concat.{concatBelow}
 use Rattle.prelude.specs.ConcatLaws.{concat-same}
@@ -44,7 +46,7 @@ use Rattle.change_model.specs.SameLaws.{after-same}
 use Rattle.closure_change.specs.After.{closureAfter, entryJoined}
 use Rattle.closure_change.specs.Kept.{eachHolding, holds, joinedInto, namedSets, newRow, ownRow, refreshedAt, rowWhere, withNew}
 use Rattle.keeper.specs.AnsweringLaws.{not-short}
-use Rattle.keeper_change.specs.Quick.{changedCases, quickChange, quickDiffers, quickMade, quickNumber}
+use Rattle.keeper_change.specs.Quick.{quickChange, quickDiffers, quickMade, quickNumber}
 use Rattle.keeper_promises.specs.AfterLaws.{after-changed}
 use Rattle.keeper_promises.specs.AlikeLaws.{same-rows}
 use Rattle.keeper_promises.specs.AloneLaws.{entry-there, quick-alone}
@@ -52,7 +54,7 @@ use Rattle.keeper_promises.specs.Demand3.{AlikeFor}
 use Rattle.keeper_promises.specs.FrontLaws.{put-front}
 use Rattle.keeper_promises.specs.PlainFrontLaws.{made-alike}
 use Rattle.keeper_promises.specs.Promises.{Alike, SomeShort}
-use Rattle.keeper_promises.specs.QuickFrontLaws.{Made, allowed, closure-long, done-reads, each-length, joined-wide, made, new-wide, room}
+use Rattle.keeper_promises.specs.QuickFrontLaws.{Made, allowed, done-reads, made, room}
 use Rattle.keeper_promises.specs.QuickLaws.{quick-kept}
 use Rattle.schema.specs.Refusals as refusal
 
@@ -77,9 +79,9 @@ module _ (k l : List ℕ) (p : closureLength ≤ length k) (q : closureLength �
       → SameFront (eachHolding n j f k) (eachHolding n j g l)
   unfolding eachHolding rowWhere
   each-front n j f g wide wide′ same =
-      put-front closureLength (concatBelow classLimit (rowWhere n j f k)) k (each-length n j f k p wide) p
+      put-front closureLength (concatBelow classLimit (rowWhere n j f k)) k (rows-length k p n j f wide) p
       ∙ concat-same classLimit (rowWhere n j f k) (rowWhere n j g l) rows
-      ∙ sym (put-front closureLength (concatBelow classLimit (rowWhere n j g l)) l (each-length n j g l q wide′) q)
+      ∙ sym (put-front closureLength (concatBelow classLimit (rowWhere n j g l)) l (rows-length l q n j g wide′) q)
     where
       rows : (c : ℕ) → c < classLimit → rowWhere n j f k c ≡ rowWhere n j g l c
       rows c i =
@@ -90,7 +92,7 @@ module _ (k l : List ℕ) (p : closureLength ≤ length k) (q : closureLength �
     joined-front : (j : ℕ) (more less : List ℕ) → more ≡ less → SameFront (joinedInto n j more k) (joinedInto n j less l)
     unfolding joinedInto
     joined-front j more less e =
-        each-front n j (λ c row. union row more) (λ c row. union row less) (joined-wide t n k p more) (joined-wide t n l q less)
+        each-front n j (λ c row. union row more) (λ c row. union row less) (joined-wide k p more) (joined-wide l q less)
         (λ c row. ap (union row) e)
 
     entry-front : (list : OpenList) (b j : ℕ) → (list ≡ Auxiliary → b < classLimit) → SameFront (entryJoined list b n j k) (entryJoined list b n j l)
@@ -114,10 +116,10 @@ module _ (k l : List ℕ) (p : closureLength ≤ length k) (q : closureLength �
     new-front : n < classLimit → n < t .count → SameFront (withNew t n k) (withNew u n l)
     unfolding withNew newRow
     new-front few there =
-        replaced-front n (newRow t k n) k few p (new-wide t n k p)
+        replaced-front n (newRow t k n) k few p (new-length k p t n few)
         ∙ ap₂ (λ (row x : List ℕ). splice (closureWidth * n) row x)
         (ap₂ union (named-front there) (ap (ownRow n) (s .rows n there))) front
-        ∙ sym (replaced-front n (newRow u l n) l few q (new-wide u n l q))
+        ∙ sym (replaced-front n (newRow u l n) l few q (new-length l q u n few))
 
     closure-front : (change : Change) (r : List ℕ) → (change ≡ Add Classes → (n < classLimit) × (n < t .count))
         → (change ≡ AddEntry → listOf r ≡ Auxiliary → entryOf r < classLimit) → SameFront (closureAfter change r t n k) (closureAfter change r u n l)
@@ -194,8 +196,9 @@ module _ (x : List ℕ) (s t : Stores) (h : Alike s t) where
 
     long-left : (w : Stores) → LongEnough w → Made x bytes w change → closureLength
         ≤ length (closureAfter change r (schemaAfter change r (schemaOf w) .classes) (schemaOf w .classes .count) (w .closure))
-    long-left w l c = closure-long (schemaAfter change r (schemaOf w) .classes) (schemaOf w .classes .count) (w .closure) (l .closure) change r
-        (room x bytes w change c)
+    long-left w l c =
+        let t = schemaAfter change r (schemaOf w) .classes in
+        omega (arith, l .closure, after-length (w .closure) (l .closure) change r t (schemaOf w .classes .count) (room x bytes w change c))
 
     made-left : Alike (quickMade (Read change) r s) (quickMade (Read change) r t)
     made-left =

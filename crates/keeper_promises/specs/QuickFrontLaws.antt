@@ -1,135 +1,34 @@
 -- A quick change touches no byte past the lengths, on any stores, in order or not, and leaves stores of bytes such.
 use mathlib.Core.List.{List}
 use mathlib.Core.Path.{_∙_, _≡_, ap, refl, subst, sym}
-use Prim.Native.Nat.{_*_, _<_, _≤_, ℕ}
+use Prim.Native.Nat.{_<_, ℕ}
 use native.Mathlib.Decide.{ℕ-discrete}
 use native.Mathlib.Omega.{arith}
-use lib.ListN.{drop, length}
-use Rattle.prelude.specs.Concat.{concatBelow}
-use Rattle.prelude.specs.ConcatLaws.{concat-length}
+use Rattle.closure_change.specs.KeptLaws.{after-past}
 use Rattle.prelude.specs.FirstLaws.{append-first}
 use Rattle.prelude.specs.Part.{Bytes}
-use Rattle.prelude.specs.PartLaws.{row-length}
-use Rattle.prelude.specs.SaysLaws.{choose, says-eq, says-false, says-true}
-use Rattle.prelude.specs.SpliceLaws.{splice-after, splice-length}
-use Rattle.sets.specs.Sets.{union}
-use Rattle.sets.specs.SetsLaws.{set-length, union-length}
+use Rattle.prelude.specs.SaysLaws.{says-eq, says-false, says-true}
 use Rattle.schema.specs.Answers.{passed}
-use Rattle.schema.specs.Layout.{closureLength, closureWidth}
 use Rattle.schema.specs.Numbers.{classLimit}
-use Rattle.schema.specs.Store.{Schema, Stores, Table, closureAt, schemaOf}
+use Rattle.schema.specs.Store.{Schema, Stores, schemaOf}
 use Rattle.schema.specs.declared.answer.Answer.{Answer}
-use Rattle.schema.specs.declared.number.TableId.the-variants.{Attributes, Classes}
-use Rattle.graph.specs.FreshLaws.{closure-row-length}
-use Rattle.change_read.specs.Carried.{entryOf, listOf, targetOf}
+use Rattle.schema.specs.declared.number.TableId.the-variants.{Classes}
 use Rattle.change_read.specs.ChangeLaws.{Reads}
 use Rattle.change_read.specs.Reading.{changeOut, readChange}
-use Rattle.change_read.specs.declared.carried.OpenList.{OpenList}
-use Rattle.change_read.specs.declared.carried.OpenList.the-variants.{Auxiliary, Optional, Superior}
 use Rattle.change_read.specs.declared.read.Change.{Change}
-use Rattle.change_read.specs.declared.read.Change.the-variants.{Add, AddEntry, Deactivate, Reactivate, RemoveEntry, Rename, SetRange}
+use Rattle.change_read.specs.declared.read.Change.the-variants.{Add}
 use Rattle.change_read.specs.declared.read.ChangeRead.{ChangeRead}
 use Rattle.change_read.specs.declared.read.ChangeRead.the-variants.{Bad, Read}
 use Rattle.change_rows.specs.Rows.{schemaAfter}
 use Rattle.change_asked.specs.Asked.{askedCases, firstAsked}
 use Rattle.change_asked.specs.AskedLaws.{asked-room}
 use Rattle.change_model.specs.Model.{answerBy}
-use Rattle.closure_change.specs.After.{closureAfter, entryJoined}
-use Rattle.closure_change.specs.Kept.{eachHolding, holds, joinedInto, namedSets, newRow, refreshedAt, rowWhere, withNew}
 use Rattle.keeper.specs.Answering.{InShape, firstAnswer, shapeAnswers}
 use Rattle.keeper.specs.AnsweringLaws.{refused-any, shape-passed, zero-iff-pass}
 use Rattle.keeper_change.specs.Quick.{quickAnswer, quickChange, quickMade, quickNumber, quickRead, quickTo}
-use Rattle.keeper_promises.specs.FrontLaws.{put-long, put-past}
 use Rattle.keeper_promises.specs.PlainFrontLaws.{made-bytes, made-past, past-reflexive}
 use Rattle.keeper_promises.specs.Promises.{OfBytes, SamePast}
 use Rattle.keeper_promises.specs.QuickLaws.{quick-kept, quick-shaped}
-
--- ---- the closure store
-
--- sets put in for the classes whose kept reach holds class k, each as wide as it was
-module _ (n k : ℕ) (f : ℕ → List ℕ → List ℕ) (closure : List ℕ) (long : closureLength ≤ length closure)
-    (wide : (c : ℕ) → c < classLimit → length (f c (closureAt closure c)) ≡ closureWidth) where
-  row-wide : (c : ℕ) → c < classLimit → length (rowWhere n k f closure c) ≡ closureWidth
-  unfolding rowWhere
-  row-wide c l =
-      let row = closureAt closure c in
-      choose (λ (x : List ℕ). length x ≡ closureWidth) (holds n k c row) {x = f c row} {y = row} (λ e. wide c l)
-      (λ e. row-length 0 closureWidth classLimit c closure long l)
-
-  pub each-length : length (concatBelow classLimit (rowWhere n k f closure)) ≡ closureLength
-  each-length = concat-length (rowWhere n k f closure) closureWidth classLimit row-wide
-
-  each-long : closureLength ≤ length (eachHolding n k f closure)
-  unfolding eachHolding
-  each-long = put-long closureLength (concatBelow classLimit (rowWhere n k f closure)) closure each-length long
-
-  each-past : drop closureLength (eachHolding n k f closure) ≡ drop closureLength closure
-  unfolding eachHolding
-  each-past = put-past closureLength (concatBelow classLimit (rowWhere n k f closure)) closure each-length long
-
-module _ (t : Table) (n : ℕ) (closure : List ℕ) (long : closureLength ≤ length closure) where
-  pub joined-wide : (more : List ℕ) (c : ℕ) → c < classLimit → length (union (closureAt closure c) more) ≡ closureWidth
-  joined-wide more c l = union-length (closureAt closure c) more ∙ row-length 0 closureWidth classLimit c closure long l
-
-  pub new-wide : length (newRow t closure n) ≡ closureWidth
-  unfolding newRow namedSets
-  new-wide = union-length (namedSets t closure n) _ ∙ set-length closureWidth _
-
-  joined-past : (k : ℕ) (more : List ℕ) → drop closureLength (joinedInto n k more closure) ≡ drop closureLength closure
-  unfolding joinedInto
-  joined-past k more = each-past n k _ closure long (joined-wide more)
-
-  entry-past : (list : OpenList) (b k : ℕ) → drop closureLength (entryJoined list b n k closure) ≡ drop closureLength closure
-  entry-past Optional b k = joined-past k _
-  entry-past Auxiliary b k = joined-past k _
-  entry-past Superior b k = refl
-
-  refreshed-past : (k : ℕ) → drop closureLength (refreshedAt t n k closure) ≡ drop closureLength closure
-  unfolding refreshedAt
-  refreshed-past k = each-past n k _ closure long (λ c l. closure-row-length t c)
-
-  new-past : n < classLimit → drop closureLength (withNew t n closure) ≡ drop closureLength closure
-  unfolding withNew
-  new-past l = splice-after (closureWidth * n) (newRow t closure n) closure (omega (arith, new-wide)) closureLength (omega (arith, new-wide))
-
-  closure-past : (change : Change) (r : List ℕ) → (change ≡ Add Classes → n < classLimit)
-      → drop closureLength (closureAfter change r t n closure) ≡ drop closureLength closure
-  closure-past (Add Attributes) r l = refl
-  closure-past (Add Classes) r l = new-past (l refl)
-  closure-past SetRange r l = refl
-  closure-past (Rename u) r l = refl
-  closure-past (Deactivate u) r l = refl
-  closure-past (Reactivate u) r l = refl
-  closure-past AddEntry r l = entry-past (listOf r) (entryOf r) (targetOf r)
-  closure-past RemoveEntry r l = refreshed-past (targetOf r)
-
-  -- and it stays as long as it must be
-  joined-long : (k : ℕ) (more : List ℕ) → closureLength ≤ length (joinedInto n k more closure)
-  unfolding joinedInto
-  joined-long k more = each-long n k _ closure long (joined-wide more)
-
-  entry-long : (list : OpenList) (b k : ℕ) → closureLength ≤ length (entryJoined list b n k closure)
-  entry-long Optional b k = joined-long k _
-  entry-long Auxiliary b k = joined-long k _
-  entry-long Superior b k = long
-
-  refreshed-long : (k : ℕ) → closureLength ≤ length (refreshedAt t n k closure)
-  unfolding refreshedAt
-  refreshed-long k = each-long n k _ closure long (λ c l. closure-row-length t c)
-
-  new-long : n < classLimit → closureLength ≤ length (withNew t n closure)
-  unfolding withNew
-  new-long l = omega (arith, new-wide, splice-length (closureWidth * n) (newRow t closure n) closure (omega (arith, new-wide)))
-
-  pub closure-long : (change : Change) (r : List ℕ) → (change ≡ Add Classes → n < classLimit) → closureLength ≤ length (closureAfter change r t n closure)
-  closure-long (Add Attributes) r l = long
-  closure-long (Add Classes) r l = new-long (l refl)
-  closure-long SetRange r l = long
-  closure-long (Rename u) r l = long
-  closure-long (Deactivate u) r l = long
-  closure-long (Reactivate u) r l = long
-  closure-long AddEntry r l = entry-long (listOf r) (entryOf r) (targetOf r)
-  closure-long RemoveEntry r l = refreshed-long (targetOf r)
 
 -- ---- the call
 
@@ -213,7 +112,7 @@ module _ (x : List ℕ) (bytes : Bytes x) (s : Stores) where
         record {
           attributes = p .attributes;
           classes = p .classes;
-          closure = closure-past (schemaAfter change r m .classes) (m .classes .count) (s .closure) (h .shape .long .closure) change r room;
+          closure = after-past (s .closure) (h .shape .long .closure) change r (schemaAfter change r m .classes) (m .classes .count) room;
         }
 
     left-bytes : OfBytes s → OfBytes (quickMade (Read change) r s)

@@ -1,4 +1,4 @@
-use mathlib.Core.Path.{_∙_, _≡_, ap, ap₂, refl, sym, subst}
+use mathlib.Core.Path.{_∙_, ap, ap₂, refl}
 use lib.ListN.{length}
 use Prim.Native.Nat.{_*_}
 use Rattle.schema.specs.Layout.{closureWidth}
@@ -7,17 +7,9 @@ use Rattle.schema.specs.declared.number.TableId.the-variants.{Classes}
 use Rattle.sets.specs.Sets.{union}
 use Rattle.prelude.specs.Part.{splice}
 use Rattle.closure_change.specs.Kept.{ownRow, withNew, newRow}
-use native.Mathlib.Omega.{arith}
 use borrow.Author.Needs.{needs}
 use Rattle.closure_change.proofs.added.write_new.Statement.{statement}
 use Rattle.closure_change.proofs.added.write_new.Tie as tie
-use Rattle.closure_change.proofs.added.write_new.Reads as reads
-use Rattle.closure_change.proofs.added.write_new.Lts as lts
-use Rattle.closure_change.proofs.added.write_named.Reads as write-named-reads
-use Rattle.closure_change.proofs.added.write_own.Reads as write-own-reads
-use Rattle.prelude.proofs.part.put_bytes.Reads as put-bytes-reads
-use Rattle.schema.proofs.store.class_row.Reads as class-row-reads
-use Rattle.sets.proofs.join.Reads as join-reads
 
 slice-aggregate-write-named : tie.Need-slice-aggregate-write-named
 slice-aggregate-write-named c = search needs
@@ -32,7 +24,13 @@ slice-aggregate-write-own : tie.Need-slice-aggregate-write-own
 slice-aggregate-write-own c = search needs
 
 write-own-requires : tie.Need-write-own-requires
-write-own-requires c κs = (ap length (c .before .class-row .ensures) ∙ table-row-length Classes (c .before .before .before .before .before .before .before .before .args .classes .now) (c .before .before .before .before .before .before .before .before .args .n .0) (c .before .before .before .before .before .before .before .before .pre .0 .long) (c .before .before .before .before .before .before .before .before .pre .2), refl)
+write-own-requires c κs =
+    let c₁ = c .before in
+    let start = c₁ .before .before .before .before .before .before .before in (
+      ap length (c₁ .class-row .ensures) ∙ table-row-length Classes (start .args .classes .now) (start .args .n .0) (start .pre .0 .long)
+          (start .pre .2),
+      refl,
+    )
 
 slice-aggregate-join : tie.Need-slice-aggregate-join
 slice-aggregate-join c = search needs
@@ -57,7 +55,15 @@ same-length c = search needs
 
 returns : tie.Need-returns
 unfolding withNew newRow
-returns c = c .before .before .put-bytes .ensures .bytes ∙ ap (λ row. splice (closureWidth * c .before .before .before .before .before .before .before .before .before .before .before .before .before .before .before .before .before .before .before .before .args .n .0) row (c .before .before .before .before .before .before .before .before .before .before .before .before .before .before .before .before .before .before .before .before .args .closure .now)) (c .before .before .before .before .before .before .before .join .ensures ∙ ap₂ union (c .before .before .before .before .before .before .before .before .before .before .before .before .before .before .before .write-named .ensures) (c .before .before .before .before .before .before .before .before .before .before .before .write-own .ensures ∙ ap (ownRow (c .before .before .before .before .before .before .before .before .before .before .before .before .before .before .before .before .before .before .before .before .args .n .0)) (c .before .before .before .before .before .before .before .before .before .before .before .before .before .class-row .ensures)))
+returns c =
+    let c₁ = c .before .before in
+    let c₂ = c₁ .before .before .before .before .before in
+    let c₃ = c₂ .before .before .before .before in
+    let c₄ = c₃ .before .before in
+    let c₅ = c₄ .before .before in
+    let start = c₅ .before .before .before .before .before in
+    c₁ .put-bytes .ensures .bytes ∙ ap (λ row. splice (closureWidth * start .args .n .0) row (start .args .closure .now)) (c₂ .join .ensures
+    ∙ ap₂ union (c₅ .write-named .ensures) (c₃ .write-own .ensures ∙ ap (ownRow (start .args .n .0)) (c₄ .class-row .ensures)))
 
 pub write-new-spec : {M : Type 1} → statement M
 write-new-spec =

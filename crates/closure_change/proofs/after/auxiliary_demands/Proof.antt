@@ -1,8 +1,5 @@
-use mathlib.Core.Path.{_∙_, _≡_, ap, ap₂, refl, sym, subst}
+use mathlib.Core.Path.{_∙_, ap, ap₂}
 use lib.ListN.{length}
-use Rattle.schema.specs.Numbers.{classLimit}
-use Rattle.schema.specs.Store.{closureAt, tableIn}
-use Rattle.schema.specs.declared.number.TableId.the-variants.{Classes}
 use Rattle.closure_change.proofs.Holding.{row-long, demanded-long}
 use mathlib.Core.Bool.{not}
 use Rattle.prelude.specs.Part.{part}
@@ -12,29 +9,48 @@ use native.Mathlib.Omega.{arith}
 use borrow.Author.Needs.{needs}
 use Rattle.closure_change.proofs.after.auxiliary_demands.Statement.{statement}
 use Rattle.closure_change.proofs.after.auxiliary_demands.Tie as tie
-use Rattle.closure_change.proofs.after.auxiliary_demands.Reads as reads
-use Rattle.closure_change.proofs.after.auxiliary_demands.Lts as lts
-use Rattle.prelude.proofs.part.part_of.Reads as part-of-reads
-use Rattle.schema.proofs.store.closure_row.Reads as closure-row-reads
-use Rattle.sets.proofs.is_subset.Reads as is-subset-reads
 
 closure-row-requires : tie.Need-closure-row-requires
 closure-row-requires c κs = search needs
 
 part-of-requires : tie.Need-part-of-requires
-part-of-requires c κs = rw (c .closure-row .ensures) (omega (arith, row-long (c .before .before .args .closure .now) (c .before .before .pre .0) (c .before .before .args .a .0) (c .before .before .pre .1)))
+part-of-requires c κs =
+    let start = c .before .before in
+    rw (c .closure-row .ensures) (omega (arith, row-long (start .args .closure .now) (start .pre .0) (start .args .a .0) (start .pre .1)))
 
 closure-row-requires-2 : tie.Need-closure-row-requires-2
 closure-row-requires-2 c κs = search needs
 
 part-of-requires-2 : tie.Need-part-of-requires-2
-part-of-requires-2 c κs = rw (c .closure-row2 .ensures) (omega (arith, row-long (c .before .before .before .before .args .closure .now) (c .before .before .before .before .pre .0) (c .before .before .before .before .args .k .0) (c .before .before .before .before .pre .2)))
+part-of-requires-2 c κs =
+    let start = c .before .before .before .before in
+    rw (c .closure-row2 .ensures) (omega (arith, row-long (start .args .closure .now) (start .pre .0) (start .args .k .0) (start .pre .2)))
 
 is-subset-requires : tie.Need-is-subset-requires
-is-subset-requires c κs = omega (arith, ap length (c .before .before .part-of .ensures ∙ ap (part demandedAt attributeSet) (c .before .before .before .closure-row .ensures)), demanded-long (c .before .before .before .before .before .args .closure .now) (c .before .before .before .before .before .pre .0) (c .before .before .before .before .before .args .a .0) (c .before .before .before .before .before .pre .1), ap length (c .part-of2 .ensures ∙ ap (part demandedAt attributeSet) (c .before .closure-row2 .ensures)), demanded-long (c .before .before .before .before .before .args .closure .now) (c .before .before .before .before .before .pre .0) (c .before .before .before .before .before .args .k .0) (c .before .before .before .before .before .pre .2))
+is-subset-requires c κs =
+    let c₁ = c .before in
+    let c₂ = c₁ .before in
+    let c₃ = c₂ .before in
+    let start = c₃ .before .before in
+    omega (
+      arith,
+      ap length (c₂ .part-of .ensures ∙ ap (part demandedAt attributeSet) (c₃ .closure-row .ensures)),
+      demanded-long
+          (start .args .closure .now) (start .pre .0) (start .args .a .0) (start .pre .1),
+      ap length (c .part-of2 .ensures ∙ ap
+          (part demandedAt attributeSet) (c₁ .closure-row2 .ensures)),
+      demanded-long (start .args .closure .now) (start .pre .0) (start .args .k .0)
+          (start .pre .2),
+    )
 
 returns : tie.Need-returns
-returns c = ap not (c .is-subset .ensures ∙ ap₂ subset (c .before .before .before .part-of .ensures ∙ ap (part demandedAt attributeSet) (c .before .before .before .before .closure-row .ensures)) (c .before .part-of2 .ensures ∙ ap (part demandedAt attributeSet) (c .before .before .closure-row2 .ensures)))
+returns c =
+    let c₁ = c .before in
+    let c₂ = c₁ .before in
+    let c₃ = c₂ .before in
+    let c₄ = c₃ .before in
+    ap not (c .is-subset .ensures ∙ ap₂ subset (c₃ .part-of .ensures ∙ ap (part demandedAt attributeSet) (c₄ .closure-row .ensures))
+    (c₁ .part-of2 .ensures ∙ ap (part demandedAt attributeSet) (c₂ .closure-row2 .ensures)))
 
 pub auxiliary-demands-spec : {M : Type 1} → statement M
 auxiliary-demands-spec =

@@ -2,14 +2,9 @@ use mathlib.Core.Path.{_∙_, ap}
 use Rattle.graph.specs.Graph.{demandedSet}
 use Rattle.schema.specs.Store.{tableIn}
 use Rattle.schema.specs.declared.number.TableId.the-variants.{Classes}
-use native.Mathlib.Omega.{arith}
 use borrow.Author.Needs.{needs}
 use Rattle.closure_change.proofs.after.demand_before.Statement.{statement}
 use Rattle.closure_change.proofs.after.demand_before.Tie as tie
-use Rattle.closure_change.proofs.after.demand_before.Reads as reads
-use Rattle.closure_change.proofs.after.demand_before.Lts as lts
-use Rattle.change_read.proofs.carried.target_of.Reads as target-of-reads
-use Rattle.graph.proofs.closure.write_demanded.Reads as write-demanded-reads
 
 enum-told : tie.Need-enum-told
 enum-told c = search needs
@@ -63,7 +58,13 @@ same-length : tie.Need-same-length
 same-length c = search needs
 
 returns-7 : tie.Need-returns-7
-returns-7 c = rw (c .before .before .before .before .before .enum-told7 .given .1) (c .before .before .write-demanded .ensures ∙ ap (demandedSet (tableIn Classes (c .before .before .before .before .before .before .before .before .before .before .args .classes .now))) (c .before .before .before .before .target-of .ensures))
+returns-7 c =
+    let c₁ = c .before .before in
+    let c₂ = c₁ .before .before in
+    let c₃ = c₂ .before in
+    let start = c₃ .before .before .before .before .before in
+    rw (c₃ .enum-told7 .given .1) (c₁ .write-demanded .ensures ∙ ap (demandedSet (tableIn Classes (start .args .classes .now)))
+    (c₂ .target-of .ensures))
 
 pub demand-before-spec : {M : Type 1} → statement M
 demand-before-spec =

@@ -1,24 +1,15 @@
-use mathlib.Core.Path.{_∙_, _≡_, ap, ap₂, refl, sym, subst}
-use lib.ListN.{length}
+use mathlib.Core.Path.{_∙_, ap, sym, subst}
 use Rattle.schema.specs.Numbers.{classLimit}
-use Rattle.schema.specs.Store.{closureAt, tableIn}
+use Rattle.schema.specs.Store.{tableIn}
 use Rattle.schema.specs.declared.number.TableId.the-variants.{Classes}
 use Rattle.closure_change.proofs.Carried.{entry-same}
 use Prim.Native.Nat.{_<_}
 use mathlib.Core.Bool.{not}
 use Rattle.prelude.specs.Part.{sameBytes}
 use Rattle.graph.specs.Graph.{demandedSet}
-use native.Mathlib.Omega.{arith}
 use borrow.Author.Needs.{needs}
 use Rattle.closure_change.proofs.after.demand_changes.Statement.{statement}
 use Rattle.closure_change.proofs.after.demand_changes.Tie as tie
-use Rattle.closure_change.proofs.after.demand_changes.Reads as reads
-use Rattle.closure_change.proofs.after.demand_changes.Lts as lts
-use Rattle.change_read.proofs.carried.entry_of.Reads as entry-of-reads
-use Rattle.change_read.proofs.carried.list_of.Reads as list-of-reads
-use Rattle.change_read.proofs.carried.target_of.Reads as target-of-reads
-use Rattle.closure_change.proofs.after.demand_differs.Reads as demand-differs-reads
-use Rattle.closure_change.proofs.after.entry_demands.Reads as entry-demands-reads
 
 enum-told : tie.Need-enum-told
 enum-told c = search needs
@@ -54,7 +45,16 @@ cast-t11 : tie.Need-cast-t11
 cast-t11 c = search needs
 
 entry-demands-requires : tie.Need-entry-demands-requires
-entry-demands-requires c κs = (c .before .before .before .before .before .before .before .before .before .pre .long, λ e. subst (λ x. x < classLimit) (sym (c .before .entry-of .ensures)) (c .before .before .before .before .before .before .before .before .before .pre .entry (c .before .before .before .enum-told6 .given .1) (sym (c .before .before .list-of .ensures) ∙ e)), subst (λ x. x < classLimit) (sym (c .target-of .ensures)) (c .before .before .before .before .before .before .before .before .before .pre .target (c .before .before .before .enum-told6 .given .1)))
+entry-demands-requires c κs =
+    let c₁ = c .before in
+    let c₂ = c₁ .before in
+    let c₃ = c₂ .before in
+    let start = c₃ .before .before .before .before .before .before in (
+      start .pre .long,
+      λ e. subst (λ x. x < classLimit) (sym (c₁ .entry-of .ensures)) (start .pre .entry (c₃ .enum-told6 .given .1) (sym
+          (c₂ .list-of .ensures) ∙ e)),
+      subst (λ x. x < classLimit) (sym (c .target-of .ensures)) (start .pre .target (c₃ .enum-told6 .given .1)),
+    )
 
 enum-told-7 : tie.Need-enum-told-7
 enum-told-7 c = search needs
@@ -84,10 +84,22 @@ returns-5 : tie.Need-returns-5
 returns-5 c = search needs
 
 returns-6 : tie.Need-returns-6
-returns-6 c = rw (c .before .before .before .before .enum-told6 .given .1) (c .entry-demands .ensures ∙ entry-same (c .before .before .before .list-of .ensures) (c .before .before .entry-of .ensures) (c .before .target-of .ensures) (c .before .before .before .before .before .before .before .before .before .before .args .closure .now))
+returns-6 c =
+    let c₁ = c .before in
+    let c₂ = c₁ .before in
+    let c₃ = c₂ .before in
+    let c₄ = c₃ .before in
+    let start = c₄ .before .before .before .before .before .before in
+    rw (c₄ .enum-told6 .given .1) (c .entry-demands .ensures ∙ entry-same (c₃ .list-of .ensures) (c₂ .entry-of .ensures) (c₁ .target-of .ensures)
+    (start .args .closure .now))
 
 returns-7 : tie.Need-returns-7
-returns-7 c = rw (c .before .before .enum-told7 .given .1) (c .demand-differs .ensures ∙ ap (λ k. not (sameBytes (c .before .before .before .before .before .before .before .before .args .before .now) (demandedSet (tableIn Classes (c .before .before .before .before .before .before .before .before .args .classes .now)) k))) (c .before .target-of2 .ensures))
+returns-7 c =
+    let c₁ = c .before in
+    let c₂ = c₁ .before in
+    let start = c₂ .before .before .before .before .before .before in
+    rw (c₂ .enum-told7 .given .1) (c .demand-differs .ensures ∙ ap (λ k. not (sameBytes (start .args .before .now) (demandedSet (tableIn Classes
+    (start .args .classes .now)) k))) (c₁ .target-of2 .ensures))
 
 pub demand-changes-spec : {M : Type 1} → statement M
 demand-changes-spec =

@@ -1,15 +1,6 @@
-use mathlib.Core.Path.{_∙_, _≡_, ap, ap₂, refl, sym, subst}
-use lib.ListN.{length}
-use Rattle.schema.specs.Numbers.{classLimit}
-use Rattle.schema.specs.Store.{closureAt, tableIn}
-use Rattle.schema.specs.declared.number.TableId.the-variants.{Classes}
-use native.Mathlib.Omega.{arith}
 use borrow.Author.Needs.{needs}
 use Rattle.closure_change.proofs.after.entry_demands.Statement.{statement}
 use Rattle.closure_change.proofs.after.entry_demands.Tie as tie
-use Rattle.closure_change.proofs.after.entry_demands.Reads as reads
-use Rattle.closure_change.proofs.after.entry_demands.Lts as lts
-use Rattle.closure_change.proofs.after.auxiliary_demands.Reads as auxiliary-demands-reads
 
 enum-told : tie.Need-enum-told
 enum-told c = search needs
@@ -18,7 +9,9 @@ enum-told-2 : tie.Need-enum-told-2
 enum-told-2 c = search needs
 
 auxiliary-demands-requires : tie.Need-auxiliary-demands-requires
-auxiliary-demands-requires c κs = (c .before .before .before .pre .0, c .before .before .before .pre .1 (c .enum-told2 .given .1), c .before .before .before .pre .2)
+auxiliary-demands-requires c κs =
+    let start = c .before .before .before in
+    (start .pre .0, start .pre .1 (c .enum-told2 .given .1), start .pre .2)
 
 enum-told-3 : tie.Need-enum-told-3
 enum-told-3 c = search needs

@@ -1,20 +1,12 @@
 use Rattle.closure_change.specs.Kept.{joinedInto}
 use Rattle.prelude.specs.PartLaws.{padded-full}
-use mathlib.Core.Path.{_∙_, _≡_, ap, ap₂, refl, sym, subst}
+use mathlib.Core.Path.{_∙_, ap}
 use lib.ListN.{length}
-use Rattle.schema.specs.Numbers.{classLimit}
-use Rattle.schema.specs.Store.{closureAt, tableIn}
-use Rattle.schema.specs.declared.number.TableId.the-variants.{Classes}
 use Rattle.closure_change.proofs.Holding.{row-long}
 use native.Mathlib.Omega.{arith}
 use borrow.Author.Needs.{needs}
 use Rattle.closure_change.proofs.after.join_auxiliary.Statement.{statement}
 use Rattle.closure_change.proofs.after.join_auxiliary.Tie as tie
-use Rattle.closure_change.proofs.after.join_auxiliary.Reads as reads
-use Rattle.closure_change.proofs.after.join_auxiliary.Lts as lts
-use Rattle.closure_change.proofs.each.join_all.Reads as join-all-reads
-use Rattle.prelude.proofs.part.copy_padded.Reads as copy-padded-reads
-use Rattle.schema.proofs.store.closure_row.Reads as closure-row-reads
 
 slice-aggregate-copy-padded : tie.Need-slice-aggregate-copy-padded
 slice-aggregate-copy-padded c = search needs
@@ -23,7 +15,9 @@ closure-row-requires : tie.Need-closure-row-requires
 closure-row-requires c κs = search needs
 
 copy-padded-requires : tie.Need-copy-padded-requires
-copy-padded-requires c κs = omega (arith, ap length (c .closure-row .ensures), row-long (c .before .before .before .before .args .closure .now) (c .before .before .before .before .pre .0) (c .before .before .before .before .args .a .0) (c .before .before .before .before .pre .1))
+copy-padded-requires c κs =
+    let start = c .before .before .before .before in
+    omega (arith, ap length (c .closure-row .ensures), row-long (start .args .closure .now) (start .pre .0) (start .args .a .0) (start .pre .1))
 
 slice-aggregate-join-all : tie.Need-slice-aggregate-join-all
 slice-aggregate-join-all c = search needs
@@ -35,7 +29,14 @@ same-length : tie.Need-same-length
 same-length c = search needs
 
 returns : tie.Need-returns
-returns c = c .before .before .join-all .ensures ∙ ap (λ more. joinedInto (c .before .before .before .before .before .before .before .before .before .before .before .args .n) (c .before .before .before .before .before .before .before .before .before .before .before .args .k) more (c .before .before .before .before .before .before .before .before .before .before .before .args .closure .now)) (c .before .before .before .before .before .before .copy-padded .ensures ∙ padded-full _ _ (ap length (c .before .before .before .before .before .before .before .closure-row .ensures) ∙ row-long (c .before .before .before .before .before .before .before .before .before .before .before .args .closure .now) (c .before .before .before .before .before .before .before .before .before .before .before .pre .0) (c .before .before .before .before .before .before .before .before .before .before .before .args .a .0) (c .before .before .before .before .before .before .before .before .before .before .before .pre .1)) ∙ c .before .before .before .before .before .before .before .closure-row .ensures)
+returns c =
+    let c₁ = c .before .before in
+    let c₂ = c₁ .before .before .before .before in
+    let c₃ = c₂ .before in
+    let start = c₃ .before .before .before .before in
+    c₁ .join-all .ensures ∙ ap (λ more. joinedInto (start .args .n) (start .args .k) more (start .args .closure .now)) (c₂ .copy-padded .ensures
+    ∙ padded-full _ _ (ap length (c₃ .closure-row .ensures) ∙ row-long (start .args .closure .now) (start .pre .0) (start .args .a .0)
+    (start .pre .1)) ∙ c₃ .closure-row .ensures)
 
 pub join-auxiliary-spec : {M : Type 1} → statement M
 join-auxiliary-spec =

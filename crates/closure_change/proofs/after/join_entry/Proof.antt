@@ -1,16 +1,6 @@
-use mathlib.Core.Path.{_∙_, _≡_, ap, ap₂, refl, sym, subst}
-use lib.ListN.{length}
-use Rattle.schema.specs.Numbers.{classLimit}
-use Rattle.schema.specs.Store.{closureAt, tableIn}
-use Rattle.schema.specs.declared.number.TableId.the-variants.{Classes}
-use native.Mathlib.Omega.{arith}
 use borrow.Author.Needs.{needs}
 use Rattle.closure_change.proofs.after.join_entry.Statement.{statement}
 use Rattle.closure_change.proofs.after.join_entry.Tie as tie
-use Rattle.closure_change.proofs.after.join_entry.Reads as reads
-use Rattle.closure_change.proofs.after.join_entry.Lts as lts
-use Rattle.closure_change.proofs.after.join_auxiliary.Reads as join-auxiliary-reads
-use Rattle.closure_change.proofs.after.join_option.Reads as join-option-reads
 
 enum-told : tie.Need-enum-told
 enum-told c = search needs
@@ -22,7 +12,10 @@ enum-told-2 : tie.Need-enum-told-2
 enum-told-2 c = search needs
 
 join-auxiliary-requires : tie.Need-join-auxiliary-requires
-join-auxiliary-requires c κs = (c .before .before .before .before .pre .0, c .before .before .before .before .pre .1 (c .before .enum-told2 .given .1))
+join-auxiliary-requires c κs =
+    let c₁ = c .before in
+    let start = c₁ .before .before .before in
+    (start .pre .0, start .pre .1 (c₁ .enum-told2 .given .1))
 
 enum-told-3 : tie.Need-enum-told-3
 enum-told-3 c = search needs
@@ -31,13 +24,19 @@ same-length : tie.Need-same-length
 same-length c = search needs
 
 returns : tie.Need-returns
-returns c = rw (c .before .before .before .before .enum-told .given .1) (c .before .before .join-option .ensures)
+returns c =
+    let c₁ = c .before .before in
+    let c₂ = c₁ .before .before in
+    rw (c₂ .enum-told .given .1) (c₁ .join-option .ensures)
 
 same-length-2 : tie.Need-same-length-2
 same-length-2 c = search needs
 
 returns-2 : tie.Need-returns-2
-returns-2 c = rw (c .before .before .before .before .enum-told2 .given .1) (c .before .before .join-auxiliary .ensures)
+returns-2 c =
+    let c₁ = c .before .before in
+    let c₂ = c₁ .before .before in
+    rw (c₂ .enum-told2 .given .1) (c₁ .join-auxiliary .ensures)
 
 returns-3 : tie.Need-returns-3
 returns-3 c = search needs

@@ -1,14 +1,8 @@
-use mathlib.Core.Path.{_∙_, _≡_, ap, ap₂, refl, sym, subst}
-use lib.ListN.{length}
+use mathlib.Core.Path.{_∙_, ap}
 use Rattle.closure_change.specs.Kept.{joinedInto}
-use native.Mathlib.Omega.{arith}
 use borrow.Author.Needs.{needs}
 use Rattle.closure_change.proofs.after.join_option.Statement.{statement}
 use Rattle.closure_change.proofs.after.join_option.Tie as tie
-use Rattle.closure_change.proofs.after.join_option.Reads as reads
-use Rattle.closure_change.proofs.after.join_option.Lts as lts
-use Rattle.closure_change.proofs.after.write_option.Reads as write-option-reads
-use Rattle.closure_change.proofs.each.join_all.Reads as join-all-reads
 
 slice-aggregate-write-option : tie.Need-slice-aggregate-write-option
 slice-aggregate-write-option c = search needs
@@ -26,7 +20,11 @@ same-length : tie.Need-same-length
 same-length c = search needs
 
 returns : tie.Need-returns
-returns c = c .before .before .join-all .ensures ∙ ap (λ more. joinedInto (c .before .before .before .before .before .before .before .before .before .args .n) (c .before .before .before .before .before .before .before .before .before .args .k) more (c .before .before .before .before .before .before .before .before .before .args .closure .now)) (c .before .before .before .before .before .before .write-option .ensures)
+returns c =
+    let c₁ = c .before .before in
+    let c₂ = c₁ .before .before .before .before in
+    let start = c₂ .before .before .before in
+    c₁ .join-all .ensures ∙ ap (λ more. joinedInto (start .args .n) (start .args .k) more (start .args .closure .now)) (c₂ .write-option .ensures)
 
 pub join-option-spec : {M : Type 1} → statement M
 join-option-spec =

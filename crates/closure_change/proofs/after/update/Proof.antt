@@ -1,24 +1,14 @@
-use mathlib.Core.Path.{_∙_, _≡_, ap, ap₂, refl, sym, subst}
-use lib.ListN.{length}
+use mathlib.Core.Path.{_∙_, ap, sym, subst}
 use Rattle.schema.specs.Numbers.{classLimit}
-use Rattle.schema.specs.Store.{closureAt, tableIn}
+use Rattle.schema.specs.Store.{tableIn}
 use Rattle.schema.specs.declared.number.TableId.the-variants.{Classes}
 use Rattle.closure_change.proofs.Carried.{joined-same}
 use Prim.Native.Nat.{_<_}
 use Rattle.change_read.specs.declared.read.Change.the-variants.{Add}
 use Rattle.closure_change.specs.Kept.{refreshedAt}
-use native.Mathlib.Omega.{arith}
 use borrow.Author.Needs.{needs}
 use Rattle.closure_change.proofs.after.update.Statement.{statement}
 use Rattle.closure_change.proofs.after.update.Tie as tie
-use Rattle.closure_change.proofs.after.update.Reads as reads
-use Rattle.closure_change.proofs.after.update.Lts as lts
-use Rattle.change_read.proofs.carried.entry_of.Reads as entry-of-reads
-use Rattle.change_read.proofs.carried.list_of.Reads as list-of-reads
-use Rattle.change_read.proofs.carried.target_of.Reads as target-of-reads
-use Rattle.closure_change.proofs.added.write_new.Reads as write-new-reads
-use Rattle.closure_change.proofs.after.join_entry.Reads as join-entry-reads
-use Rattle.closure_change.proofs.each.refresh_holding.Reads as refresh-holding-reads
 
 enum-known-change : tie.Need-enum-known-change
 enum-known-change c = search needs
@@ -30,7 +20,11 @@ enum-told-2 : tie.Need-enum-told-2
 enum-told-2 c = search needs
 
 write-new-requires : tie.Need-write-new-requires
-write-new-requires c κs = (c .before .before .before .before .before .before .before .before .before .pre .0 .readable, c .before .before .before .before .before .before .before .before .before .pre .0 .long, c .before .before .before .before .before .before .before .before .before .pre .1 (c .before .before .before .before .change .given .1 ∙ ap Add (c .before .enum-told2 .given .1)))
+write-new-requires c κs =
+    let c₁ = c .before in
+    let c₂ = c₁ .before .before .before in
+    let start = c₂ .before .before .before .before .before in
+    (start .pre .0 .readable, start .pre .0 .long, start .pre .1 (c₂ .change .given .1 ∙ ap Add (c₁ .enum-told2 .given .1)))
 
 enum-told-3 : tie.Need-enum-told-3
 enum-told-3 c = search needs
@@ -63,7 +57,15 @@ cast-join-entry : tie.Need-cast-join-entry
 cast-join-entry c = search needs
 
 join-entry-requires : tie.Need-join-entry-requires
-join-entry-requires c κs = (c .before .before .before .before .before .before .before .before .before .pre .0 .long, λ e. subst (λ x. x < classLimit) (sym (c .before .entry-of .ensures)) (c .before .before .before .before .before .before .before .before .before .pre .0 .entry (c .before .before .before .before .enum-told7 .given .1) (sym (c .before .before .list-of .ensures) ∙ e)))
+join-entry-requires c κs =
+    let c₁ = c .before in
+    let c₂ = c₁ .before in
+    let c₃ = c₂ .before .before in
+    let start = c₃ .before .before .before .before .before in (
+      start .pre .0 .long,
+      λ e. subst (λ x. x < classLimit) (sym (c₁ .entry-of .ensures)) (start .pre .0 .entry (c₃ .enum-told7 .given .1) (sym
+          (c₂ .list-of .ensures) ∙ e)),
+    )
 
 enum-told-8 : tie.Need-enum-told-8
 enum-told-8 c = search needs
@@ -84,7 +86,11 @@ same-length : tie.Need-same-length
 same-length c = search needs
 
 returns-2 : tie.Need-returns-2
-returns-2 c = rw (c .before .before .before .before .before .before .before .change .given .1, c .before .before .before .before .enum-told2 .given .1) (c .before .before .write-new .ensures)
+returns-2 c =
+    let c₁ = c .before .before in
+    let c₂ = c₁ .before .before in
+    let c₃ = c₂ .before .before .before in
+    rw (c₃ .change .given .1, c₂ .enum-told2 .given .1) (c₁ .write-new .ensures)
 
 returns-3 : tie.Need-returns-3
 returns-3 c = search needs
@@ -102,13 +108,27 @@ same-length-2 : tie.Need-same-length-2
 same-length-2 c = search needs
 
 returns-7 : tie.Need-returns-7
-returns-7 c = rw (c .before .before .before .before .before .before .before .enum-told7 .given .1) (c .before .before .join-entry .ensures ∙ joined-same (c .before .before .before .before .before .list-of .ensures) (c .before .before .before .before .entry-of .ensures) (c .before .before .before .before .before .before .before .before .before .before .before .before .args .n) (c .before .before .before .before .before .before .target-of .ensures) (c .before .before .before .before .before .before .before .before .before .before .before .before .args .closure .now))
+returns-7 c =
+    let c₁ = c .before .before in
+    let c₂ = c₁ .before .before in
+    let c₃ = c₂ .before in
+    let c₄ = c₃ .before in
+    let c₅ = c₄ .before in
+    let start = c₅ .before .before .before .before .before in
+    rw (c₅ .enum-told7 .given .1) (c₁ .join-entry .ensures ∙ joined-same (c₃ .list-of .ensures) (c₂ .entry-of .ensures) (start .args .n)
+    (c₄ .target-of .ensures) (start .args .closure .now))
 
 same-length-3 : tie.Need-same-length-3
 same-length-3 c = search needs
 
 returns-8 : tie.Need-returns-8
-returns-8 c = rw (c .before .before .before .before .before .enum-told8 .given .1) (c .before .before .refresh-holding .ensures ∙ ap (λ k. refreshedAt (tableIn Classes (c .before .before .before .before .before .before .before .before .before .before .args .classes .now)) (c .before .before .before .before .before .before .before .before .before .before .args .n) k (c .before .before .before .before .before .before .before .before .before .before .args .closure .now)) (c .before .before .before .before .target-of2 .ensures))
+returns-8 c =
+    let c₁ = c .before .before in
+    let c₂ = c₁ .before .before in
+    let c₃ = c₂ .before in
+    let start = c₃ .before .before .before .before .before in
+    rw (c₃ .enum-told8 .given .1) (c₁ .refresh-holding .ensures ∙ ap (λ k. refreshedAt (tableIn Classes (start .args .classes .now))
+    (start .args .n) k (start .args .closure .now)) (c₂ .target-of2 .ensures))
 
 pub update-spec : {M : Type 1} → statement M
 update-spec =

@@ -1,16 +1,9 @@
-use mathlib.Core.Path.{_∙_, _≡_, ap, ap₂, refl, sym, subst}
-use lib.ListN.{length}
+use mathlib.Core.Path.{_∙_, ap, refl}
 use Rattle.closure_change.proofs.Joining.{option-written}
 use Rattle.prelude.specs.Part.{zeros}
-use native.Mathlib.Omega.{arith}
 use borrow.Author.Needs.{needs}
 use Rattle.closure_change.proofs.after.write_option.Statement.{statement}
 use Rattle.closure_change.proofs.after.write_option.Tie as tie
-use Rattle.closure_change.proofs.after.write_option.Reads as reads
-use Rattle.closure_change.proofs.after.write_option.Lts as lts
-use Rattle.prelude.proofs.part.clear.Reads as clear-reads
-use Rattle.prelude.proofs.part.put_bytes.Reads as put-bytes-reads
-use Rattle.sets.proofs.insert.Reads as insert-reads
 
 slice-aggregate-insert : tie.Need-slice-aggregate-insert
 slice-aggregate-insert c = search needs
@@ -32,7 +25,12 @@ same-length c = search needs
 
 returns : tie.Need-returns
 unfolding zeros
-returns c = option-written (c .before .before .before .before .before .before .before .before .before .before .before .before .before .args .b) refl (c .before .before .before .before .before .before .before .before .before .before .insert .ensures) (c .before .before .before .before .before .before .before .clear .ensures ∙ ap zeros (c .before .before .before .before .before .before .before .before .before .before .before .before .before .pre)) (c .before .before .put-bytes .ensures)
+returns c =
+    let c₁ = c .before .before in
+    let c₂ = c₁ .before .before .before .before .before in
+    let c₃ = c₂ .before .before .before in
+    let start = c₃ .before .before .before in
+    option-written (start .args .b) refl (c₃ .insert .ensures) (c₂ .clear .ensures ∙ ap zeros (start .pre)) (c₁ .put-bytes .ensures)
 
 pub write-option-spec : {M : Type 1} → statement M
 write-option-spec =

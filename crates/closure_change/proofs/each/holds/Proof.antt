@@ -7,26 +7,31 @@ use native.Mathlib.Omega.{arith}
 use borrow.Author.Needs.{needs}
 use Rattle.closure_change.proofs.each.holds.Statement.{statement}
 use Rattle.closure_change.proofs.each.holds.Tie as tie
-use Rattle.closure_change.proofs.each.holds.Reads as reads
-use Rattle.closure_change.proofs.each.holds.Lts as lts
-use Rattle.prelude.proofs.part.part_of.Reads as part-of-reads
-use Rattle.schema.proofs.store.closure_row.Reads as closure-row-reads
-use Rattle.sets.proofs.has.Reads as has-reads
 
 returns : tie.Need-returns
-returns c = held-beyond (c .before .before .args .n) (c .before .before .args .k) (c .before .before .args .c) _ (c .if1 .taken)
+returns c =
+    let start = c .before .before in
+    held-beyond (start .args .n) (start .args .k) (start .args .c) _ (c .if1 .taken)
 
 closure-row-requires : tie.Need-closure-row-requires
 closure-row-requires c κs = search needs
 
 part-of-requires : tie.Need-part-of-requires
-part-of-requires c κs = rw (c .closure-row .ensures) (omega (arith, row-long (c .before .before .before .args .closure .now) (c .before .before .before .pre .0) (c .before .before .before .args .c) (c .before .before .before .pre .1)))
+part-of-requires c κs =
+    let start = c .before .before .before in
+    rw (c .closure-row .ensures) (omega (arith, row-long (start .args .closure .now) (start .pre .0) (start .args .c) (start .pre .1)))
 
 has-requires : tie.Need-has-requires
 has-requires c κs = search needs
 
 returns-2 : tie.Need-returns-2
-returns-2 c = c .has .ensures ∙ ap (λ row. member row (c .before .before .before .before .before .args .k)) (c .before .part-of .ensures ∙ ap (part reachedAt classSet) (c .before .before .closure-row .ensures)) ∙ held-there (c .before .before .before .before .before .args .n) (c .before .before .before .before .before .args .k) (c .before .before .before .before .before .args .c) _ (c .before .before .before .if1 .left)
+returns-2 c =
+    let c₁ = c .before in
+    let c₂ = c₁ .before in
+    let c₃ = c₂ .before in
+    let start = c₃ .before .before in
+    c .has .ensures ∙ ap (λ row. member row (start .args .k)) (c₁ .part-of .ensures ∙ ap (part reachedAt classSet) (c₂ .closure-row .ensures))
+    ∙ held-there (start .args .n) (start .args .k) (start .args .c) _ (c₃ .if1 .left)
 
 pub holds-spec : {M : Type 1} → statement M
 holds-spec =

@@ -3,13 +3,9 @@ use mathlib.Core.Path.{_∙_, ap, refl}
 use Rattle.sets.specs.Sets.{union}
 use Rattle.schema.specs.Store.{closureAt}
 use Rattle.sets.specs.SetsLaws.{union-length}
-use native.Mathlib.Omega.{arith}
 use borrow.Author.Needs.{needs}
 use Rattle.closure_change.proofs.each.join_at.Statement.{statement}
 use Rattle.closure_change.proofs.each.join_at.Tie as tie
-use Rattle.closure_change.proofs.each.join_at.Reads as reads
-use Rattle.closure_change.proofs.each.join_at.Lts as lts
-use Rattle.sets.proofs.join.Reads as join-reads
 
 mul-at : tie.Need-mul-at
 mul-at c = search needs
@@ -33,7 +29,13 @@ same-length : tie.Need-same-length
 same-length c = search needs
 
 returns : tie.Need-returns
-returns c = row-back (c .before .before .before .before .before .before .before .args .closure .now) (c .before .before .before .before .before .before .before .pre .0) (c .before .before .before .before .before .before .before .args .c .0) (c .before .before .before .before .before .before .before .pre .1) _ _ _ (union (closureAt (c .before .before .before .before .before .before .before .args .closure .now) (c .before .before .before .before .before .before .before .args .c .0)) (c .before .before .before .before .before .before .before .args .more .now)) refl refl (union-length _ _ ∙ row-long (c .before .before .before .before .before .before .before .args .closure .now) (c .before .before .before .before .before .before .before .pre .0) (c .before .before .before .before .before .before .before .args .c .0) (c .before .before .before .before .before .before .before .pre .1)) (c .before .before .join .ensures ∙ ap (λ row. union row (c .before .before .before .before .before .before .before .args .more .now)) (row-lent (c .before .before .before .before .before .before .before .args .closure .now) (c .before .before .before .before .before .before .before .pre .0) (c .before .before .before .before .before .before .before .args .c .0) (c .before .before .before .before .before .before .before .pre .1) _ _ refl refl))
+returns c =
+    let c₁ = c .before .before in
+    let start = c₁ .before .before .before .before .before in
+    row-back (start .args .closure .now) (start .pre .0) (start .args .c .0) (start .pre .1) _ _ _ (union (closureAt (start .args .closure .now)
+    (start .args .c .0)) (start .args .more .now)) refl refl (union-length _ _ ∙ row-long (start .args .closure .now) (start .pre .0)
+    (start .args .c .0) (start .pre .1)) (c₁ .join .ensures ∙ ap (λ row. union row (start .args .more .now)) (row-lent (start .args .closure .now)
+    (start .pre .0) (start .args .c .0) (start .pre .1) _ _ refl refl))
 
 pub join-at-spec : {M : Type 1} → statement M
 join-at-spec =

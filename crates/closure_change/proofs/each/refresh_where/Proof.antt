@@ -1,17 +1,11 @@
 use Rattle.closure_change.proofs.Holding.{where-changed, where-kept}
 use mathlib.Core.Path.{_∙_, sym}
-use Rattle.sets.specs.Sets.{union}
 use Rattle.graph.specs.Graph.{closureRow}
 use Rattle.schema.specs.Store.{tableIn}
 use Rattle.schema.specs.declared.number.TableId.the-variants.{Classes}
-use native.Mathlib.Omega.{arith}
 use borrow.Author.Needs.{needs}
 use Rattle.closure_change.proofs.each.refresh_where.Statement.{statement}
 use Rattle.closure_change.proofs.each.refresh_where.Tie as tie
-use Rattle.closure_change.proofs.each.refresh_where.Reads as reads
-use Rattle.closure_change.proofs.each.refresh_where.Lts as lts
-use Rattle.closure_change.proofs.each.holds.Reads as holds-reads
-use Rattle.graph.proofs.closure.refresh.Reads as refresh-reads
 
 holds-requires : tie.Need-holds-requires
 holds-requires c κs = search needs
@@ -23,13 +17,23 @@ same-length : tie.Need-same-length
 same-length c = search needs
 
 returns : tie.Need-returns
-returns c = where-changed (c .before .before .before .before .before .before .before .before .before .args .closure .now) (c .before .before .before .before .before .before .before .before .before .pre .1) (c .before .before .before .before .before .before .before .before .before .args .c) (c .before .before .before .before .before .before .before .before .before .pre .2) (c .before .before .before .before .before .before .before .before .before .args .n) (c .before .before .before .before .before .before .before .before .before .args .k) (λ i row. closureRow (tableIn Classes (c .before .before .before .before .before .before .before .before .before .args .classes .now)) i) _ (sym (c .before .before .before .before .before .holds .ensures) ∙ c .before .before .before .before .if1 .taken) (c .before .before .refresh .ensures)
+returns c =
+    let c₁ = c .before .before in
+    let c₂ = c₁ .before .before in
+    let c₃ = c₂ .before in
+    let start = c₃ .before .before .before .before in
+    where-changed (start .args .closure .now) (start .pre .1) (start .args .c) (start .pre .2) (start .args .n) (start .args .k) (λ i row. closureRow
+    (tableIn Classes (start .args .classes .now)) i) _ (sym (c₃ .holds .ensures) ∙ c₂ .if1 .taken) (c₁ .refresh .ensures)
 
 same-length-2 : tie.Need-same-length-2
 same-length-2 c = search needs
 
 returns-2 : tie.Need-returns-2
-returns-2 c = where-kept (c .before .before .before .before .before .args .closure .now) (c .before .before .before .before .before .pre .1) (c .before .before .before .before .before .args .c) (c .before .before .before .before .before .pre .2) (c .before .before .before .before .before .args .n) (c .before .before .before .before .before .args .k) (λ i row. closureRow (tableIn Classes (c .before .before .before .before .before .args .classes .now)) i) (sym (c .before .holds .ensures) ∙ c .if1 .left)
+returns-2 c =
+    let c₁ = c .before in
+    let start = c₁ .before .before .before .before in
+    where-kept (start .args .closure .now) (start .pre .1) (start .args .c) (start .pre .2) (start .args .n) (start .args .k) (λ i row. closureRow
+    (tableIn Classes (start .args .classes .now)) i) (sym (c₁ .holds .ensures) ∙ c .if1 .left)
 
 pub refresh-where-spec : {M : Type 1} → statement M
 refresh-where-spec =

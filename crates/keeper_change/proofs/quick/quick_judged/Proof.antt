@@ -7,25 +7,17 @@ use Rattle.schema.specs.Layout.{attributeSet}
 use Rattle.prelude.specs.Part.{zeros}
 use Rattle.change_rows.specs.Rows.{tableFor}
 use Rattle.tables_shape.specs.ShapeLaws.{formed-readable}
-use native.Mathlib.Omega.{arith}
 use borrow.Author.Needs.{needs}
 use Rattle.keeper_change.proofs.quick.quick_judged.Statement.{statement}
 use Rattle.keeper_change.proofs.quick.quick_judged.Tie as tie
-use Rattle.keeper_change.proofs.quick.quick_judged.Reads as reads
-use Rattle.keeper_change.proofs.quick.quick_judged.Lts as lts
-use Rattle.closure_change.proofs.after.demand_before.Reads as demand-before-reads
-use Rattle.closure_change.proofs.after.update.Reads as update-reads
-use Rattle.keeper_change.proofs.judge.added_by.Reads as added-by-reads
-use Rattle.keeper_change.proofs.judge.judged_row.Reads as judged-row-reads
-use Rattle.keeper_change.proofs.rows.make.Reads as make-reads
-use Rattle.keeper_change.proofs.rows.save.Reads as save-reads
-use Rattle.keeper_change.proofs.rows.undo.Reads as undo-reads
-use Rattle.schema.proofs.answer.Answer.changed.Reads as changed-reads
-use Rattle.schema.proofs.answer.Answer.refused.Reads as refused-reads
-use Rattle.schema.proofs.store.row_count.Reads as row-count-reads
 
 save-requires : tie.Need-save-requires
-save-requires c κs = let start = (c .before .before .before .before .before .before) in let s = stores (start .args .attributes .now) (start .args .classes .now) (start .args .closure .now) in let change = start .args .change in let r = start .args .scratch .now in applicable change r s (start .pre)
+save-requires c κs =
+    let start = c .before .before .before .before .before .before in
+    let s = stores (start .args .attributes .now) (start .args .classes .now) (start .args .closure .now) in
+    let change = start .args .change in
+    let r = start .args .scratch .now in
+    applicable change r s (start .pre)
 
 row-count-requires : tie.Need-row-count-requires
 row-count-requires c κs = search needs
@@ -34,22 +26,59 @@ slice-aggregate-demand-before : tie.Need-slice-aggregate-demand-before
 slice-aggregate-demand-before c = search needs
 
 demand-before-requires : tie.Need-demand-before-requires
-demand-before-requires c κs = let start = (c .before .before .before .before .before .before .before .before .before .before .before) in let s = stores (start .args .attributes .now) (start .args .classes .now) (start .args .closure .now) in let change = start .args .change in let r = start .args .scratch .now in (applicable change r s (start .pre) .carried, formed-readable (s .attributes) (s .classes) (start .pre .shape .long .attributes) (start .pre .shape .long .classes) (start .pre .shape .formed), refl)
+demand-before-requires c κs =
+    let start = c .before .before .before .before .before .before .before .before .before .before .before in
+    let s = stores (start .args .attributes .now) (start .args .classes .now) (start .args .closure .now) in
+    let change = start .args .change in
+    let r = start .args .scratch .now in (
+      applicable change r s (start .pre) .carried,
+      formed-readable (s .attributes) (s .classes) (start .pre .shape .long .attributes)
+          (start .pre .shape .long .classes) (start .pre .shape .formed),
+      refl,
+    )
 
 make-requires : tie.Need-make-requires
-make-requires c κs = let start = (c .before .before .before .before .before .before .before .before .before .before .before .before .before .before .before) in let s = stores (start .args .attributes .now) (start .args .classes .now) (start .args .closure .now) in let change = start .args .change in let r = start .args .scratch .now in applicable change r s (start .pre)
+make-requires c κs =
+    let start = c .before .before .before .before .before .before .before .before .before .before .before .before .before .before .before in
+    let s = stores (start .args .attributes .now) (start .args .classes .now) (start .args .closure .now) in
+    let change = start .args .change in
+    let r = start .args .scratch .now in
+    applicable change r s (start .pre)
 
 added-by-requires : tie.Need-added-by-requires
-added-by-requires c κs = let start = (c .before .before .before .before .before .before .before .before .before .before .before .before .before .before .before .before .before .before .before .before) in let s = stores (start .args .attributes .now) (start .args .classes .now) (start .args .closure .now) in let change = start .args .change in let r = start .args .scratch .now in applicable change r s (start .pre) .carried
+added-by-requires c κs =
+    let start = c .before .before .before .before .before .before .before .before .before .before .before .before .before .before .before .before
+    .before .before .before .before in
+    let s = stores (start .args .attributes .now) (start .args .classes .now) (start .args .closure .now) in
+    let change = start .args .change in
+    let r = start .args .scratch .now in
+    applicable change r s (start .pre) .carried
 
 slice-aggregate-judged-row : tie.Need-slice-aggregate-judged-row
 slice-aggregate-judged-row c = search needs
 
 judged-row-requires : tie.Need-judged-row-requires
-judged-row-requires c κs = let start = (c .before .before .before .before .before .before .before .before .before .before .before .before .before .before .before .before .before .before .before .before .before .before .before .before .before) in let s = stores (start .args .attributes .now) (start .args .classes .now) (start .args .closure .now) in let change = start .args .change in let r = start .args .scratch .now in judged-there change r s (start .pre) (c .before .before .before .before .added-by .ensures) (c .before .before .before .before .before .before .before .before .before .before .before .before .before .before .before .before .row-count .ensures) (c .before .before .before .before .before .before .before .before .before .make .ensures (s .closure)) (c .before .before .before .before .before .before .before .before .before .before .before .before .before .before .before .before .before .before .save .ensures)
+judged-row-requires c κs =
+    let c₁ = c .before .before .before .before in
+    let c₂ = c₁ .before .before .before .before .before in
+    let c₃ = c₂ .before .before .before .before .before .before .before in
+    let c₄ = c₃ .before .before in
+    let start = c₄ .before .before .before .before .before .before .before in
+    let s = stores (start .args .attributes .now) (start .args .classes .now) (start .args .closure .now) in
+    let change = start .args .change in
+    let r = start .args .scratch .now in
+    judged-there change r s (start .pre) (c₁ .added-by .ensures) (c₃ .row-count .ensures) (c₂ .make .ensures (s .closure)) (c₄ .save .ensures)
 
 undo-requires : tie.Need-undo-requires
-undo-requires c κs = let start = (c .before .before .before .before .before .before .before .before .before .before .before .before .before .before .before .before .before .before .before .before .before .before .before .before .before .before .before .before .before) in let s = stores (start .args .attributes .now) (start .args .classes .now) (start .args .closure .now) in let change = start .args .change in let r = start .args .scratch .now in subst₂ (λ b x. Restorable b (x .attributes) (x .classes)) (sym (c .before .before .before .before .before .before .before .before .before .before .before .before .before .before .before .before .before .before .before .before .before .before .save .ensures)) (sym (c .before .before .before .before .before .before .before .before .before .before .before .before .before .make .ensures (s .closure))) (restorable change r s (start .pre))
+undo-requires c κs =
+    let c₁ = c .before .before .before .before .before .before .before .before .before .before .before .before .before in
+    let c₂ = c₁ .before .before .before .before .before .before .before .before .before in
+    let start = c₂ .before .before .before .before .before .before .before in
+    let s = stores (start .args .attributes .now) (start .args .classes .now) (start .args .closure .now) in
+    let change = start .args .change in
+    let r = start .args .scratch .now in
+    subst₂ (λ b x. Restorable b (x .attributes) (x .classes)) (sym (c₂ .save .ensures)) (sym (c₁ .make .ensures (s .closure))) (restorable change r s
+    (start .pre))
 
 refused-requires : tie.Need-refused-requires
 refused-requires c κs = search needs
@@ -65,11 +94,42 @@ same-length-3 c = search needs
 
 returns : tie.Need-returns
 unfolding zeros
-returns c = let start = (c .before .before .before .before .before .before .before .before .before .before .before .before .before .before .before .before .before .before .before .before .before .before .before .before .before .before .before .before .before .before .before .before .before .before .before) in let s = stores (start .args .attributes .now) (start .args .classes .now) (start .args .closure .now) in let change = start .args .change in let r = start .args .scratch .now in judged-refused change r s (start .pre) (c .before .before .before .before .before .before .before .before .before .before .before .before .before .before .added-by .ensures) (c .before .before .before .before .before .before .before .before .before .before .before .before .before .before .before .before .before .before .before .before .before .before .before .before .before .before .row-count .ensures) (c .before .before .before .before .before .before .before .before .before .before .before .before .before .before .before .before .before .before .before .make .ensures (s .closure)) (c .before .before .before .before .before .before .before .before .before .before .before .before .before .before .before .before .before .before .before .before .before .before .before .before .before .before .before .before .save .ensures) (zeros attributeSet) (c .before .before .before .before .before .before .before .before .before .before .before .before .before .before .before .before .before .before .before .before .before .before .before .demand-before .ensures) _ (c .before .before .before .before .before .before .before .before .before .judged-row .ensures) _ _ (c .before .before .before .before .before .before .before .before .if1 .taken) (c .refused .ensures) (c .before .before .before .before .before .undo .ensures (s .closure) ∙ ap₂ rowsBack (c .before .before .before .before .before .before .before .before .before .before .before .before .before .before .before .before .before .before .before .before .before .before .before .before .before .before .before .before .save .ensures) (c .before .before .before .before .before .before .before .before .before .before .before .before .before .before .before .before .before .before .before .make .ensures (s .closure)) ∙ back change r s (start .pre) (store-bytes (tableFor change) (s .attributes) (s .classes) (λ i. c .before .before .before .before .before .before .before .before .before .before .before .before .before .before .before .before .before .before .before .before .before .before .before .before .before .before .before .before .before .before .before .before .before .slice-known .given i .fits) (λ i. c .before .before .before .before .before .before .before .before .before .before .before .before .before .before .before .before .before .before .before .before .before .before .before .before .before .before .before .before .before .before .before .before .slice-known2 .given i .fits)))
+returns c =
+    let c₁ = c .before .before .before .before .before in
+    let c₂ = c₁ .before .before .before in
+    let c₃ = c₂ .before in
+    let c₄ = c₃ .before .before .before .before .before in
+    let c₅ = c₄ .before .before .before .before .before in
+    let c₆ = c₅ .before .before .before .before in
+    let c₇ = c₆ .before .before .before in
+    let c₈ = c₇ .before .before in
+    let c₉ = c₈ .before .before .before .before in
+    let c₁₀ = c₉ .before in
+    let start = c₁₀ .before .before in
+    let s = stores (start .args .attributes .now) (start .args .classes .now) (start .args .closure .now) in
+    let change = start .args .change in
+    let r = start .args .scratch .now in
+    judged-refused change r s (start .pre) (c₄ .added-by .ensures) (c₇ .row-count .ensures) (c₅ .make .ensures (s .closure)) (c₈ .save .ensures)
+    (zeros attributeSet) (c₆ .demand-before .ensures) _ (c₃ .judged-row .ensures) _ _ (c₂ .if1 .taken) (c .refused .ensures) (c₁ .undo .ensures
+    (s .closure) ∙ ap₂ rowsBack (c₈ .save .ensures) (c₅ .make .ensures (s .closure)) ∙ back change r s (start .pre) (store-bytes (tableFor change)
+    (s .attributes) (s .classes) (λ i. c₁₀ .slice-known .given i .fits) (λ i. c₉ .slice-known2 .given i .fits)))
 
 update-requires : tie.Need-update-requires
 unfolding zeros
-update-requires c κs = let start = (c .before .before .before .before .before .before .before .before .before .before .before .before .before .before .before .before .before .before .before .before .before .before .before .before .before .before .before .before .before) in let s = stores (start .args .attributes .now) (start .args .classes .now) (start .args .closure .now) in let change = start .args .change in let r = start .args .scratch .now in to-update change r s (start .pre) (c .before .before .before .before .before .before .before .before .added-by .ensures) (c .before .before .before .before .before .before .before .before .before .before .before .before .before .before .before .before .before .before .before .before .row-count .ensures) (c .before .before .before .before .before .before .before .before .before .before .before .before .before .make .ensures (s .closure)) (c .before .before .before .before .before .before .before .before .before .before .before .before .before .before .before .before .before .before .before .before .before .before .save .ensures) (zeros attributeSet) (c .before .before .before .before .before .before .before .before .before .before .before .before .before .before .before .before .before .demand-before .ensures) _ (c .before .before .before .judged-row .ensures) (c .before .before .if1 .left)
+update-requires c κs =
+    let c₁ = c .before .before in
+    let c₂ = c₁ .before in
+    let c₃ = c₂ .before .before .before .before .before in
+    let c₄ = c₃ .before .before .before .before .before in
+    let c₅ = c₄ .before .before .before .before in
+    let c₆ = c₅ .before .before .before in
+    let c₇ = c₆ .before .before in
+    let start = c₇ .before .before .before .before .before .before .before in
+    let s = stores (start .args .attributes .now) (start .args .classes .now) (start .args .closure .now) in
+    let change = start .args .change in
+    let r = start .args .scratch .now in
+    to-update change r s (start .pre) (c₃ .added-by .ensures) (c₆ .row-count .ensures) (c₄ .make .ensures (s .closure)) (c₇ .save .ensures)
+    (zeros attributeSet) (c₅ .demand-before .ensures) _ (c₂ .judged-row .ensures) (c₁ .if1 .left)
 
 changed-requires : tie.Need-changed-requires
 changed-requires c κs = search needs
@@ -85,7 +145,21 @@ same-length-6 c = search needs
 
 returns-2 : tie.Need-returns-2
 unfolding zeros
-returns-2 c = let start = (c .before .before .before .before .before .before .before .before .before .before .before .before .before .before .before .before .before .before .before .before .before .before .before .before .before .before .before .before .before .before .before .before .before) in let s = stores (start .args .attributes .now) (start .args .classes .now) (start .args .closure .now) in let change = start .args .change in let r = start .args .scratch .now in judged-done change r s (start .pre) (c .before .before .before .before .before .before .before .before .before .before .before .before .added-by .ensures) (c .before .before .before .before .before .before .before .before .before .before .before .before .before .before .before .before .before .before .before .before .before .before .before .before .row-count .ensures) (c .before .before .before .before .before .before .before .before .before .before .before .before .before .before .before .before .before .make .ensures (s .closure)) (c .before .before .before .before .before .before .before .before .before .before .before .before .before .before .before .before .before .before .before .before .before .before .before .before .before .before .save .ensures) (zeros attributeSet) (c .before .before .before .before .before .before .before .before .before .before .before .before .before .before .before .before .before .before .before .before .before .demand-before .ensures) _ (c .before .before .before .before .before .before .before .judged-row .ensures) (c .before .before .before .before .before .before .if1 .left) _ (c .changed .ensures) (c .before .before .before .update .ensures)
+returns-2 c =
+    let c₁ = c .before .before .before in
+    let c₂ = c₁ .before .before .before in
+    let c₃ = c₂ .before in
+    let c₄ = c₃ .before .before .before .before .before in
+    let c₅ = c₄ .before .before .before .before .before in
+    let c₆ = c₅ .before .before .before .before in
+    let c₇ = c₆ .before .before .before in
+    let c₈ = c₇ .before .before in
+    let start = c₈ .before .before .before .before .before .before .before in
+    let s = stores (start .args .attributes .now) (start .args .classes .now) (start .args .closure .now) in
+    let change = start .args .change in
+    let r = start .args .scratch .now in
+    judged-done change r s (start .pre) (c₄ .added-by .ensures) (c₇ .row-count .ensures) (c₅ .make .ensures (s .closure)) (c₈ .save .ensures)
+    (zeros attributeSet) (c₆ .demand-before .ensures) _ (c₃ .judged-row .ensures) (c₂ .if1 .left) _ (c .changed .ensures) (c₁ .update .ensures)
 
 pub quick-judged-spec : {M : Type 1} → statement M
 quick-judged-spec =

@@ -8,20 +8,14 @@ use Rattle.schema.specs.Numbers.{classLimit, limit}
 use Rattle.schema.specs.Layout.{classWidth, closureLength, rowWidth}
 use Rattle.schema.specs.Store.{Schema, closureAt, table}
 use Rattle.change_read.specs.declared.read.Change.{Change}
-use Rattle.change_rows.specs.Rows.{numberFor, schemaAfter, tableFor}
 use Rattle.change_asked.specs.Asked.{firstAsked}
-use Rattle.prelude.specs.First.{Case, firstOf}
+use Rattle.prelude.specs.First.{firstOf}
 use Rattle.rules.specs.declared.row.Added.the-variants.{Nothing}
-use Rattle.rules.specs.Rules.{rowCases, schemaRules}
 use Rattle.rules.specs.Judge.{AllKept}
 use Rattle.graph.specs.Graph.{closureRow}
-use Rattle.change_model.specs.Model.{addedBy}
+use Rattle.change_model.specs.Model.{changedCases}
 
--- 12 to 29 for the changed row alone, and the first of them
-abbrev pub changedCases : Change → List ℕ → Schema → List Case
-changedCases change r m =
-    rowCases (schemaRules (addedBy change r (m .classes .count))) (schemaAfter change r m) (tableFor change) (numberFor change r m)
-
+-- the first of 12 to 29 that the changed row breaks, or 0
 abbrev pub rowNumber : Change → List ℕ → Schema → ℕ
 rowNumber change r m = firstOf (changedCases change r m)
 
@@ -35,7 +29,7 @@ pub record Sound (r : List ℕ) (m : Schema) (closure : List ℕ) : Type 0 where
   pub fresh : (c : ℕ) → c < classLimit → closureAt closure c ≡ closureRow (m .classes) c
 
 -- besides, neither numbers 5 to 11 nor the rules of the changed row say anything
-pub record Accepted (change : Change) (r : List ℕ) (m : Schema) (closure : List ℕ) : Type 0 where
+pub record Passed (change : Change) (r : List ℕ) (m : Schema) (closure : List ℕ) : Type 0 where
   pub sound : Sound r m closure
   pub asked : firstAsked change r m ≡ 0
   pub passed : rowNumber change r m ≡ 0
