@@ -82,11 +82,14 @@ module _ (change : Change) (r : List ℕ) {m n : Schema} (s : SameRows m n) wher
   unfolding needed classNeeds linkNeeds
   needed-same Attributes k l =
       ap₂ (λ (x y : Bool). x || y)
-      (any-same (s Classes) _ _ (λ j i. ap (λ (row : List ℕ). not (sameRow Attributes k Classes j) && (not (isDefunct row) && names Attributes row k)) (s Classes .rows j i)))
-      (any-same (s Attributes) _ _ (λ j i. ap₂ (λ (back row : List ℕ). not (isDefunct back) && (isBackLink back && isForwardOf back row)) (s Attributes .rows j i)
+      (any-same (s Classes) _ _
+      (λ j i. ap (λ (row : List ℕ). not (sameRow Attributes k Classes j) && (not (isDefunct row) && names Attributes row k)) (s Classes .rows j i)))
+      (any-same (s Attributes) _ _
+      (λ j i. ap₂ (λ (back row : List ℕ). not (isDefunct back) && (isBackLink back && isForwardOf back row)) (s Attributes .rows j i)
       (s Attributes .rows k l)))
   needed-same Classes k l =
-      any-same (s Classes) _ _ (λ j i. ap (λ (row : List ℕ). not (sameRow Classes k Classes j) && (not (isDefunct row) && names Classes row k)) (s Classes .rows j i))
+      any-same (s Classes) _ _
+      (λ j i. ap (λ (row : List ℕ). not (sameRow Classes k Classes j) && (not (isDefunct row) && names Classes row k)) (s Classes .rows j i))
 
   still-same : (x : Change) (k : ℕ) → k < table (tableFor x) m .count → stillNeeded x k m ≡ stillNeeded x k n
   still-same (Add t) k l = refl
@@ -172,4 +175,8 @@ rows-same (Read change) r {m} {n} s = go (ℕ-discrete (changeNumber change r m)
     go (yes z) =
         rw (says-true (says-eq (changeNumber change r m) 0) z, says-true (says-eq (changeNumber change r n) 0) (sym (number-same change r s) ∙ z))
         (after-same change r s (asked-zero change r m z))
-    go (no d) = rw (says-false (says-eq (changeNumber change r m) 0) d, says-false (says-eq (changeNumber change r n) 0) (λ z. d (number-same change r s ∙ z))) s
+    go (no d) = rw (
+      says-false (says-eq (changeNumber change r m) 0) d,
+      says-false (says-eq (changeNumber change r n) 0)
+          (λ z. d (number-same change r s ∙ z)),
+    ) s

@@ -108,7 +108,8 @@ module _ (n k : ℕ) (f : ℕ → List ℕ → List ℕ) (o : List ℕ) (long : 
   unfolding rowWhere
   where-same c now l p = ap (λ (row : List ℕ). cond (holds n k c row) (f c row) row) (row-kept c now l p)
 
-  pub done-more : (c : ℕ) (now r : List ℕ) → c < classLimit → Done n k f o c now → r ≡ splice (closureWidth * c) (rowWhere n k f now c) now → Done n k f o (c + 1) r
+  pub done-more : (c : ℕ) (now r : List ℕ) → c < classLimit → Done n k f o c now → r ≡ splice (closureWidth * c) (rowWhere n k f now c) now
+      → Done n k f o (c + 1) r
   done-more c now r l p q =
       let rows = concatBelow c (rowWhere n k f o) in
       let at : closureWidth * c ≡ 0 + length rows = omega (arith, rows-long c (omega arith)) in

@@ -73,7 +73,8 @@ module _ (change : Change) (r : List ℕ) (s : Stores) (j : Allowed change r s) 
       store-long Classes = new-shape .long .classes
 
       counted : (t : TableId) → countIn t (tableStore t s) ≤ limit t
-      counted Attributes = says-formed (s .attributes) (s .classes) (j .shape .long .attributes) (j .shape .long .classes) .holds (j .shape .formed) .attributes .few
+      counted Attributes =
+          says-formed (s .attributes) (s .classes) (j .shape .long .attributes) (j .shape .long .classes) .holds (j .shape .formed) .attributes .few
       counted Classes = classes-few
 
   pub back : Bytes old → rowsBack (before change r old) (rowsMade change r s) ≡ s

@@ -15,7 +15,8 @@ use Rattle.closure_change.proofs.each.refresh_holding.Statement.{statem
 use Rattle.closure_change.proofs.each.refresh_holding.Tie as tie
 
 abbrev Inv-loop : tie.InvT-loop
-Inv-loop classes n k closure₀ c₀ closure c = (c ≤ classLimit) × (length closure ≡ length closure₀) × Done n k (λ i row. closureRow (tableIn Classes classes) i) closure₀ c closure
+Inv-loop classes n k closure₀ c₀ closure c =
+    (c ≤ classLimit) × (length closure ≡ length closure₀) × Done n k (λ i row. closureRow (tableIn Classes classes) i) closure₀ c closure
 
 abbrev μ-loop : tie.MeasureT-loop
 μ-loop classes n k closure₀ c₀ closure c = classLimit - c

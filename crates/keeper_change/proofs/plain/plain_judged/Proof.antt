@@ -107,8 +107,10 @@ refresh-all-requires c κs =
     let start = c₁ .before .before .before .before .before .before .before .before .before .before .before .before in
     let s = stores (start .args .attributes .now) (start .args .classes .now) (start .args .closure .now) in
     let change = start .args .change in
-    let r = start .args .scratch .now in
-    (subst (λ x. Readable (x .classes)) (sym (c₁ .make .ensures (s .closure))) (made-readable change r s (start .pre .allowed)), closure-long change r s (start .pre .allowed))
+    let r = start .args .scratch .now in (
+      subst (λ x. Readable (x .classes)) (sym (c₁ .make .ensures (s .closure))) (made-readable change r s (start .pre .allowed)),
+      closure-long change r s (start .pre .allowed),
+    )
 
 changed-requires : tie.Need-changed-requires
 changed-requires c κs = search needs
