@@ -11,8 +11,8 @@ ghost use mathlib.Core.Path.{_≡_};
 ghost use Prim.Native.Nat.{_≤_};
 ghost use lib.ListN.{length};
 ghost use Rattle.schema.specs.Store.{stores};
-ghost use Rattle.keeper_c.specs.Calls.{told, answered, detailLength, auditCall, depthCall, outcome, loadCall, plainChangeCall, wrote, writeCall};
-ghost use Rattle.keeper_c.specs.Calls.{quickChangeCall};
+ghost use Rattle.keeper_c.specs.Calls.{told, answered, detailLength, auditCall, depthCall, outcome, loadCall, wrote, writeCall};
+ghost use Rattle.keeper_c.specs.Calls.{plainChangeCall, quickChangeCall};
 
 // Table and place: so many numbers.
 pub const DETAIL: usize = 2;
