@@ -16,7 +16,7 @@ use Rattle.change_read.specs.declared.read.Change.{Change}
 use Rattle.rules.specs.declared.row.Added.the-variants.{Nothing, Class, Entry}
 use Rattle.rules.specs.declared.row.Added.{Added}
 use Rattle.graph.specs.Graph.{mandatoryDiffers}
-use Rattle.rules.specs.Rules.{schemaRules}
+use Rattle.rules.specs.Rules.{rowCases, schemaRules}
 use Rattle.rules.specs.Judge.{brokenCases}
 use Rattle.prelude.specs.First.{Case, _when_, firstOf}
 use Rattle.change_asked.specs.Asked.{askedCases}
@@ -41,6 +41,11 @@ resultCases change r m =
     brokenCases (schemaRules (addedBy change r (m .classes .count))) (schemaAfter change r m)
     ++ ((refusal.mandatoryDiffers when mandatoryDiffers (m .classes) (schemaAfter change r m .classes)) ∷ [])
 
+-- of the quick change: 12 to 29 "for the changed row alone, against all rows", these after the change
+abbrev pub changedCases : Change → List ℕ → Schema → List Case
+changedCases change r m =
+    rowCases (schemaRules (addedBy change r (m .classes .count))) (schemaAfter change r m) (tableFor change) (numberFor change r m)
+
 -- numbers 5 to 30, row for row
 abbrev pub changeCases : Change → List ℕ → Schema → List Case
 changeCases change r m = askedCases change r m ++ resultCases change r m
@@ -48,12 +53,14 @@ changeCases change r m = askedCases change r m ++ resultCases change r m
 unfoldable pub changeNumber : Change → List ℕ → Schema → ℕ
 changeNumber change r m = firstOf (changeCases change r m)
 
--- the answer to what reading a change came to: "4 .. change unreadable; place is the byte offset"; "0 done; table and row changed or added"; "with
--- changes, table and place are 0 on refusal, but for 4"
+-- the answer of a number: "0 done; table and row changed or added"; "with changes, table and place are 0 on refusal, but for 4"
+unfoldable pub answerBy : Change → List ℕ → Schema → ℕ → Answer
+answerBy change r m n = cond (eqb n refusal.done) (changed (tableFor change) (numberFor change r m)) (refused n)
+
+-- the answer to what reading a change came to: "4 .. change unreadable; place is the byte offset", or a number from 5 on
 unfoldable pub answerTo : ChangeRead → List ℕ → Schema → Answer
 answerTo (Bad at) r m = changeAnswer (Bad at)
-answerTo (Read change) r m =
-    cond (eqb (changeNumber change r m) refusal.done) (changed (tableFor change) (numberFor change r m)) (refused (changeNumber change r m))
+answerTo (Read change) r m = answerBy change r m (changeNumber change r m)
 
 -- the rows after it: changed where it is done, else as they were
 unfoldable pub rowsAfter : ChangeRead → List ℕ → Schema → Schema

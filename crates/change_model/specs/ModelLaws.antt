@@ -8,7 +8,7 @@ use Rattle.change_read.specs.declared.read.ChangeRead.the-variants.{Read}
 use Rattle.change_read.specs.declared.read.Change.{Change}
 use Rattle.schema.specs.Store.{Schema}
 use Rattle.schema.specs.Answers.{refused, changed}
-use Rattle.change_model.specs.Model.{answerTo, changeNumber, resultCases}
+use Rattle.change_model.specs.Model.{answerTo, changeNumber, resultCases, answerBy}
 use Rattle.prelude.specs.FirstLaws.{append-first, append-second}
 use Rattle.prelude.specs.First.{firstOf}
 use Rattle.prelude.specs.SaysLaws.{says-eq, says-false, says-true}
@@ -28,11 +28,11 @@ module _ (change : Change) (r : List ℕ) (m : Schema) where
   number-judged z = append-second (askedCases change r m) (resultCases change r m) (omega arith) z
 
   pub answer-refused : ¬ (changeNumber change r m ≡ 0) → answerTo (Read change) r m ≡ refused (changeNumber change r m)
-  unfolding answerTo
+  unfolding answerTo answerBy
   answer-refused d = rw (says-false (says-eq (changeNumber change r m) 0) d)
 
   pub answer-done : changeNumber change r m ≡ 0 → answerTo (Read change) r m ≡ changed (tableFor change) (numberFor change r m)
-  unfolding answerTo
+  unfolding answerTo answerBy
   answer-done z = rw (says-true (says-eq (changeNumber change r m) 0) z)
 
   -- a number from 5 to 11 is asked first

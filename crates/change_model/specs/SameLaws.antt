@@ -27,7 +27,7 @@ use Rattle.tables.specs.SameLaws.{any-same}
 use Rattle.prelude.specs.First.{_when_, firstOf}
 use Rattle.prelude.specs.FirstLaws.{append-cong, rising-nonzero}
 use Rattle.prelude.specs.SaysLaws.{says-eq, says-false, says-true, true-or-false}
-use Rattle.change_model.specs.Model.{addedBy, answerTo, changeNumber, resultCases, rowsAfter}
+use Rattle.change_model.specs.Model.{addedBy, answerTo, changeNumber, resultCases, rowsAfter, answerBy}
 use Rattle.change_model.specs.ModelLaws.{asked-zero, number-asked, number-judged}
 use Rattle.change_asked.specs.Asked.{additionAsked, baseTouched, entryConflict, firstAsked, stateWrong, stillNeeded, targetAsked}
 use Rattle.change_asked.specs.AskedLaws.{asked-absent, asked-addition, asked-target, asked-there}
@@ -82,11 +82,14 @@ module _ (change : Change) (r : List ℕ) {m n : Schema} (s : SameRows m n) wher
   unfolding needed classNeeds linkNeeds
   needed-same Attributes k l =
       ap₂ (λ (x y : Bool). x || y)
-      (any-same (s Classes) _ _ (λ j i. ap (λ (row : List ℕ). not (sameRow Attributes k Classes j) && (not (isDefunct row) && names Attributes row k)) (s Classes .rows j i)))
-      (any-same (s Attributes) _ _ (λ j i. ap₂ (λ (back row : List ℕ). not (isDefunct back) && (isBackLink back && isForwardOf back row)) (s Attributes .rows j i)
+      (any-same (s Classes) _ _
+      (λ j i. ap (λ (row : List ℕ). not (sameRow Attributes k Classes j) && (not (isDefunct row) && names Attributes row k)) (s Classes .rows j i)))
+      (any-same (s Attributes) _ _
+      (λ j i. ap₂ (λ (back row : List ℕ). not (isDefunct back) && (isBackLink back && isForwardOf back row)) (s Attributes .rows j i)
       (s Attributes .rows k l)))
   needed-same Classes k l =
-      any-same (s Classes) _ _ (λ j i. ap (λ (row : List ℕ). not (sameRow Classes k Classes j) && (not (isDefunct row) && names Classes row k)) (s Classes .rows j i))
+      any-same (s Classes) _ _
+      (λ j i. ap (λ (row : List ℕ). not (sameRow Classes k Classes j) && (not (isDefunct row) && names Classes row k)) (s Classes .rows j i))
 
   still-same : (x : Change) (k : ℕ) → k < table (tableFor x) m .count → stillNeeded x k m ≡ stillNeeded x k n
   still-same (Add t) k l = refl
@@ -150,12 +153,12 @@ module _ (change : Change) (r : List ℕ) {m n : Schema} (s : SameRows m n) wher
       go (yes z) = number-judged change r m z ∙ result-same z ∙ sym (number-judged change r n (sym asked-same ∙ z))
       go (no d) = number-asked change r m d ∙ asked-same ∙ sym (number-asked change r n (λ z. d (asked-same ∙ z)))
 
-  row-number-same : numberFor change r m ≡ numberFor change r n
+  pub row-number-same : numberFor change r m ≡ numberFor change r n
   unfolding numberFor
   row-number-same = ap (λ (c : ℕ). cond (isAddition change) c (targetOf r)) (s of .count)
 
   read-same : answerTo (Read change) r m ≡ answerTo (Read change) r n
-  unfolding answerTo
+  unfolding answerTo answerBy
   read-same = ap₂ (λ (x k : ℕ). cond (eqb x refusal.done) (changed of k) (refused x)) number-same row-number-same
 
 -- the answer, and the rows after it
@@ -172,4 +175,8 @@ rows-same (Read change) r {m} {n} s = go (ℕ-discrete (changeNumber change r m)
     go (yes z) =
         rw (says-true (says-eq (changeNumber change r m) 0) z, says-true (says-eq (changeNumber change r n) 0) (sym (number-same change r s) ∙ z))
         (after-same change r s (asked-zero change r m z))
-    go (no d) = rw (says-false (says-eq (changeNumber change r m) 0) d, says-false (says-eq (changeNumber change r n) 0) (λ z. d (number-same change r s ∙ z))) s
+    go (no d) = rw (
+      says-false (says-eq (changeNumber change r m) 0) d,
+      says-false (says-eq (changeNumber change r n) 0)
+          (λ z. d (number-same change r s ∙ z)),
+    ) s

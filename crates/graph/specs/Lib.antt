@@ -12,6 +12,7 @@ pub mod Depth
 pub mod DepthLaws
 pub mod Changes
 pub mod ClosureLaws
+pub mod UnreachedLaws
 pub mod FreshLaws
 pub mod SameLaws
 pub mod FrontLaws

@@ -1,3 +1,5 @@
 -- What the proofs of this crate share.
 pub mod Saving
 pub mod Whole
+pub mod Making
+pub mod Alone

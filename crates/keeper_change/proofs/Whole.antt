@@ -1,46 +1,40 @@
 -- A plain change on its way: what the stores and the change give to each function that it calls, and how it ends.
 use lib.ListN.{length}
 use native.Mathlib.Omega.{arith}
-use Prim.Native.Nat.{_≤_, ℕ}
+use Prim.Native.Nat.{ℕ}
 use mathlib.Core.List.{List}
 use mathlib.Core.Path.{_∙_, _≡_, ap₂, refl, sym, ap}
-use mathlib.Core.Bool.{cond}
-use Rattle.schema.specs.declared.number.TableId.the-variants.{Attributes, Classes}
+use Rattle.schema.specs.declared.number.TableId.the-variants.{Classes}
 use Rattle.schema.specs.declared.answer.Answer.{Answer}
-use Rattle.schema.specs.Store.{Schema, Stores, countIn, result, schemaOf, table, tableStore, schemaIn, stores, storeOf, tableIn}
-use Rattle.schema.specs.declared.number.TableId.{TableId}
-use Rattle.schema.specs.Numbers.{classLimit, limit, numberOf, tableOf}
-use Rattle.schema.specs.Layout.{classWidth, closureLength, storeLength}
-use Rattle.schema.specs.NumbersLaws.{id-number}
+use Rattle.schema.specs.Store.{Schema, Stores, result, schemaOf, tableStore, schemaIn, stores, tableIn}
+use Rattle.schema.specs.Numbers.{numberOf, tableOf}
+use Rattle.schema.specs.Layout.{classWidth}
 use Rattle.schema.specs.Answers.{refused, changed, passed, unreadable}
-use Rattle.schema.specs.StoreLaws.{table-row-length}
 use Rattle.change_read.specs.declared.read.ChangeRead.the-variants.{Read, Bad}
 use Rattle.change_read.specs.declared.read.Change.{Change}
-use Rattle.change_read.specs.Carried.{targetOf}
 use Rattle.change_read.specs.ChangeLaws.{change-length}
 use Rattle.change_read.specs.Reading.{Came, changeOut, readChange}
 use Rattle.change_read.specs.declared.read.ChangeRead.{ChangeRead}
-use Rattle.change_rows.specs.Stores.{Applicable, rowChanged}
-use Rattle.change_rows.specs.Rows.{isAddition, numberFor, tableFor}
-use Rattle.change_rows.specs.RowsLaws.{narrow-row}
+use Rattle.change_rows.specs.Stores.{rowChanged}
+use Rattle.change_rows.specs.Rows.{numberFor, tableFor}
 use Rattle.prelude.specs.Part.{Bytes, splice}
-use Rattle.prelude.specs.PartLaws.{padded-length}
 use Rattle.keeper_change.specs.Plain.{InOrderFor, Judged, plainMade, plainRead, plainChange}
-use Rattle.keeper_change.specs.Made.{Restorable, rowsBack, rowsMade, before, refreshed}
-use Rattle.keeper_change.specs.PlainLaws.{plain-done, plain-kept, taken-back, whole-number}
+use Rattle.keeper_change.specs.Made.{rowsMade, refreshed, Allowed}
+use Rattle.keeper_change.specs.PlainLaws.{plain-done, plain-kept, whole-number}
 use Rattle.keeper_change.specs.Judged.{judgedWhole}
-use Rattle.keeper_change.specs.MadeLaws.{made-applicable, made-shape, row-table, row-within}
+use Rattle.keeper_change.specs.MadeLaws.{row-table}
 use Rattle.keeper_change.specs.PlainLaws.{plain-order}
 use Rattle.keeper.specs.Answering.{InShape, firstAnswer}
 use Rattle.keeper.specs.OrderLaws.{order-fresh, order-shape, order-onward}
 use Rattle.keeper.specs.Order.{orderAnswers}
-use Rattle.graph.specs.Graph.{Readable, closureRows}
+use Rattle.graph.specs.Graph.{closureRows}
 use Rattle.tables.specs.Shaped.{Shaped}
 use Rattle.change_model.specs.Model.{addedBy, changeNumber, answerTo}
 use Rattle.change_model.specs.ModelLaws.{answer-done, answer-refused, number-asked, number-judged}
 use Rattle.change_asked.specs.Asked.{firstAsked}
-use Rattle.tables_shape.specs.ShapeLaws.{formed-readable, says-formed, formed-shaped}
+use Rattle.tables_shape.specs.ShapeLaws.{formed-shaped}
 use Rattle.rules.specs.declared.row.Added.{Added}
+use Rattle.keeper_change.proofs.Making.{number-is}
 
 module _ (change : Change) (r : List ℕ) (s : Stores) (h : InOrderFor change r s) where
   pub in-shape : InShape s
@@ -49,7 +43,7 @@ module _ (change : Change) (r : List ℕ) (s : Stores) (h : InOrderFor change r 
   pub plain-asked : Shaped (s .attributes) (s .classes) × (length r ≡ classWidth)
   plain-asked = (
     formed-shaped (s .attributes) (s .classes) (in-shape .long .attributes) (in-shape .long .classes) (in-shape .formed),
-    change-length (h .text) change r (h .bytes) (h .reads),
+    change-length (h .read .text) change r (h .read .bytes) (h .read .reads),
   )
 
   -- refused by 5 to 11
@@ -60,67 +54,26 @@ module _ (change : Change) (r : List ℕ) (s : Stores) (h : InOrderFor change r 
       plain-kept s (sym (h .order)) refl (Read change) r a (q ∙ ap refused (sym c) ∙ sym (answer-refused change r m (λ z. d (sym c ∙ z))))
       (λ z. d (ap (λ (x : Answer). x .number) (sym q) ∙ z))
 
-module _ (change : Change) (r : List ℕ) (s : Stores) (j : Judged change r s) where
-  abbrev h : InOrderFor change r s
-  h = j .stores
+  -- or let pass
+  pub to-judged : firstAsked change r (schemaOf s) ≡ 0 → Judged change r s
+  to-judged z = record { allowed = record { read = h .read; shape = in-shape; asked = z }; order = h .order }
 
+module _ (change : Change) (r : List ℕ) (s : Stores) (j : Judged change r s) where
   abbrev m : Schema
   m = schemaOf s
 
   abbrev old : List ℕ
   old = tableStore (tableFor change) s
 
-  shape : InShape s
-  shape = in-shape change r s h
-
-  pub applicable : Applicable change r old
-  applicable = made-applicable change (h .text) r s (h .bytes) (h .reads) shape (j .asked)
-
-  new-shape : InShape (rowsMade change r s)
-  new-shape = made-shape change (h .text) r s (h .bytes) (h .reads) shape (j .asked)
-
-  pub made-shaped : Shaped (rowsMade change r s .attributes) (rowsMade change r s .classes)
-  made-shaped = formed-shaped _ _ (new-shape .long .attributes) (new-shape .long .classes) (new-shape .formed)
-
-  pub made-readable : Readable (rowsMade change r s .classes)
-  made-readable = formed-readable _ _ (new-shape .long .attributes) (new-shape .long .classes) (new-shape .formed)
-
-  pub classes-few : m .classes .count ≤ classLimit
-  classes-few = says-formed (s .attributes) (s .classes) (shape .long .attributes) (shape .long .classes) .holds (shape .formed) .classes .few
-
-  pub closure-long : closureLength ≤ length (s .closure)
-  closure-long = shape .long .closure
-
-  -- what was saved can be put back
-  pub restorable : Restorable (before change r old) (rowsMade change r s .attributes) (rowsMade change r s .classes)
-  restorable =
-      let t = row-table change r old in
-      record {
-        long = rw t (store-long (tableFor change));
-        within = rw t (row-within change r old applicable);
-        few = rw t (counted (tableFor change));
-        wide = padded-length classWidth _ (omega (
-          arith,
-          narrow-row (tableFor change),
-          table-row-length (tableFor change) old
-              (numberOf (rowChanged change r old)) (applicable .long) (row-within change r old applicable),
-        ));
-      }
-    where
-      store-long : (t : TableId) → storeLength t ≤ length (tableStore t (rowsMade change r s))
-      store-long Attributes = new-shape .long .attributes
-      store-long Classes = new-shape .long .classes
-
-      counted : (t : TableId) → countIn t (tableStore t s) ≤ limit t
-      counted Attributes = says-formed (s .attributes) (s .classes) (shape .long .attributes) (shape .long .classes) .holds (shape .formed) .attributes .few
-      counted Classes = classes-few
+  abbrev h : Allowed change r s
+  h = j .allowed
 
   -- the number found is the model's
   pub number-found : (n : ℕ) → n ≡ judgedWhole (addedBy change r (m .classes .count)) (schemaOf (rowsMade change r s)) (s .closure) (m .classes .count)
       → n ≡ changeNumber change r m
   number-found n e =
-      e ∙ whole-number change (h .text) r s (h .bytes) (h .reads) shape (j .asked) (order-fresh s (sym (h .order)) refl)
-      ∙ sym (number-judged change r m (j .asked))
+      e ∙ whole-number change (h .read .text) r s (h .read .bytes) (h .read .reads) (h .shape) (h .asked) (order-fresh s (sym (j .order)) refl)
+      ∙ sym (number-judged change r m (h .asked))
 
   -- it was judged in the stores as made
   pub judged-at : {a c : List ℕ} {n : ℕ} {added : Added} → stores a c (s .closure) ≡ rowsMade change r s → n ≡ m .classes .count → added ≡ addedBy change r n
@@ -130,33 +83,21 @@ module _ (change : Change) (r : List ℕ) (s : Stores) (j : Judged change r s) w
       ap₂ (λ (x : Added) (y : Stores). judgedWhole x (schemaOf y) (s .closure) n) q made
       ∙ ap (λ (x : ℕ). judgedWhole (addedBy change r x) (schemaOf (rowsMade change r s)) (s .closure) x) e
 
-  pub back : Bytes old → rowsBack (before change r old) (rowsMade change r s) ≡ s
-  back = taken-back change (h .text) r s (h .bytes) (h .reads) shape (j .asked)
-
   -- refused, and taken back
   pub judged-refused : (n : ℕ) (a : Answer) (left : Stores) → n ≡ changeNumber change r m → ¬ (n ≡ 0) → a ≡ refused n → left ≡ s
       → result a left ≡ plainRead (Read change) r s
   judged-refused n a left e d q l =
       ap (result a) l
-      ∙ plain-kept s (sym (h .order)) refl (Read change) r a (q ∙ ap refused e ∙ sym (answer-refused change r m (λ z. d (e ∙ z))))
+      ∙ plain-kept s (sym (j .order)) refl (Read change) r a (q ∙ ap refused e ∙ sym (answer-refused change r m (λ z. d (e ∙ z))))
       (λ z. d (ap (λ (x : Answer). x .number) (sym q) ∙ z))
-
-  -- the row's number, by the store and by the model
-  number-is : numberOf (rowChanged change r old) ≡ numberFor change r m
-  unfolding numberFor
-  number-is = id-number (tableFor change) _ ∙ ap (λ (n : ℕ). cond (isAddition change) n (targetOf r)) (count (tableFor change))
-    where
-      count : (t : TableId) → countIn t (tableStore t s) ≡ table t m .count
-      count Attributes = refl
-      count Classes = refl
 
   -- done
   pub judged-done : (n : ℕ) (a : Answer) (left : Stores) → n ≡ changeNumber change r m → n ≡ 0
       → a ≡ changed (tableOf (rowChanged change r old)) (numberOf (rowChanged change r old)) → left ≡ refreshed (rowsMade change r s)
       → result a left ≡ plainRead (Read change) r s
   judged-done n a left e z q l =
-      let w : a ≡ changed (tableFor change) (numberFor change r m) = q ∙ ap₂ changed (row-table change r old) number-is in
-      plain-done s (sym (h .order)) refl (Read change) r a left (w ∙ sym (answer-done change r m (sym e ∙ z))) (ap (λ (x : Answer). x .number) w)
+      let w : a ≡ changed (tableFor change) (numberFor change r m) = q ∙ ap₂ changed (row-table change r old) (number-is change r s h) in
+      plain-done s (sym (j .order)) refl (Read change) r a left (w ∙ sym (answer-done change r m (sym e ∙ z))) (ap (λ (x : Answer). x .number) w)
       (l ∙ (unfold plainMade in refl))
 
 -- the closure was worked out from the rows as made
@@ -164,10 +105,6 @@ pub refreshed-made : (s : Stores) {a c k : List ℕ} {n : Stores} → stores a c
     → stores a c k ≡ refreshed n
 unfolding refreshed
 refreshed-made s {a} {c} e q = ap (stores a c) q ∙ ap refreshed e
-
-pub store-bytes : (t : TableId) (a c : List ℕ) → Bytes a → Bytes c → Bytes (storeOf t a c)
-store-bytes Attributes a c p q = p
-store-bytes Classes a c p q = q
 
 -- ---- the whole call
 
@@ -189,9 +126,7 @@ module _ (x : List ℕ) (s : Stores) {o : Answer} (is : o ≡ firstAnswer (order
     module _ (change : Change) (e : read ≡ Read change) where
       pub change-in-order : Bytes x → InOrderFor change r s
       change-in-order b = record {
-        text = x;
-        bytes = b;
-        reads = ap₂ changeOut (sym (came .answer) ∙ e) (sym (came .row));
+        read = record { text = x; bytes = b; reads = ap₂ changeOut (sym (came .answer) ∙ e) (sym (came .row)) };
         order = order-onward s is z passed;
       }
 

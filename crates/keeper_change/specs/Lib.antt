@@ -5,3 +5,4 @@ pub mod Judged
 pub mod Plain
 pub mod PlainLaws
 pub mod DoneLaws
+pub mod Quick

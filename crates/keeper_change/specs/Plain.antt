@@ -14,7 +14,7 @@ use Rattle.schema.specs.Answers.{passed}
 use Rattle.change_model.specs.Model.{answerTo}
 use Rattle.keeper.specs.Answering.{firstAnswer}
 use Rattle.keeper.specs.Order.{orderAnswers}
-use Rattle.keeper_change.specs.Made.{rowsMade, refreshed}
+use Rattle.keeper_change.specs.Made.{Allowed, WasRead, rowsMade, refreshed}
 use Rattle.prelude.specs.Part.{Bytes}
 use Rattle.change_asked.specs.Asked.{firstAsked}
 use Rattle.schema.specs.Refusals as refusal
@@ -40,12 +40,10 @@ plainChange x s = plainRead (readChange x .answer) (readChange x .row) s
 
 -- a change that was read from bytes, and stores in order
 pub record InOrderFor (change : Change) (r : List ℕ) (s : Stores) : Type 0 where
-  pub text : List ℕ
-  pub bytes : Bytes text
-  pub reads : readChange text ≡ changeOut (Read change) r
+  pub read : WasRead change r
   pub order : firstAnswer (orderAnswers s) passed ≡ passed
 
 -- and that numbers 5 to 11 let it pass
 pub record Judged (change : Change) (r : List ℕ) (s : Stores) : Type 0 where
-  pub stores : InOrderFor change r s
-  pub asked : firstAsked change r (schemaOf s) ≡ refusal.done
+  pub allowed : Allowed change r s
+  pub order : firstAnswer (orderAnswers s) passed ≡ passed

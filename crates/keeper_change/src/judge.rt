@@ -1,13 +1,16 @@
-// What a change adds that a rule binds by itself, and the judgement of the whole result.
+// What a change adds that a rule binds by itself, and the judgements of a result: of all rows, and of the changed one.
 use change_read::carried::entry_of;
 use change_read::carried::list_of;
 use change_read::carried::target_of;
 use change_read::read::Change;
 use change_rows::list::list_table;
+use closure_change::after::demand_changes;
 use graph::demand::demands_differ;
 use rules::judge::judge;
 use rules::row::Added;
+use rules::row::first_broken;
 use schema::number::ClassNumber;
+use schema::number::RowId;
 use schema::number::TableId;
 use schema::refusal::DONE;
 use schema::refusal::MANDATORY_DIFFERS;
@@ -15,12 +18,12 @@ ghost use mathlib.Core.List.{List};
 ghost use mathlib.Core.Path.{_≡_};
 ghost use Prim.Native.Nat.{_≤_};
 ghost use lib.ListN.{length};
-ghost use Rattle.schema.specs.Numbers.{classLimit};
+ghost use Rattle.schema.specs.Numbers.{classLimit, numberOf, tableOf};
 ghost use Rattle.schema.specs.Layout.{classWidth, closureLength};
 ghost use Rattle.schema.specs.Store.{schemaIn};
 ghost use Rattle.tables.specs.Shaped.{Shaped};
 ghost use Rattle.change_model.specs.Model.{addedBy};
-ghost use Rattle.keeper_change.specs.Judged.{judgedWhole};
+ghost use Rattle.keeper_change.specs.Judged.{RowThere, judgedRow, judgedWhole};
 
 // What a change adds, to a schema of n classes.
 pub fn added_by(change: Change, scratch: &[u8], n: usize) -> Added
@@ -62,6 +65,31 @@ pub fn judged_whole<'a>(
         return number;
     }
     if demands_differ(classes, closure, n) {
+        return MANDATORY_DIFFERS;
+    }
+    DONE
+}
+
+// The first of 12 to 29 that the changed row breaks, 30 where its class would demand other attributes than before, or 0.
+pub fn judged_row<'a>(
+    added: Added,
+    change: Change,
+    scratch: &[u8],
+    attributes: &'a [u8],
+    classes: &'a [u8],
+    before: &[u8],
+    closure: &[u8],
+    id: RowId,
+) -> u8
+    requires { ⌜ RowThere added change (now scratch) (now attributes) (now classes) (now closure) id ⌝ }
+    ensures { λ r. ⌜ r ≡ judgedRow added change (now (scratch .entry)) (schemaIn (now (attributes .entry)) (now (classes .entry))) (tableOf id) (numberOf id)
+        (now (before .entry)) (now (closure .entry)) ⌝ }
+{
+    let broken = first_broken(added, attributes, classes, id);
+    if broken != DONE {
+        return broken;
+    }
+    if demand_changes(change, scratch, classes, before, closure) {
         return MANDATORY_DIFFERS;
     }
     DONE

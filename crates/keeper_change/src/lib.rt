@@ -2,4 +2,5 @@
 // a definition in specs/.
 pub mod judge;
 pub mod plain;
+pub mod quick;
 pub mod rows;

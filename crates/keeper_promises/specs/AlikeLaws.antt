@@ -3,29 +3,30 @@
 use mathlib.Core.Bool.{Bool, cond, false, not}
 use mathlib.Core.List.{List, [], _++_, _∷_}
 use mathlib.Core.Logic.{⊎-elim}
-use mathlib.Core.Path.{_≡_, ap, ap₂, refl, sym, _∙_}
+use mathlib.Core.Path.{_∙_, _≡_, ap, ap₂, refl, sym}
 use Prim.Native.Nat.{_<_, ℕ}
 use native.Mathlib.Omega.{arith}
 use lib.Dec.{eqb, ltb}
 use lib.ListN.{length}
-use Rattle.prelude.specs.Part.{splice}
+use Rattle.prelude.specs.Part.{part, splice}
 use Rattle.prelude.specs.SaysLaws.{says-false, says-lt, says-split, says-test}
+use Rattle.schema.specs.Answers.{done, passed, refused, shortOutput}
+use Rattle.schema.specs.Layout.{storeLength}
+use Rattle.schema.specs.Store.{Stores, anyShort, schemaOf}
 use Rattle.schema.specs.declared.answer.Answer.{Answer}
 use Rattle.schema.specs.declared.number.TableId.the-variants.{Attributes, Classes}
-use Rattle.schema.specs.Answers.{done, passed, refused, shortOutput}
-use Rattle.schema.specs.Store.{Stores, anyShort, schemaOf}
 use Rattle.tables.specs.Same.{SameRows}
 use Rattle.tables.specs.SameLaws.{store-same}
 use Rattle.graph.specs.Depth.{depthAnswer, depthOf}
+use Rattle.graph.specs.FrontLaws.{fresh-front}
 use Rattle.graph.specs.Graph.{isFresh}
 use Rattle.graph.specs.SameLaws.{depth-same, fresh-same}
-use Rattle.graph.specs.FrontLaws.{fresh-front}
-use Rattle.sheet_write.specs.SameLaws.{sheet-same}
-use Rattle.rules.specs.declared.row.Added.the-variants.{Nothing}
 use Rattle.rules.specs.SameLaws.{judged-same}
+use Rattle.rules.specs.declared.row.Added.the-variants.{Nothing}
 use Rattle.tables_shape.specs.FrontLaws.{formed-front}
-use Rattle.tables_shape.specs.Shape.{storesFormed}
+use Rattle.tables_shape.specs.Shape.{StoresFormed, storesFormed}
 use Rattle.tables_shape.specs.ShapeLaws.{says-formed}
+use Rattle.sheet_write.specs.SameLaws.{sheet-same}
 use Rattle.keeper.specs.Answering.{InShape, answerIf, firstAnswer, refusedIf, shapeAnswers}
 use Rattle.keeper.specs.AnsweringLaws.{append-passed, append-refused, broken-stores, not-short, passed-shape, tested-holds}
 use Rattle.keeper.specs.Audit.{audit}
@@ -41,6 +42,16 @@ two s more last e f =
     let b : refused refusal.brokenShape ≡ firstAnswer (shapeAnswers s) passed = broken-stores s e f in
     append-refused (shapeAnswers s) more passed last refl (λ z. (let q : _≡_ {A = ℕ} 2 0 = ap (λ (x : Answer). x .number) b ∙ z in omega arith)) ∙ sym b
 
+-- stores in shape hold the same rows as others whose tables begin with the same bytes
+module _ (s t : Stores) (i : InShape s) (a : part 0 (storeLength Attributes) (s .attributes) ≡ part 0 (storeLength Attributes) (t .attributes))
+    (c : part 0 (storeLength Classes) (s .classes) ≡ part 0 (storeLength Classes) (t .classes)) where
+  shape : StoresFormed (s .attributes) (s .classes)
+  shape = says-formed (s .attributes) (s .classes) (i .long .attributes) (i .long .classes) .holds (i .formed)
+
+  pub front-rows : SameRows (schemaOf s) (schemaOf t)
+  front-rows Attributes = store-same Attributes (s .attributes) (t .attributes) a (shape .attributes .few)
+  front-rows Classes = store-same Classes (s .classes) (t .classes) c (shape .classes .few)
+
 module _ (s t : Stores) (h : Alike s t) where
   same-formed : storesFormed (s .attributes) (s .classes) ≡ storesFormed (t .attributes) (t .classes)
   same-formed = formed-front (s .attributes) (t .attributes) (s .classes) (t .classes) (h .attributes) (h .classes)
@@ -55,12 +66,7 @@ module _ (s t : Stores) (h : Alike s t) where
   -- and then they hold the same rows
   module _ (i : InShape s) where
     pub same-rows : SameRows (schemaOf s) (schemaOf t)
-    same-rows Attributes =
-        store-same Attributes (s .attributes) (t .attributes) (h .attributes)
-        (says-formed (s .attributes) (s .classes) (h .left .attributes) (h .left .classes) .holds (i .formed) .attributes .few)
-    same-rows Classes =
-        store-same Classes (s .classes) (t .classes) (h .classes)
-        (says-formed (s .attributes) (s .classes) (h .left .attributes) (h .left .classes) .holds (i .formed) .classes .few)
+    same-rows = front-rows s t i (h .attributes) (h .classes)
 
     pub same-fresh : isFresh (schemaOf s .classes) (s .closure) ≡ isFresh (schemaOf t .classes) (t .closure)
     same-fresh = fresh-same (same-rows Classes) (s .closure) ∙ fresh-front (s .closure) (t .closure) (h .closure) (schemaOf t .classes)

@@ -1,10 +1,19 @@
--- What the calls promise as a whole, stated for a reader (Promises), and the proofs.
+-- What the calls promise as a whole, stated for a reader (Promises, Demand3), and the proofs.
 pub mod PlainFrontLaws
 pub mod PlainLaws
 pub mod ReadingLaws
 pub mod Pieces
 pub mod PiecesLaws
 pub mod Promises
+pub mod Demand3
+pub mod Demand3Laws
+pub mod QuickLaws
+pub mod QuickFrontLaws
+pub mod QuickAlikeLaws
+pub mod AgreeLaws
+pub mod AfterLaws
+pub mod AloneLaws
+pub mod StepLaws
 pub mod PromisesLaws
 pub mod OrderLaws
 pub mod LoadLaws

@@ -151,8 +151,8 @@ refreshed-bytes s b = record { attributes = b .attributes; classes = b .classes 
 
 -- ---- the call
 
-past-refl : (s : Stores) → SamePast s s
-past-refl s = record { attributes = refl; classes = refl; closure = refl }
+pub past-reflexive : (s : Stores) → SamePast s s
+past-reflexive s = record { attributes = refl; classes = refl; closure = refl }
 
 past-trans : (a b c : Stores) → SamePast a b → SamePast b c → SamePast a c
 past-trans a b c p q = record {
@@ -182,7 +182,7 @@ module _ (x : List ℕ) (bytes : Bytes x) where
   plain-past s = go (ℕ-discrete (plainChange x s .answer .number) 0)
     where
       go : Dec (plainChange x s .answer .number ≡ 0) → SamePast (plainChange x s .left) s
-      go (no d) = subst (λ (w : Stores). SamePast w s) (sym (plain-kept x s d)) (past-refl s)
+      go (no d) = subst (λ (w : Stores). SamePast w s) (sym (plain-kept x s d)) (past-reflexive s)
       go (yes z) =
           let h = plain-zero x s .0 z .1 in
           let k = made s z (h .change) (h .carried) (h .reads) in

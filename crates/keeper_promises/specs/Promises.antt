@@ -1,6 +1,6 @@
--- What the calls promise, demand by demand, as types alone. The proofs stand in the other files: `demand1` and `demand2` (PromisesLaws) are members
--- of the two records. `load`, `audit`, `depth`, `write` and `plainChange` are the definitions that the contracts of the calls equate with answer and
--- final bytes, for every input.
+-- What the calls promise, demand by demand, as types alone; demand 3 has a file of its own (Demand3). The proofs stand in the other files: `demand1` and
+-- `demand2` (PromisesLaws) are members of the two records. `load`, `audit`, `depth`, `write`, `plainChange` and `quickChange` are the definitions that the
+-- contracts of the calls equate with answer and final bytes, for every input.
 use mathlib.Core.Bool.{false}
 use mathlib.Core.List.{List}
 use mathlib.Core.Logic.{_⊎_, _↔_}
@@ -44,6 +44,7 @@ use Rattle.change_model.specs.Conditions.{Condition, DemandDiffers}
 use Rattle.change_model.specs.Model.{addedBy, rowsAfter}
 use Rattle.change_rows.specs.Rows.{isAddition, numberFor, schemaAfter, tableFor}
 use Rattle.keeper_change.specs.Plain.{plainChange}
+use Rattle.keeper_change.specs.Quick.{quickChange}
 use Rattle.change_read.specs.declared.read.ChangeRead.the-variants as changes
 use Rattle.schema.specs.Refusals as refusal
 
@@ -133,12 +134,17 @@ pub record Demand1 : Type 0 where
   pub write-alike : (s t : Stores) → Alike s t → (out : List ℕ) → write s out ≡ write t out
   -- "A refused change alters no byte of any lent store"
   pub plain-kept : (x : List ℕ) (s : Stores) → ¬ (plainChange x s .answer .number ≡ 0) → plainChange x s .left ≡ s
+  pub quick-kept : (x : List ℕ) (s : Stores) → ¬ (quickChange x s .answer .number ≡ 0) → quickChange x s .left ≡ s
   -- "bytes past [the lengths] are never touched", nor looked at
   pub plain-past : (x : List ℕ) (s : Stores) → Bytes x → SamePast (plainChange x s .left) s
+  pub quick-past : (x : List ℕ) (s : Stores) → Bytes x → SamePast (quickChange x s .left) s
   pub plain-alike : (x : List ℕ) (s t : Stores) → Bytes x → Alike s t
       → (plainChange x s .answer ≡ plainChange x t .answer) × Alike (plainChange x s .left) (plainChange x t .left)
+  pub quick-alike : (x : List ℕ) (s t : Stores) → Bytes x → Alike s t
+      → (quickChange x s .answer ≡ quickChange x t .answer) × Alike (quickChange x s .left) (quickChange x t .left)
   -- stores of bytes stay such
   pub plain-bytes : (x : List ℕ) (s : Stores) → Bytes x → OfBytes s → OfBytes (plainChange x s .left)
+  pub quick-bytes : (x : List ℕ) (s : Stores) → Bytes x → OfBytes s → OfBytes (quickChange x s .left)
   -- "Refused .. writes .. alter nothing"
   pub write-kept : (s : Stores) (out : List ℕ) → ¬ (write s out .answer .number ≡ 0) → write s out .output ≡ out
 
@@ -198,6 +204,11 @@ pub record Demand2 : Type 0 where
       → Condition change r (schemaOf s) (plainChange x s .answer .number) × (plainChange x s .answer ≡ refused (plainChange x s .answer .number))
   pub plain-least : (x : List ℕ) (s : Stores) → InOrder s → (change : Change) (r : List ℕ) → readChange x ≡ changeOut (changes.Read change) r
       → (n : ℕ) → Condition change r (schemaOf s) n → plainChange x s .answer .number ≤ n
+  -- quick change, on any stores, in order or not: 1, 2, and 4 with its place
+  pub quick-one : (x : List ℕ) (s : Stores) → SomeShort s → quickChange x s ≡ result (refused refusal.shortStore) s
+  pub quick-two : (x : List ℕ) (s : Stores) → LongEnough s → ¬ Shape s → quickChange x s ≡ result (refused refusal.brokenShape) s
+  pub quick-unreadable : (x : List ℕ) (s : Stores) → LongEnough s → Shape s → (at : ℕ) → readChange x .answer ≡ changes.Bad at
+      → quickChange x s ≡ result (changeAnswer (changes.Bad at)) s
   -- audit: 0 exactly if the stores are in order, and then no table and no place is named
   pub audit-zero : (s : Stores) → (audit s .number ≡ 0) ↔ InOrder s
   pub audit-done : (s : Stores) → InOrder s → audit s ≡ passed

@@ -1,12 +1,18 @@
--- The promises, kept.
+-- The promises, kept: each demand, with no assumption left.
+use Rattle.keeper_promises.specs.Demand3.{Demand3}
+use Rattle.keeper_promises.specs.Demand3Laws.{agreement}
 use Rattle.keeper_promises.specs.Promises.{Demand1, Demand2}
 use Rattle.keeper_promises.specs.AlikeLaws as alike
+use Rattle.keeper_promises.specs.AloneLaws as apart
 use Rattle.keeper_promises.specs.CallLaws as calls
 use Rattle.keeper_promises.specs.FrontLaws as front
 use Rattle.keeper_promises.specs.LoadLaws as loads
 use Rattle.keeper_promises.specs.OrderLaws as order
 use Rattle.keeper_promises.specs.PlainFrontLaws as plainly
 use Rattle.keeper_promises.specs.PlainLaws as plain
+use Rattle.keeper_promises.specs.QuickAlikeLaws as both
+use Rattle.keeper_promises.specs.QuickFrontLaws as quickly
+use Rattle.keeper_promises.specs.QuickLaws as quick
 use Rattle.keeper_promises.specs.ReadingLaws as reading
 use Rattle.keeper_promises.specs.RoundTripLaws as trips
 
@@ -20,9 +26,13 @@ demand1 = record {
   depth-alike = alike.depth-alike;
   write-alike = alike.write-alike;
   plain-kept = plain.plain-kept;
+  quick-kept = quick.quick-kept;
   plain-past = λ x s bytes. plainly.plain-past x bytes s;
+  quick-past = λ x s bytes. quickly.quick-past x bytes s;
   plain-alike = λ x s t bytes. plainly.plain-alike x bytes s t;
+  quick-alike = λ x s t bytes h. both.quick-alike x s t h bytes;
   plain-bytes = λ x s bytes. plainly.plain-bytes x bytes s;
+  quick-bytes = λ x s bytes. quickly.quick-bytes x bytes s;
   write-kept = calls.write-kept;
 }
 
@@ -49,6 +59,9 @@ demand2 = record {
   plain-target = reading.plain-target;
   plain-refused = plain.plain-refused;
   plain-least = plain.plain-least;
+  quick-one = quick.quick-one;
+  quick-two = quick.quick-two;
+  quick-unreadable = quick.quick-unreadable;
   audit-zero = order.audit-zero;
   audit-done = order.audit-done;
   audit-one = order.audit-one;
@@ -70,3 +83,6 @@ demand2 = record {
   load-write-load = trips.load-write-load;
   load-write = trips.load-write;
 }
+
+pub demand3 : Demand3
+demand3 = record { agree = agreement; alone = apart.quick-alone }

@@ -5,10 +5,10 @@ use mathlib.Core.Logic.{_⊎_, inl, inr, ⊎-elim}
 use Prim.Native.Nat.{ℕ, zero, suc, _+_, _≤_, _<_}
 use native.Mathlib.Numerals.{add-one}
 use native.Mathlib.Omega.{arith}
-use native.Mathlib.Decide.{ℕ-discrete}
+use native.Mathlib.Decide.{decLt, ℕ-discrete}
 use lib.Dec.{ltb}
 use Rattle.prelude.specs.Says.{Says}
-use Rattle.prelude.specs.SaysLaws.{says-and, says-or, says-iff, says-true, says-false, says-fails, says-lt, says-test, true-or-false}
+use Rattle.prelude.specs.SaysLaws.{says-and, says-or, says-iff, says-true, says-false, says-fails, says-lt, says-same, says-test, true-or-false}
 use Rattle.prelude.specs.Below.{anyBelow, allBelow, firstBelow, Some}
 
 -- the last number below suc n, or one below n
@@ -167,3 +167,16 @@ any-one n t p l h = ⊎-elim (λ q. any-here p t n l q ∙ sym q) (λ q. any-fal
     other : p t ≡ false → (k : ℕ) → k < n → Dec (k ≡ t) → p k ≡ false
     other e k m (yes q) = ap p q ∙ e
     other e k m (no d) = h k m d
+
+-- those from n on do not pass
+pub any-fewer : (n m : ℕ) (p : ℕ → Bool) → n ≤ m → ((k : ℕ) → n ≤ k → p k ≡ false) → anyBelow m p ≡ anyBelow n p
+any-fewer n m p h none =
+    says-same (any-says p m)
+    (says-iff (any-says p n) (
+      λ s. record { at = s .at; below = omega (arith, s .below); is = s .is },
+      λ s. record { at = s .at; below = within (s .at) (s .is) (decLt (s .at) n); is = s .is },
+    ))
+  where
+    within : (k : ℕ) → p k ≡ true → Dec (k < n) → k < n
+    within k e (yes l) = l
+    within k e (no g) = absurd (true≢false (sym e ∙ none k (omega arith)))

@@ -119,6 +119,11 @@ pub none-among : {n : ℕ} {cs : List Case} → NoneHolds cs → ¬ (Among n cs)
 none-among h (Among.here e q) = false≢true (sym (h .0) ∙ e)
 none-among h (Among.there a) = none-among (h .1) a
 
+-- two lists that begin alike: the rest is compared only where none of the first conditions holds
+pub append-rest : (p q u : List Case) → (NoneHolds p → firstOf q ≡ firstOf u) → firstOf (p ++ q) ≡ firstOf (p ++ u)
+append-rest [] q u h = h tt
+append-rest (c ∷ p) q u h = first-rest c (p ++ q) (p ++ u) (λ e. append-rest p q u (λ none. h (e, none)))
+
 -- two lists one after the other give what others give that give the same
 pub append-cong : (p q u v : List Case) → NonZero p → NonZero u → firstOf p ≡ firstOf u → firstOf q ≡ firstOf v → firstOf (p ++ q) ≡ firstOf (u ++ v)
 append-cong p q u v zp zu e f = go (ℕ-discrete (firstOf p) 0)

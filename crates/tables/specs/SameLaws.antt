@@ -30,6 +30,9 @@ same-reflexive t = record { count = refl; rows = λ k l. refl }
 pub same-symmetric : {t u : Table} → Same t u → Same u t
 same-symmetric s = record { count = sym (s .count); rows = λ k l. sym (s .rows k (omega (arith, s .count))) }
 
+pub same-transitive : {t u v : Table} → Same t u → Same u v → Same t v
+same-transitive p q = record { count = p .count ∙ q .count; rows = λ k l. p .rows k l ∙ q .rows k (omega (arith, p .count)) }
+
 -- ---- what is looked up in such tables
 
 module _ {t u : Table} (s : Same t u) where

@@ -2,8 +2,8 @@ use native.Mathlib.Omega.{arith}
 use mathlib.Core.Path.{_∙_, ap, ap₂, subst, sym, subst₂}
 use borrow.Author.Needs.{needs}
 use Rattle.keeper_change.proofs.plain.plain_judged.Statement.{statement}
-use Rattle.keeper_change.proofs.Whole.{classes-few, closure-long, judged-at, made-readable, made-shaped, number-found, applicable, in-shape, back}
-use Rattle.keeper_change.proofs.Whole.{judged-done, judged-refused, restorable, refreshed-made, store-bytes}
+use Rattle.keeper_change.proofs.Making.{applicable, back, classes-few, closure-long, made-readable, made-shaped, restorable, store-bytes}
+use Rattle.keeper_change.proofs.Whole.{judged-at, judged-done, judged-refused, number-found, refreshed-made}
 use Rattle.graph.specs.Graph.{Readable}
 use Rattle.keeper_change.specs.Made.{Restorable, rowsBack}
 use Rattle.tables.specs.Shaped.{Shaped}
@@ -19,7 +19,7 @@ save-requires c κs =
     let s = stores (start .args .attributes .now) (start .args .classes .now) (start .args .closure .now) in
     let change = start .args .change in
     let r = start .args .scratch .now in
-    applicable change r s (start .pre)
+    applicable change r s (start .pre .allowed)
 
 row-count-requires : tie.Need-row-count-requires
 row-count-requires c κs =
@@ -27,7 +27,7 @@ row-count-requires c κs =
     let s = stores (start .args .attributes .now) (start .args .classes .now) (start .args .closure .now) in
     let change = start .args .change in
     let r = start .args .scratch .now in
-    in-shape change r s (start .pre .stores) .long .classes
+    start .pre .allowed .shape .long .classes
 
 make-requires : tie.Need-make-requires
 make-requires c κs =
@@ -35,7 +35,7 @@ make-requires c κs =
     let s = stores (start .args .attributes .now) (start .args .classes .now) (start .args .closure .now) in
     let change = start .args .change in
     let r = start .args .scratch .now in
-    applicable change r s (start .pre)
+    applicable change r s (start .pre .allowed)
 
 added-by-requires : tie.Need-added-by-requires
 added-by-requires c κs =
@@ -43,7 +43,7 @@ added-by-requires c κs =
     let s = stores (start .args .attributes .now) (start .args .classes .now) (start .args .closure .now) in
     let change = start .args .change in
     let r = start .args .scratch .now in
-    applicable change r s (start .pre) .carried
+    applicable change r s (start .pre .allowed) .carried
 
 judged-whole-requires : tie.Need-judged-whole-requires
 judged-whole-requires c κs =
@@ -53,9 +53,9 @@ judged-whole-requires c κs =
     let s = stores (start .args .attributes .now) (start .args .classes .now) (start .args .closure .now) in
     let change = start .args .change in
     let r = start .args .scratch .now in (
-      subst (λ x. Shaped (x .attributes) (x .classes)) (sym (c₁ .make .ensures (s .closure))) (made-shaped change r s (start .pre)),
-      closure-long change r s (start .pre),
-      omega (arith, c₂ .row-count .ensures, classes-few change r s (start .pre)),
+      subst (λ x. Shaped (x .attributes) (x .classes)) (sym (c₁ .make .ensures (s .closure))) (made-shaped change r s (start .pre .allowed)),
+      closure-long change r s (start .pre .allowed),
+      omega (arith, c₂ .row-count .ensures, classes-few change r s (start .pre .allowed)),
     )
 
 undo-requires : tie.Need-undo-requires
@@ -67,7 +67,7 @@ undo-requires c κs =
     let change = start .args .change in
     let r = start .args .scratch .now in
     subst₂ (λ b x. Restorable b (x .attributes) (x .classes)) (sym (c₂ .save .ensures)) (sym (c₁ .make .ensures (s .closure)))
-    (restorable change r s (start .pre))
+    (restorable change r s (start .pre .allowed))
 
 refused-requires : tie.Need-refused-requires
 refused-requires c κs = search needs
@@ -98,7 +98,7 @@ returns c =
     let r = start .args .scratch .now in
     judged-refused change r s (start .pre) _ _ _ (number-found change r s (start .pre) _ (c₃ .judged-whole .ensures ∙ judged-at change r s
     (start .pre) (c₅ .make .ensures (s .closure)) (c₆ .row-count .ensures) (c₄ .added-by .ensures))) (c₂ .if1 .taken) (c .refused .ensures)
-    (c₁ .undo .ensures (s .closure) ∙ ap₂ rowsBack (c₇ .save .ensures) (c₅ .make .ensures (s .closure)) ∙ back change r s (start .pre)
+    (c₁ .undo .ensures (s .closure) ∙ ap₂ rowsBack (c₇ .save .ensures) (c₅ .make .ensures (s .closure)) ∙ back change r s (start .pre .allowed)
     (store-bytes (tableFor change) (s .attributes) (s .classes) (λ i. c₉ .slice-known .given i .fits) (λ i. c₈ .slice-known2 .given i .fits)))
 
 refresh-all-requires : tie.Need-refresh-all-requires
@@ -107,8 +107,10 @@ refresh-all-requires c κs =
     let start = c₁ .before .before .before .before .before .before .before .before .before .before .before .before in
     let s = stores (start .args .attributes .now) (start .args .classes .now) (start .args .closure .now) in
     let change = start .args .change in
-    let r = start .args .scratch .now in
-    (subst (λ x. Readable (x .classes)) (sym (c₁ .make .ensures (s .closure))) (made-readable change r s (start .pre)), closure-long change r s (start .pre))
+    let r = start .args .scratch .now in (
+      subst (λ x. Readable (x .classes)) (sym (c₁ .make .ensures (s .closure))) (made-readable change r s (start .pre .allowed)),
+      closure-long change r s (start .pre .allowed),
+    )
 
 changed-requires : tie.Need-changed-requires
 changed-requires c κs = search needs

@@ -1,6 +1,7 @@
+use mathlib.Core.Path.{_∙_, sym}
 use borrow.Author.Needs.{needs}
 use Rattle.keeper_change.proofs.plain.plain_read.Statement.{statement}
-use Rattle.keeper_change.proofs.Whole.{asked-refused, plain-asked}
+use Rattle.keeper_change.proofs.Whole.{asked-refused, plain-asked, to-judged}
 use Rattle.schema.specs.Store.{stores}
 use Rattle.keeper_change.proofs.plain.plain_read.Tie as tie
 
@@ -32,7 +33,12 @@ returns c =
     asked-refused change r s (start .pre) _ _ (c₂ .first-asked .ensures) (c₁ .if1 .taken) (c .refused .ensures)
 
 plain-judged-requires : tie.Need-plain-judged-requires
-plain-judged-requires c κs = search needs
+plain-judged-requires c κs =
+    let c₁ = c .before .before .before in
+    let c₂ = c₁ .before in
+    let start = c₂ .before .before .before .before .before .before .before in
+    let s = stores (start .args .attributes .now) (start .args .classes .now) (start .args .closure .now) in
+    to-judged (start .args .change) (start .args .scratch .now) s (start .pre) (sym (c₂ .first-asked .ensures) ∙ c₁ .if1 .left)
 
 same-length-3 : tie.Need-same-length-3
 same-length-3 c = search needs

@@ -1,0 +1,127 @@
+-- The closure store row by row: rows that stay, rows that become others, and all of them in turn.
+use mathlib.Core.Bool.{Bool, true, false, _&&_, cond}
+use mathlib.Core.List.{List, _++_}
+use mathlib.Core.Path.{_≡_, ap, ap₂, sym, _∙_}
+use Prim.Native.Nat.{ℕ, _+_, _*_, _-_, _≤_, _<_}
+use native.Mathlib.Omega.{arith}
+use lib.Dec.{ltb}
+use lib.ListN.{length, drop, take}
+use Rattle.prelude.specs.Concat.{concatBelow}
+use Rattle.prelude.specs.ConcatLaws.{concat-none, concat-more, concat-length}
+use Rattle.prelude.specs.LentLaws.{lent-back}
+use Rattle.prelude.specs.Part.{part, splice}
+use Rattle.prelude.specs.PartLaws.{row-fits, row-length, part-length}
+use Rattle.prelude.specs.SaysLaws.{says-lt, says-false, says-true, choose}
+use Rattle.prelude.specs.SpliceLaws.{part-splice-after, splice-append, splice-length, splice-part}
+use Rattle.sets.specs.Sets.{member, union}
+use Rattle.sets.specs.SetsLaws.{union-length}
+use Rattle.schema.specs.Layout.{attributeSet, closureLength, closureWidth, demandedAt, reachedAt, classSet}
+use Rattle.schema.specs.Numbers.{classLimit}
+use Rattle.schema.specs.Store.{closureAt}
+use Rattle.closure_change.specs.Kept.{holds, rowWhere, eachHolding}
+
+-- ---- the test
+
+pub held-beyond : (n k c : ℕ) (row : List ℕ) → n ≤ c → false ≡ holds n k c row
+unfolding holds
+held-beyond n k c row h = sym (ap (λ (b : Bool). b && member (part reachedAt classSet row) k) (says-false (says-lt c n) (λ l. omega arith)))
+
+pub held-there : (n k c : ℕ) (row : List ℕ) → c < n → member (part reachedAt classSet row) k ≡ holds n k c row
+unfolding holds
+held-there n k c row h = sym (ap (λ (b : Bool). b && member (part reachedAt classSet row) k) (says-true (says-lt c n) h))
+
+-- ---- one row
+
+module _ (closure : List ℕ) (long : closureLength ≤ length closure) (c : ℕ) (l : c < classLimit) where
+  pub row-there : 0 + closureWidth * c + closureWidth ≤ length closure
+  row-there = row-fits 0 closureWidth classLimit c (length closure) (omega arith) l
+
+  pub row-long : length (closureAt closure c) ≡ closureWidth
+  row-long = row-length 0 closureWidth classLimit c closure (omega arith) l
+
+  pub demanded-long : length (part demandedAt attributeSet (closureAt closure c)) ≡ attributeSet
+  demanded-long = part-length demandedAt attributeSet (closureAt closure c) (omega (arith, row-long))
+
+  -- the part of the store at c was lent on, and came back as another row
+  pub row-back : (at end : ℕ) (back new : List ℕ) → at ≡ closureWidth * c → end ≡ at + closureWidth → length new ≡ closureWidth → back ≡ new
+      → take at closure ++ (back ++ drop (end - at) (drop at closure)) ≡ splice (closureWidth * c) new closure
+  row-back at end back new e f w q =
+      lent-back at end closure back new (f ∙ ap (λ (n : ℕ). at + n) (sym w)) q ∙ ap (λ (n : ℕ). splice n new closure) e
+
+  -- as it was lent
+  pub row-lent : (at end : ℕ) → at ≡ closureWidth * c → end ≡ at + closureWidth → take (end - at) (drop at closure) ≡ closureAt closure c
+  unfolding part
+  row-lent at end e f =
+      let i : at ≡ 0 + closureWidth * c = omega arith in
+      let n : end - at ≡ closureWidth = omega arith in
+      ap₂ (λ (a b : ℕ). take a (drop b closure)) n i
+
+  module _ (n k : ℕ) (f : ℕ → List ℕ → List ℕ) where
+    -- it becomes another row, or stays
+    pub where-changed : (r : List ℕ) → holds n k c (closureAt closure c) ≡ true → r ≡ splice (closureWidth * c) (f c (closureAt closure c)) closure
+        → r ≡ splice (closureWidth * c) (rowWhere n k f closure c) closure
+    unfolding rowWhere
+    where-changed r h e = e ∙ ap (λ (b : Bool). splice (closureWidth * c) (cond b (f c (closureAt closure c)) (closureAt closure c)) closure) (sym h)
+
+    pub where-kept : holds n k c (closureAt closure c) ≡ false → closure ≡ splice (closureWidth * c) (rowWhere n k f closure c) closure
+    unfolding rowWhere
+    where-kept h =
+        let e : 0 + closureWidth * c ≡ closureWidth * c = omega arith in
+        sym (splice-part (0 + closureWidth * c) closureWidth closure row-there)
+        ∙ ap (λ (i : ℕ). splice i (closureAt closure c) closure) e
+        ∙ ap (λ (b : Bool). splice (closureWidth * c) (cond b (f c (closureAt closure c)) (closureAt closure c)) closure) (sym h)
+
+    where-long : length (f c (closureAt closure c)) ≡ closureWidth → length (rowWhere n k f closure c) ≡ closureWidth
+    unfolding rowWhere
+    where-long w = choose (λ (row : List ℕ). length row ≡ closureWidth) (holds n k c (closureAt closure c)) (λ e. w) (λ e. row-long)
+
+-- ---- all rows
+
+-- the first c rows are done
+abbrev pub Done : ℕ → ℕ → (ℕ → List ℕ → List ℕ) → List ℕ → ℕ → List ℕ → Type 0
+Done n k f o c now = now ≡ splice 0 (concatBelow c (rowWhere n k f o)) o
+
+module _ (n k : ℕ) (f : ℕ → List ℕ → List ℕ) (o : List ℕ) (long : closureLength ≤ length o)
+    (wide : (c : ℕ) (row : List ℕ) → length row ≡ closureWidth → length (f c row) ≡ closureWidth) where
+  rows-long : (c : ℕ) → c ≤ classLimit → length (concatBelow c (rowWhere n k f o)) ≡ closureWidth * c
+  rows-long c l = concat-length (rowWhere n k f o) closureWidth c
+      (λ i h. where-long o long i (omega arith) n k f (wide i (closureAt o i) (row-long o long i (omega arith))))
+
+  rows-fit : (c : ℕ) → c ≤ classLimit → 0 + length (concatBelow c (rowWhere n k f o)) ≤ length o
+  rows-fit c l = omega (arith, rows-long c l)
+
+  pub done-none : Done n k f o 0 o
+  unfolding splice
+  done-none = rw (concat-none (rowWhere n k f o))
+
+  pub done-length : (c : ℕ) (now : List ℕ) → c ≤ classLimit → Done n k f o c now → length now ≡ length o
+  done-length c now l p = ap length p ∙ splice-length 0 (concatBelow c (rowWhere n k f o)) o (rows-fit c l)
+
+  -- row c is still as it was
+  row-kept : (c : ℕ) (now : List ℕ) → c < classLimit → Done n k f o c now → closureAt now c ≡ closureAt o c
+  row-kept c now l p =
+      ap (λ (s : List ℕ). closureAt s c) p
+      ∙ part-splice-after 0 (concatBelow c (rowWhere n k f o)) o (rows-fit c (omega arith)) (0 + closureWidth * c) closureWidth
+      (omega (arith, rows-long c (omega arith)))
+
+  where-same : (c : ℕ) (now : List ℕ) → c < classLimit → Done n k f o c now → rowWhere n k f now c ≡ rowWhere n k f o c
+  unfolding rowWhere
+  where-same c now l p = ap (λ (row : List ℕ). cond (holds n k c row) (f c row) row) (row-kept c now l p)
+
+  pub done-more : (c : ℕ) (now r : List ℕ) → c < classLimit → Done n k f o c now → r ≡ splice (closureWidth * c) (rowWhere n k f now c) now
+      → Done n k f o (c + 1) r
+  done-more c now r l p q =
+      let rows = concatBelow c (rowWhere n k f o) in
+      let at : closureWidth * c ≡ 0 + length rows = omega (arith, rows-long c (omega arith)) in
+      q ∙ ap (λ (row : List ℕ). splice (closureWidth * c) row now) (where-same c now l p)
+      ∙ ap (λ (i : ℕ). splice i (rowWhere n k f o c) now) at ∙ ap (splice (0 + length rows) (rowWhere n k f o c)) p
+      ∙ splice-append 0 rows o (rows-fit c (omega arith)) (rowWhere n k f o c)
+      ∙ ap (λ (v : List ℕ). splice 0 v o) (sym (concat-more (rowWhere n k f o) c))
+
+  pub done-end : (c : ℕ) (now : List ℕ) → c ≤ classLimit → classLimit ≤ c → Done n k f o c now → now ≡ eachHolding n k f o
+  unfolding eachHolding
+  done-end c now h g p = let e : c ≡ classLimit = omega arith in p ∙ ap (λ (i : ℕ). splice 0 (concatBelow i (rowWhere n k f o)) o) e
+
+-- rows that are joined in, or worked out afresh
+pub union-wide : (more : List ℕ) (c : ℕ) (row : List ℕ) → length row ≡ closureWidth → length (union row more) ≡ closureWidth
+union-wide more c row e = union-length row more ∙ e

@@ -1,0 +1,51 @@
+use Rattle.closure_change.proofs.Holding.{row-back, row-lent, row-long}
+use mathlib.Core.Path.{_∙_, ap, refl}
+use Rattle.sets.specs.Sets.{union}
+use Rattle.schema.specs.Store.{closureAt}
+use Rattle.sets.specs.SetsLaws.{union-length}
+use borrow.Author.Needs.{needs}
+use Rattle.closure_change.proofs.each.join_at.Statement.{statement}
+use Rattle.closure_change.proofs.each.join_at.Tie as tie
+
+mul-at : tie.Need-mul-at
+mul-at c = search needs
+
+add-end : tie.Need-add-end
+add-end c = search needs
+
+sub-join : tie.Need-sub-join
+sub-join c = search needs
+
+part-join-start : tie.Need-part-join-start
+part-join-start c = search needs
+
+part-join-end : tie.Need-part-join-end
+part-join-end c = search needs
+
+join-requires : tie.Need-join-requires
+join-requires c κs = search needs
+
+same-length : tie.Need-same-length
+same-length c = search needs
+
+returns : tie.Need-returns
+returns c =
+    let c₁ = c .before .before in
+    let start = c₁ .before .before .before .before .before in
+    row-back (start .args .closure .now) (start .pre .0) (start .args .c .0) (start .pre .1) _ _ _ (union (closureAt (start .args .closure .now)
+    (start .args .c .0)) (start .args .more .now)) refl refl (union-length _ _ ∙ row-long (start .args .closure .now) (start .pre .0)
+    (start .args .c .0) (start .pre .1)) (c₁ .join .ensures ∙ ap (λ row. union row (start .args .more .now)) (row-lent (start .args .closure .now)
+    (start .pre .0) (start .args .c .0) (start .pre .1) _ _ refl refl))
+
+pub join-at-spec : {M : Type 1} → statement M
+join-at-spec =
+    tie.close
+    (tie.spec
+    mul-at
+    add-end
+    sub-join
+    part-join-start
+    part-join-end
+    join-requires
+    same-length
+    returns)

@@ -1,0 +1,41 @@
+use Rattle.closure_change.proofs.Holding.{where-changed, where-kept}
+use mathlib.Core.Path.{_∙_, sym}
+use Rattle.graph.specs.Graph.{closureRow}
+use Rattle.schema.specs.Store.{tableIn}
+use Rattle.schema.specs.declared.number.TableId.the-variants.{Classes}
+use borrow.Author.Needs.{needs}
+use Rattle.closure_change.proofs.each.refresh_where.Statement.{statement}
+use Rattle.closure_change.proofs.each.refresh_where.Tie as tie
+
+holds-requires : tie.Need-holds-requires
+holds-requires c κs = search needs
+
+refresh-requires : tie.Need-refresh-requires
+refresh-requires c κs = search needs
+
+same-length : tie.Need-same-length
+same-length c = search needs
+
+returns : tie.Need-returns
+returns c =
+    let c₁ = c .before .before in
+    let c₂ = c₁ .before .before in
+    let c₃ = c₂ .before in
+    let start = c₃ .before .before .before .before in
+    where-changed (start .args .closure .now) (start .pre .1) (start .args .c) (start .pre .2) (start .args .n) (start .args .k) (λ i row. closureRow
+    (tableIn Classes (start .args .classes .now)) i) _ (sym (c₃ .holds .ensures) ∙ c₂ .if1 .taken) (c₁ .refresh .ensures)
+
+same-length-2 : tie.Need-same-length-2
+same-length-2 c = search needs
+
+returns-2 : tie.Need-returns-2
+returns-2 c =
+    let c₁ = c .before in
+    let start = c₁ .before .before .before .before in
+    where-kept (start .args .closure .now) (start .pre .1) (start .args .c) (start .pre .2) (start .args .n) (start .args .k) (λ i row. closureRow
+    (tableIn Classes (start .args .classes .now)) i) (sym (c₁ .holds .ensures) ∙ c .if1 .left)
+
+pub refresh-where-spec : {M : Type 1} → statement M
+refresh-where-spec =
+    tie.close
+    (tie.spec holds-requires refresh-requires same-length returns same-length-2 returns-2)

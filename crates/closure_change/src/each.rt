@@ -1,0 +1,89 @@
+// The classes whose kept reach holds a class: sets joined in for each, or worked out afresh.
+use graph::closure::refresh;
+use prelude::part::part_of;
+use schema::layout::CLASS_SET;
+use schema::layout::CLOSURE_WIDTH;
+use schema::layout::REACHED;
+use schema::number::ClassNumber;
+use schema::store::closure_row;
+ghost use mathlib.Core.Path.{_≡_};
+ghost use Prim.Native.Nat.{_*_, _≤_, _<_};
+ghost use lib.ListN.{length};
+ghost use Rattle.prelude.specs.Part.{splice};
+ghost use Rattle.sets.specs.Sets.{union};
+ghost use Rattle.schema.specs.Numbers.{classLimit};
+ghost use Rattle.schema.specs.Layout.{closureWidth, closureLength};
+ghost use Rattle.schema.specs.Store.{closureAt, tableIn};
+ghost use Rattle.schema.specs.declared.number.TableId.the-variants.{Classes};
+ghost use Rattle.graph.specs.Graph.{Readable, closureRow};
+ghost use Rattle.closure_change.specs.Kept.{holds as held, rowWhere, joinedInto, refreshedAt};
+
+// Whether class c is one of n, and its kept reach holds class k.
+fn holds(closure: &[u8], n: usize, k: usize, c: usize) -> bool
+    requires { ⌜ (closureLength ≤ length (now closure)) × (c < classLimit) ⌝ }
+    ensures { λ r. ⌜ r ≡ held n k c (closureAt (now (closure .entry)) c) ⌝ }
+{
+    if n <= c {
+        return false;
+    }
+    let reached = part_of(closure_row(closure, ClassNumber(c)), REACHED, CLASS_SET);
+    sets::has(reached, k)
+}
+
+// Sets are joined in for c, the part of the closure store at c being lent on.
+fn join_at(closure: &mut [u8], c: ClassNumber, more: &[u8])
+    requires { ⌜ (closureLength ≤ length (now closure)) × (c .0 < classLimit) × (length (now more) ≡ closureWidth) ⌝ }
+    ensures { λ _. ⌜ now (closure .exit)
+        ≡ splice (closureWidth * c .0) (union (closureAt (now (closure .entry)) (c .0)) (now (more .entry))) (now (closure .entry)) ⌝ }
+{
+    let at = CLOSURE_WIDTH * c.0;
+    let end = at + CLOSURE_WIDTH;
+    sets::join(&mut closure[at..end], more);
+}
+
+// Sets are joined in for c, if it is such a class.
+fn join_where(closure: &mut [u8], n: usize, k: usize, c: usize, more: &[u8])
+    requires { ⌜ (closureLength ≤ length (now closure)) × (c < classLimit) × (length (now more) ≡ closureWidth) ⌝ }
+    ensures { λ _. ⌜ now (closure .exit)
+        ≡ splice (closureWidth * c) (rowWhere n k (λ i row. union row (now (more .entry))) (now (closure .entry)) c) (now (closure .entry)) ⌝ }
+{
+    if holds(closure, n, k, c) {
+        join_at(closure, ClassNumber(c), more);
+    }
+}
+
+// Sets are joined in for every such class.
+pub fn join_all(closure: &mut [u8], n: usize, k: usize, more: &[u8])
+    requires { ⌜ (closureLength ≤ length (now closure)) × (length (now more) ≡ closureWidth) ⌝ }
+    ensures { λ _. ⌜ now (closure .exit) ≡ joinedInto n k (now (more .entry)) (now (closure .entry)) ⌝ }
+{
+    let mut c = 0;
+    while c < ClassNumber::LIMIT {
+        join_where(closure, n, k, c, more);
+        c += 1;
+    }
+}
+
+// The sets of c are worked out afresh, if it is such a class.
+fn refresh_where(classes: &[u8], n: usize, k: usize, c: usize, closure: &mut [u8])
+    requires { ⌜ Readable (now classes) × (closureLength ≤ length (now closure)) × (c < classLimit) ⌝ }
+    ensures { λ _. ⌜ now (closure .exit)
+        ≡ splice (closureWidth * c) (rowWhere n k (λ i row. closureRow (tableIn Classes (now (classes .entry))) i) (now (closure .entry)) c)
+        (now (closure .entry)) ⌝ }
+{
+    if holds(closure, n, k, c) {
+        refresh(classes, ClassNumber(c), closure);
+    }
+}
+
+// The sets of every such class are worked out afresh.
+pub fn refresh_holding(classes: &[u8], n: usize, k: usize, closure: &mut [u8])
+    requires { ⌜ Readable (now classes) × (closureLength ≤ length (now closure)) ⌝ }
+    ensures { λ _. ⌜ now (closure .exit) ≡ refreshedAt (tableIn Classes (now (classes .entry))) n k (now (closure .entry)) ⌝ }
+{
+    let mut c = 0;
+    while c < ClassNumber::LIMIT {
+        refresh_where(classes, n, k, c, closure);
+        c += 1;
+    }
+}

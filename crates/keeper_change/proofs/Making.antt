@@ -1,0 +1,94 @@
+-- A change that numbers 5 to 11 let pass: it can be made in the stores, and taken back.
+use lib.ListN.{length}
+use native.Mathlib.Omega.{arith}
+use Prim.Native.Nat.{_≤_, ℕ}
+use mathlib.Core.List.{List}
+use mathlib.Core.Path.{_∙_, _≡_, refl, ap}
+use mathlib.Core.Bool.{cond}
+use Rattle.schema.specs.declared.number.TableId.the-variants.{Attributes, Classes}
+use Rattle.schema.specs.Store.{Schema, Stores, countIn, schemaOf, table, tableStore, storeOf}
+use Rattle.schema.specs.declared.number.TableId.{TableId}
+use Rattle.schema.specs.Numbers.{classLimit, limit, numberOf}
+use Rattle.schema.specs.Layout.{classWidth, closureLength, storeLength}
+use Rattle.schema.specs.NumbersLaws.{id-number}
+use Rattle.schema.specs.StoreLaws.{table-row-length}
+use Rattle.change_read.specs.declared.read.Change.{Change}
+use Rattle.change_read.specs.Carried.{targetOf}
+use Rattle.change_rows.specs.Stores.{Applicable, rowChanged}
+use Rattle.change_rows.specs.Rows.{isAddition, numberFor, tableFor}
+use Rattle.change_rows.specs.RowsLaws.{narrow-row}
+use Rattle.prelude.specs.Part.{Bytes}
+use Rattle.prelude.specs.PartLaws.{padded-length}
+use Rattle.keeper_change.specs.Made.{Restorable, rowsBack, rowsMade, before, Allowed}
+use Rattle.keeper_change.specs.PlainLaws.{taken-back}
+use Rattle.keeper_change.specs.MadeLaws.{made-applicable, made-shape, row-table, row-within}
+use Rattle.keeper.specs.Answering.{InShape}
+use Rattle.graph.specs.Graph.{Readable}
+use Rattle.tables.specs.Shaped.{Shaped}
+use Rattle.tables_shape.specs.ShapeLaws.{formed-readable, says-formed, formed-shaped}
+
+module _ (change : Change) (r : List ℕ) (s : Stores) (j : Allowed change r s) where
+  abbrev m : Schema
+  m = schemaOf s
+
+  abbrev old : List ℕ
+  old = tableStore (tableFor change) s
+
+  pub applicable : Applicable change r old
+  applicable = made-applicable change (j .read .text) r s (j .read .bytes) (j .read .reads) (j .shape) (j .asked)
+
+  new-shape : InShape (rowsMade change r s)
+  new-shape = made-shape change (j .read .text) r s (j .read .bytes) (j .read .reads) (j .shape) (j .asked)
+
+  pub made-shaped : Shaped (rowsMade change r s .attributes) (rowsMade change r s .classes)
+  made-shaped = formed-shaped _ _ (new-shape .long .attributes) (new-shape .long .classes) (new-shape .formed)
+
+  pub made-readable : Readable (rowsMade change r s .classes)
+  made-readable = formed-readable _ _ (new-shape .long .attributes) (new-shape .long .classes) (new-shape .formed)
+
+  pub classes-few : m .classes .count ≤ classLimit
+  classes-few = says-formed (s .attributes) (s .classes) (j .shape .long .attributes) (j .shape .long .classes) .holds (j .shape .formed) .classes .few
+
+  pub closure-long : closureLength ≤ length (s .closure)
+  closure-long = j .shape .long .closure
+
+  -- what was saved can be put back
+  pub restorable : Restorable (before change r old) (rowsMade change r s .attributes) (rowsMade change r s .classes)
+  restorable =
+      let t = row-table change r old in
+      record {
+        long = rw t (store-long (tableFor change));
+        within = rw t (row-within change r old applicable);
+        few = rw t (counted (tableFor change));
+        wide = padded-length classWidth _ (omega (
+          arith,
+          narrow-row (tableFor change),
+          table-row-length (tableFor change) old
+              (numberOf (rowChanged change r old)) (applicable .long) (row-within change r old applicable),
+        ));
+      }
+    where
+      store-long : (t : TableId) → storeLength t ≤ length (tableStore t (rowsMade change r s))
+      store-long Attributes = new-shape .long .attributes
+      store-long Classes = new-shape .long .classes
+
+      counted : (t : TableId) → countIn t (tableStore t s) ≤ limit t
+      counted Attributes =
+          says-formed (s .attributes) (s .classes) (j .shape .long .attributes) (j .shape .long .classes) .holds (j .shape .formed) .attributes .few
+      counted Classes = classes-few
+
+  pub back : Bytes old → rowsBack (before change r old) (rowsMade change r s) ≡ s
+  back = taken-back change (j .read .text) r s (j .read .bytes) (j .read .reads) (j .shape) (j .asked)
+
+  -- the row's number, by the store and by the model
+  pub number-is : numberOf (rowChanged change r old) ≡ numberFor change r m
+  unfolding numberFor
+  number-is = id-number (tableFor change) _ ∙ ap (λ (n : ℕ). cond (isAddition change) n (targetOf r)) (count (tableFor change))
+    where
+      count : (t : TableId) → countIn t (tableStore t s) ≡ table t m .count
+      count Attributes = refl
+      count Classes = refl
+
+pub store-bytes : (t : TableId) (a c : List ℕ) → Bytes a → Bytes c → Bytes (storeOf t a c)
+store-bytes Attributes a c p q = p
+store-bytes Classes a c p q = q
