@@ -13,6 +13,7 @@ use Rattle.keeper.specs.Depth.{depth}
 use Rattle.keeper.specs.Load.{load}
 use Rattle.keeper.specs.Write.{Written, write}
 use Rattle.keeper_change.specs.Plain.{plainChange}
+use Rattle.keeper_change.specs.Quick.{quickChange}
 
 -- table and place
 abbrev pub detailLength : ℕ
@@ -59,6 +60,9 @@ loadCall sheet s detail = storesCall (load sheet s) s detail
 
 abbrev pub plainChangeCall : List ℕ → Stores → List ℕ → Outcome
 plainChangeCall change s detail = storesCall (plainChange change s) s detail
+
+abbrev pub quickChangeCall : List ℕ → Stores → List ℕ → Outcome
+quickChangeCall change s detail = storesCall (quickChange change s) s detail
 
 -- what a write tells, and the output as it leaves it
 pub record Wrote : Type 0 where

@@ -1,4 +1,5 @@
 -- How a quick change comes to its end: refused by 5 to 11 with nothing done, its row judged and taken back, or judged and done.
+use Rattle.keeper.specs.CheckedLaws.{in-shape}
 use lib.ListN.{length}
 use native.Mathlib.Omega.{arith}
 use native.Mathlib.Decide.{ℕ-discrete}
@@ -18,8 +19,9 @@ use Rattle.schema.specs.Answers.{changed, passed, refused, unreadable}
 use Rattle.schema.specs.Layout.{classWidth}
 use Rattle.schema.specs.Numbers.{classLimit, numberOf, tableOf}
 use Rattle.schema.specs.Store.{Schema, Stores, Table, plusRow, result, schemaIn, schemaOf, stores, table, tableIn, tableStore, withRow, withTable}
+use Rattle.tables.specs.Same.{SameRows}
 use Rattle.tables.specs.Shaped.{Shaped}
-use Rattle.tables_shape.specs.ShapedLaws.{formed-shaped}
+use Rattle.tables_shape.specs.ShapeLaws.{formed-shaped}
 use Rattle.rules.specs.declared.row.Added.{Added}
 use Rattle.rules.specs.Rules.{rowCases, schemaRules}
 use Rattle.rules.specs.SameLaws.{row-cases-same}
@@ -30,7 +32,7 @@ use Rattle.change_read.specs.declared.read.ChangeRead.{ChangeRead}
 use Rattle.change_read.specs.declared.read.ChangeRead.the-variants.{Bad, Read}
 use Rattle.change_read.specs.Carried.{entryOf, listOf, targetOf}
 use Rattle.change_read.specs.ChangeLaws.{change-length}
-use Rattle.change_read.specs.Reading.{changeOut, readChange}
+use Rattle.change_read.specs.Reading.{Came, changeOut, readChange}
 use Rattle.change_rows.specs.Rows.{isAddition, numberFor, schemaAfter, tableAfter, tableFor}
 use Rattle.change_rows.specs.Stores.{rowChanged}
 use Rattle.change_asked.specs.Asked.{askedCases, firstAsked}
@@ -41,7 +43,7 @@ use Rattle.change_model.specs.ThereLaws.{class-room, entry-class}
 use Rattle.closure_change.specs.After.{Updatable, closureAfter, demandBefore, demandChanges}
 use Rattle.closure_change.specs.SameLaws.{after-same, demand-same}
 use Rattle.keeper.specs.Answering.{InShape, firstAnswer, shapeAnswers}
-use Rattle.keeper.specs.AnsweringLaws.{passed-last, passed-shape, refused-any}
+use Rattle.keeper.specs.AnsweringLaws.{passed-last, passed-shape, refused-any, shape-passed}
 use Rattle.keeper_change.specs.declared.rows.Before.{Before}
 use Rattle.keeper_change.specs.Judged.{RowThere, judgedRow}
 use Rattle.keeper_change.specs.Made.{Allowed, before, rowsMade}
@@ -140,7 +142,7 @@ module _ (change : Change) (r : List ℕ) (s : Stores) (j : Allowed change r s) 
   abbrev after : Schema
   after = schemaAfter change r m
 
-  same : (t : TableId) → _
+  same : SameRows (schemaOf (rowsMade change r s)) after
   same = made-same change (j .read .text) r s (j .read .bytes) (j .read .reads) (j .shape) (j .asked)
 
   -- the row is there afterwards
@@ -177,9 +179,7 @@ module _ (change : Change) (r : List ℕ) (s : Stores) (j : Allowed change r s) 
   }
     where
       target-there : change ≡ AddEntry → targetOf r < m .classes .count
-      target-there e = subst (λ (x : Change). (firstAsked x r m ≡ 0) → isAddition x ≡ false → targetOf r < table (tableFor x) m .count) e
-          (λ a f. asked-there change r m (j .asked) (subst (λ (x : Change). isAddition x ≡ false) (sym e) f))
-          (subst (λ (x : Change). firstAsked x r m ≡ 0) e (j .asked)) refl
+      target-there e = asked-there AddEntry r m (subst (λ (x : Change). firstAsked x r m ≡ 0) e (j .asked)) refl
 
       entry-there : change ≡ AddEntry → listOf r ≡ Auxiliary → entryOf r < m .classes .count
       entry-there e l = entry-class r m (subst (λ (x : Change). rowNumber x r m ≡ 0) e z) l
@@ -201,7 +201,7 @@ module _ (change : Change) (r : List ℕ) (s : Stores) (j : Allowed change r s) 
       kept = λ z. subst (λ (x : Stores). Updatable change r (x .classes) (s .closure)) (sym made) (can-update (ap firstOf (sym cases-found) ∙ z));
     }
 
-    module _ {demand old-demand : List ℕ} (kept : demand ≡ demandBefore change r (m .classes) old-demand) (x : ℕ)
+    module _ (blank : List ℕ) {demand : List ℕ} (kept : demand ≡ demandBefore change r (m .classes) blank) (x : ℕ)
         (judged : x ≡ judgedRow added change r (schemaIn a c) (tableOf (b .id)) (numberOf (b .id)) demand (s .closure)) where
       pub number-found : x ≡ quickNumber change r m (s .closure)
       unfolding judgedRow
@@ -212,7 +212,7 @@ module _ (change : Change) (r : List ℕ) (s : Stores) (j : Allowed change r s) 
         where
           demands : demandChanges change r (tableIn Classes c) demand (s .closure) ≡ quickDiffers change r m (s .closure)
           demands = (λ i. demandChanges change r (schemaOf (made i) .classes) (kept i) (s .closure))
-              ∙ demand-same (same Classes) change r (m .classes) old-demand (s .closure)
+              ∙ demand-same (same Classes) change r (m .classes) blank (s .closure)
 
       -- refused, and taken back
       pub judged-refused : (answer : Answer) (left : Stores) → ¬ (x ≡ 0) → answer ≡ refused x → left ≡ s → result answer left ≡ quickRead (Read change) r s
@@ -269,7 +269,7 @@ module _ (x : List ℕ) (s : Stores) {o : Answer} (is : o ≡ firstAnswer (shape
     pub change-bad : (at : ℕ) (a : Answer) → read ≡ Bad at → a ≡ unreadable at → result a s ≡ quickChange x s
     unfolding quickChange
     change-bad at a e q =
-        quick-kept s (shape-passed s is z) (readChange x .answer) (readChange x .row) a
+        quick-kept s (in-shape s is z) (readChange x .answer) (readChange x .row) a
         (q ∙ ap (λ (y : ChangeRead). quickTo y (readChange x .row) s) (sym (sym (came .answer) ∙ e)))
         (λ w. (let no : _≡_ {A = ℕ} 4 0 = ap (λ (y : Answer). y .number) (sym q) ∙ w in omega arith))
 
@@ -278,7 +278,7 @@ module _ (x : List ℕ) (s : Stores) {o : Answer} (is : o ≡ firstAnswer (shape
       pub change-in-shape : Bytes x → InShapeFor change r s
       change-in-shape b = record {
         read = record { text = x; bytes = b; reads = ap₂ changeOut (sym (came .answer) ∙ e) (sym (came .row)) };
-        shape = shape-passed s is z;
+        shape = in-shape s is z;
       }
 
       pub change-read : quickRead (Read change) r s ≡ quickChange x s

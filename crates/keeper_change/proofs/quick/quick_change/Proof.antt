@@ -1,3 +1,7 @@
+use Rattle.keeper_change.proofs.Alone.{change-shape, change-in-shape, change-bad, change-read}
+use mathlib.Core.Path.{_∙_, refl}
+use Rattle.schema.specs.Store.{stores}
+use Rattle.prelude.specs.Part.{zeros}
 use native.Mathlib.Omega.{arith}
 use borrow.Author.Needs.{needs}
 use Rattle.keeper_change.proofs.quick.quick_change.Statement.{statement}
@@ -22,13 +26,14 @@ same-length-3 : tie.Need-same-length-3
 same-length-3 c = search needs
 
 returns : tie.Need-returns
-returns c = ?
+returns c = let start = (c .before .before .before .before .before .before .before .before .before .before) in let s = stores (start .args .attributes .now) (start .args .classes .now) (start .args .closure .now) in let x = start .args .change .now in change-shape x s (c .before .before .check-shape .ensures) (c .if1 .taken)
 
 slice-aggregate-read-change : tie.Need-slice-aggregate-read-change
 slice-aggregate-read-change c = search needs
 
 read-change-requires : tie.Need-read-change-requires
-read-change-requires c κs = ?
+unfolding zeros
+read-change-requires c κs = refl
 
 enum-known-at : tie.Need-enum-known-at
 enum-known-at c = search needs
@@ -43,7 +48,7 @@ slice-aggregate-quick-read : tie.Need-slice-aggregate-quick-read
 slice-aggregate-quick-read c = search needs
 
 quick-read-requires : tie.Need-quick-read-requires
-quick-read-requires c κs = ?
+quick-read-requires c κs = let start = (c .before .before .before .before .before .before .before .before .before .before .before .before .before .before .before .before .before .before .before .before) in let s = stores (start .args .attributes .now) (start .args .classes .now) (start .args .closure .now) in let x = start .args .change .now in change-in-shape x s (c .before .before .before .before .before .before .before .before .before .before .before .before .check-shape .ensures) (c .before .before .before .before .before .before .before .before .before .before .if1 .left) (c .before .before .before .before .before .before .before .before .read-change .ensures) _ (c .before .before .before .before .before .change .given .1) (λ i. c .before .before .before .before .before .before .before .before .before .before .before .before .before .before .before .before .shared-slice-known .given i .fits)
 
 same-length-4 : tie.Need-same-length-4
 same-length-4 c = search needs
@@ -55,7 +60,7 @@ same-length-6 : tie.Need-same-length-6
 same-length-6 c = search needs
 
 returns-2 : tie.Need-returns-2
-returns-2 c = ?
+returns-2 c = let start = (c .before .before .before .before .before .before .before .before .before .before .before .before .before .before .before .before .before) in let s = stores (start .args .attributes .now) (start .args .classes .now) (start .args .closure .now) in let x = start .args .change .now in change-bad x s (c .before .before .before .before .before .before .before .before .before .check-shape .ensures) (c .before .before .before .before .before .before .before .if1 .left) (c .before .before .before .before .before .read-change .ensures) _ _ (c .before .before .at .given .1) (c .unreadable .ensures)
 
 same-length-7 : tie.Need-same-length-7
 same-length-7 c = search needs
@@ -67,7 +72,7 @@ same-length-9 : tie.Need-same-length-9
 same-length-9 c = search needs
 
 returns-3 : tie.Need-returns-3
-returns-3 c = ?
+returns-3 c = let start = (c .before .before .before .before .before .before .before .before .before .before .before .before .before .before .before .before .before .before .before .before .before .before .before .before .before .before .before) in let s = stores (start .args .attributes .now) (start .args .classes .now) (start .args .closure .now) in let x = start .args .change .now in c .before .before .before .before .before .before .quick-read .ensures ∙ change-read x s (c .before .before .before .before .before .before .before .before .before .before .before .before .before .before .before .before .before .before .before .check-shape .ensures) (c .before .before .before .before .before .before .before .before .before .before .before .before .before .before .before .before .before .if1 .left) (c .before .before .before .before .before .before .before .before .before .before .before .before .before .before .before .read-change .ensures) _ (c .before .before .before .before .before .before .before .before .before .before .before .before .change .given .1)
 
 pub quick-change-spec : {M : Type 1} → statement M
 quick-change-spec =

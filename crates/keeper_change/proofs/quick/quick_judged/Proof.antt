@@ -1,3 +1,12 @@
+use Rattle.keeper_change.proofs.Making.{applicable, back, restorable, store-bytes}
+use Rattle.keeper_change.proofs.Alone.{judged-there, judged-refused, judged-done, to-update}
+use mathlib.Core.Path.{_∙_, ap₂, refl, subst₂, sym}
+use Rattle.keeper_change.specs.Made.{Restorable, rowsBack}
+use Rattle.schema.specs.Store.{stores}
+use Rattle.schema.specs.Layout.{attributeSet}
+use Rattle.prelude.specs.Part.{zeros}
+use Rattle.change_rows.specs.Rows.{tableFor}
+use Rattle.tables_shape.specs.ShapeLaws.{formed-readable}
 use native.Mathlib.Omega.{arith}
 use borrow.Author.Needs.{needs}
 use Rattle.keeper_change.proofs.quick.quick_judged.Statement.{statement}
@@ -16,7 +25,7 @@ use Rattle.schema.proofs.answer.Answer.refused.Reads as refused-reads
 use Rattle.schema.proofs.store.row_count.Reads as row-count-reads
 
 save-requires : tie.Need-save-requires
-save-requires c κs = ?
+save-requires c κs = let start = (c .before .before .before .before .before .before) in let s = stores (start .args .attributes .now) (start .args .classes .now) (start .args .closure .now) in let change = start .args .change in let r = start .args .scratch .now in applicable change r s (start .pre)
 
 row-count-requires : tie.Need-row-count-requires
 row-count-requires c κs = search needs
@@ -25,22 +34,22 @@ slice-aggregate-demand-before : tie.Need-slice-aggregate-demand-before
 slice-aggregate-demand-before c = search needs
 
 demand-before-requires : tie.Need-demand-before-requires
-demand-before-requires c κs = ?
+demand-before-requires c κs = let start = (c .before .before .before .before .before .before .before .before .before .before .before) in let s = stores (start .args .attributes .now) (start .args .classes .now) (start .args .closure .now) in let change = start .args .change in let r = start .args .scratch .now in (applicable change r s (start .pre) .carried, formed-readable (s .attributes) (s .classes) (start .pre .shape .long .attributes) (start .pre .shape .long .classes) (start .pre .shape .formed), refl)
 
 make-requires : tie.Need-make-requires
-make-requires c κs = ?
+make-requires c κs = let start = (c .before .before .before .before .before .before .before .before .before .before .before .before .before .before .before) in let s = stores (start .args .attributes .now) (start .args .classes .now) (start .args .closure .now) in let change = start .args .change in let r = start .args .scratch .now in applicable change r s (start .pre)
 
 added-by-requires : tie.Need-added-by-requires
-added-by-requires c κs = ?
+added-by-requires c κs = let start = (c .before .before .before .before .before .before .before .before .before .before .before .before .before .before .before .before .before .before .before .before) in let s = stores (start .args .attributes .now) (start .args .classes .now) (start .args .closure .now) in let change = start .args .change in let r = start .args .scratch .now in applicable change r s (start .pre) .carried
 
 slice-aggregate-judged-row : tie.Need-slice-aggregate-judged-row
 slice-aggregate-judged-row c = search needs
 
 judged-row-requires : tie.Need-judged-row-requires
-judged-row-requires c κs = ?
+judged-row-requires c κs = let start = (c .before .before .before .before .before .before .before .before .before .before .before .before .before .before .before .before .before .before .before .before .before .before .before .before .before) in let s = stores (start .args .attributes .now) (start .args .classes .now) (start .args .closure .now) in let change = start .args .change in let r = start .args .scratch .now in judged-there change r s (start .pre) (c .before .before .before .before .added-by .ensures) (c .before .before .before .before .before .before .before .before .before .before .before .before .before .before .before .before .row-count .ensures) (c .before .before .before .before .before .before .before .before .before .make .ensures (s .closure)) (c .before .before .before .before .before .before .before .before .before .before .before .before .before .before .before .before .before .before .save .ensures)
 
 undo-requires : tie.Need-undo-requires
-undo-requires c κs = ?
+undo-requires c κs = let start = (c .before .before .before .before .before .before .before .before .before .before .before .before .before .before .before .before .before .before .before .before .before .before .before .before .before .before .before .before .before) in let s = stores (start .args .attributes .now) (start .args .classes .now) (start .args .closure .now) in let change = start .args .change in let r = start .args .scratch .now in subst₂ (λ b x. Restorable b (x .attributes) (x .classes)) (sym (c .before .before .before .before .before .before .before .before .before .before .before .before .before .before .before .before .before .before .before .before .before .before .save .ensures)) (sym (c .before .before .before .before .before .before .before .before .before .before .before .before .before .make .ensures (s .closure))) (restorable change r s (start .pre))
 
 refused-requires : tie.Need-refused-requires
 refused-requires c κs = search needs
@@ -55,10 +64,12 @@ same-length-3 : tie.Need-same-length-3
 same-length-3 c = search needs
 
 returns : tie.Need-returns
-returns c = ?
+unfolding zeros
+returns c = let start = (c .before .before .before .before .before .before .before .before .before .before .before .before .before .before .before .before .before .before .before .before .before .before .before .before .before .before .before .before .before .before .before .before .before .before .before) in let s = stores (start .args .attributes .now) (start .args .classes .now) (start .args .closure .now) in let change = start .args .change in let r = start .args .scratch .now in judged-refused change r s (start .pre) (c .before .before .before .before .before .before .before .before .before .before .before .before .before .before .added-by .ensures) (c .before .before .before .before .before .before .before .before .before .before .before .before .before .before .before .before .before .before .before .before .before .before .before .before .before .before .row-count .ensures) (c .before .before .before .before .before .before .before .before .before .before .before .before .before .before .before .before .before .before .before .make .ensures (s .closure)) (c .before .before .before .before .before .before .before .before .before .before .before .before .before .before .before .before .before .before .before .before .before .before .before .before .before .before .before .before .save .ensures) (zeros attributeSet) (c .before .before .before .before .before .before .before .before .before .before .before .before .before .before .before .before .before .before .before .before .before .before .before .demand-before .ensures) _ (c .before .before .before .before .before .before .before .before .before .judged-row .ensures) _ _ (c .before .before .before .before .before .before .before .before .if1 .taken) (c .refused .ensures) (c .before .before .before .before .before .undo .ensures (s .closure) ∙ ap₂ rowsBack (c .before .before .before .before .before .before .before .before .before .before .before .before .before .before .before .before .before .before .before .before .before .before .before .before .before .before .before .before .save .ensures) (c .before .before .before .before .before .before .before .before .before .before .before .before .before .before .before .before .before .before .before .make .ensures (s .closure)) ∙ back change r s (start .pre) (store-bytes (tableFor change) (s .attributes) (s .classes) (λ i. c .before .before .before .before .before .before .before .before .before .before .before .before .before .before .before .before .before .before .before .before .before .before .before .before .before .before .before .before .before .before .before .before .before .slice-known .given i .fits) (λ i. c .before .before .before .before .before .before .before .before .before .before .before .before .before .before .before .before .before .before .before .before .before .before .before .before .before .before .before .before .before .before .before .before .slice-known2 .given i .fits)))
 
 update-requires : tie.Need-update-requires
-update-requires c κs = ?
+unfolding zeros
+update-requires c κs = let start = (c .before .before .before .before .before .before .before .before .before .before .before .before .before .before .before .before .before .before .before .before .before .before .before .before .before .before .before .before .before) in let s = stores (start .args .attributes .now) (start .args .classes .now) (start .args .closure .now) in let change = start .args .change in let r = start .args .scratch .now in to-update change r s (start .pre) (c .before .before .before .before .before .before .before .before .added-by .ensures) (c .before .before .before .before .before .before .before .before .before .before .before .before .before .before .before .before .before .before .before .before .row-count .ensures) (c .before .before .before .before .before .before .before .before .before .before .before .before .before .make .ensures (s .closure)) (c .before .before .before .before .before .before .before .before .before .before .before .before .before .before .before .before .before .before .before .before .before .before .save .ensures) (zeros attributeSet) (c .before .before .before .before .before .before .before .before .before .before .before .before .before .before .before .before .before .demand-before .ensures) _ (c .before .before .before .judged-row .ensures) (c .before .before .if1 .left)
 
 changed-requires : tie.Need-changed-requires
 changed-requires c κs = search needs
@@ -73,7 +84,8 @@ same-length-6 : tie.Need-same-length-6
 same-length-6 c = search needs
 
 returns-2 : tie.Need-returns-2
-returns-2 c = ?
+unfolding zeros
+returns-2 c = let start = (c .before .before .before .before .before .before .before .before .before .before .before .before .before .before .before .before .before .before .before .before .before .before .before .before .before .before .before .before .before .before .before .before .before) in let s = stores (start .args .attributes .now) (start .args .classes .now) (start .args .closure .now) in let change = start .args .change in let r = start .args .scratch .now in judged-done change r s (start .pre) (c .before .before .before .before .before .before .before .before .before .before .before .before .added-by .ensures) (c .before .before .before .before .before .before .before .before .before .before .before .before .before .before .before .before .before .before .before .before .before .before .before .before .row-count .ensures) (c .before .before .before .before .before .before .before .before .before .before .before .before .before .before .before .before .before .make .ensures (s .closure)) (c .before .before .before .before .before .before .before .before .before .before .before .before .before .before .before .before .before .before .before .before .before .before .before .before .before .before .save .ensures) (zeros attributeSet) (c .before .before .before .before .before .before .before .before .before .before .before .before .before .before .before .before .before .before .before .before .before .demand-before .ensures) _ (c .before .before .before .before .before .before .before .judged-row .ensures) (c .before .before .before .before .before .before .if1 .left) _ (c .changed .ensures) (c .before .before .before .update .ensures)
 
 pub quick-judged-spec : {M : Type 1} → statement M
 quick-judged-spec =
