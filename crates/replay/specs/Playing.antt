@@ -16,8 +16,9 @@ use Rattle.keeper.specs.Depth.{depth}
 use Rattle.keeper.specs.Load.{load}
 use Rattle.keeper.specs.Write.{Written, written, write}
 use Rattle.keeper_change.specs.Plain.{plainChange}
+use Rattle.keeper_change.specs.Quick.{quickChange}
 use Rattle.replay.specs.declared.step.Call.{Call}
-use Rattle.replay.specs.declared.step.Call.the-variants.{Load, PlainChange}
+use Rattle.replay.specs.declared.step.Call.the-variants.{Load, PlainChange, QuickChange}
 use Rattle.replay.specs.declared.step.Step.{Step}
 use Rattle.replay.specs.declared.step.Step.the-variants.{Called, Audit, Write, Depth, Poke, Resize}
 use Rattle.replay.specs.declared.play.Lengths.{Lengths}
@@ -59,6 +60,7 @@ returnedBy r s = result (r .answer) (returned (r .left) s)
 abbrev pub called : Call → List ℕ → Stores → Result
 called Load bytes s = load bytes s
 called PlainChange bytes s = plainChange bytes s
+called QuickChange bytes s = quickChange bytes s
 
 unfoldable pub calledLent : Call → List ℕ → Lengths → Stores → Result
 calledLent call bytes l s = returnedBy (called call bytes (lent l s)) s

@@ -1,6 +1,7 @@
 -- The steps of a script, read at a place. "Steps, numbers most significant byte first: 01 load (u32 length, sheet), 02 plain change (u32
--- length, change), .. 04 audit, 05 write (u32 length of the output lent ..), 06 depth (u16), 07 poke (u8 store 0..2, u32 offset, u8 byte), 08 resize (u8
--- store, u32 length; ..)." A step that is cut, has an unknown code, names no store or asks for more than the longest stops the player.
+-- length, change), 03 quick change (the same), 04 audit, 05 write (u32 length of the output lent ..), 06 depth (u16), 07 poke (u8 store 0..2, u32
+-- offset, u8 byte), 08 resize (u8 store, u32 length; ..)." A step that is cut, has an unknown code, names no store or asks for more than the longest
+-- stops the player.
 use mathlib.Core.Bool.{Bool, cond}
 use mathlib.Core.List.{List}
 use Prim.Native.Nat.{ℕ, _+_, _-_, _≤_, _<_}
@@ -8,7 +9,7 @@ use lib.Dec.{eqb, ltb}
 use lib.ListN.{length, getD}
 use Rattle.prelude.specs.BigEndian.{bigEndian}
 use Rattle.replay.specs.declared.step.Call.{Call}
-use Rattle.replay.specs.declared.step.Call.the-variants.{Load, PlainChange}
+use Rattle.replay.specs.declared.step.Call.the-variants.{Load, PlainChange, QuickChange}
 use Rattle.replay.specs.declared.step.Step.{Step}
 use Rattle.replay.specs.declared.step.Step.the-variants.{Called, Audit, Write, Depth, Poke, Resize}
 use Rattle.replay.specs.declared.step.Turn.{Turn}
@@ -53,11 +54,12 @@ unfoldable pub turnAt : List ℕ → ℕ → Turn
 turnAt s at =
     cond (eqb (getD s at 0) 1) (calledAt Load s at)
     (cond (eqb (getD s at 0) 2) (calledAt PlainChange s at)
+    (cond (eqb (getD s at 0) 3) (calledAt QuickChange s at)
     (cond (eqb (getD s at 0) 4) (auditAt s at)
     (cond (eqb (getD s at 0) 5) (writeAt s at)
     (cond (eqb (getD s at 0) 6) (depthAt s at)
     (cond (eqb (getD s at 0) 7) (pokeAt s at)
-    (cond (eqb (getD s at 0) 8) (resizeAt s at) Stop))))))
+    (cond (eqb (getD s at 0) 8) (resizeAt s at) Stop)))))))
 
 -- what a step names lies within the script
 abbrev pub StepWithin : List ℕ → Step → Type 0

@@ -1,5 +1,6 @@
-// Plays a replay script from standard input: loads, plain changes, audits, writes, depths, pokes and resizes. Each step prints a line. The script, every store and
-// every output has at most 64 KiB, since there is no heap; a step that is cut, unknown or asks for more ends the play, with no line of its own.
+// Plays a replay script from standard input: loads, plain and quick changes, audits, writes, depths, pokes and resizes. Each step prints a line. The
+// script, every store and every output has at most 64 KiB, since there is no heap; a step that is cut, unknown or asks for more ends the play, with no
+// line of its own.
 mod hash;
 mod play;
 mod step;
@@ -57,6 +58,9 @@ fn say_call(call: Call) {
         }
         Call::PlainChange => {
             io::write_all(STDOUT_FILENO, &[b'p', b'l', b'a', b'i', b'n']);
+        }
+        Call::QuickChange => {
+            io::write_all(STDOUT_FILENO, &[b'q', b'u', b'i', b'c', b'k']);
         }
     }
 }

@@ -6,6 +6,7 @@ use keeper::depth::depth;
 use keeper::load::load;
 use keeper::write::write;
 use keeper_change::plain::plain_change;
+use keeper_change::quick::quick_change;
 use prelude::part::part_of;
 use schema::answer::Answer;
 ghost use mathlib.Core.Path.{_≡_};
@@ -56,6 +57,7 @@ fn take_call(
     match call {
         Call::Load => load(bytes, attributes, classes, closure),
         Call::PlainChange => plain_change(attributes, classes, closure, bytes),
+        Call::QuickChange => quick_change(attributes, classes, closure, bytes),
     }
 }
 

@@ -11,6 +11,7 @@ ghost use Rattle.replay.specs.Steps.{Within, calledAt, writeAt, depthAt,
 pub enum Call {
     Load,
     PlainChange,
+    QuickChange,
 }
 
 // One step.
@@ -53,6 +54,8 @@ pub const LOAD: u8 = 0x01;
 
 pub const PLAIN_CHANGE: u8 = 0x02;
 
+pub const QUICK_CHANGE: u8 = 0x03;
+
 pub const AUDIT: u8 = 0x04;
 
 pub const WRITE: u8 = 0x05;
@@ -63,7 +66,7 @@ pub const POKE: u8 = 0x07;
 
 pub const RESIZE: u8 = 0x08;
 
-// "01 load (u32 length, sheet), 02 plain change (u32 length, change)"
+// "01 load (u32 length, sheet), 02 plain change (u32 length, change), 03 quick change (the same)"
 fn read_called(call: Call, s: &[u8], at: usize) -> Turn
     requires { ⌜ at < length (now s) ⌝ }
     ensures { λ r. ⌜ (r ≡ calledAt call (now (s .entry)) at) × Within (now (s .entry)) at r ⌝ }
@@ -174,6 +177,9 @@ pub fn read_turn(s: &[u8], at: usize) -> Turn
     }
     if code == PLAIN_CHANGE {
         return read_called(Call::PlainChange, s, at);
+    }
+    if code == QUICK_CHANGE {
+        return read_called(Call::QuickChange, s, at);
     }
     if code == AUDIT {
         return Turn::On {

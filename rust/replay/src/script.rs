@@ -19,7 +19,7 @@ const MOST_POKES: usize = 60;
 pub enum Kind {
     /// Every step of the format.
     Whole,
-    /// What the Rattle player plays: no quick changes, and nothing over 64 KiB.
+    /// What the Rattle player plays: nothing over 64 KiB.
     Small,
 }
 
@@ -63,17 +63,23 @@ impl Script {
 
     fn plan(&mut self) {
         let empty = self.player.stores().schema().is_empty();
-        match self.random.below(100) {
-            _ if empty && self.random.once_in(2) => self.plan_sound_load(),
-            _ if self.is_changed_again() => self.plan_change(Step::Plain),
+        let chance = self.random.below(100);
+        if empty && self.random.once_in(2) {
+            return self.plan_sound_load();
+        }
+        if let Some(step) = self.change_again() {
+            return self.plan_change(step);
+        }
+        match chance {
             0..=4 => self.plan_load(),
             5..=6 => self.plan_sound_load(),
             7..=29 => self.plan_change(Step::Plain),
             30..=72 if self.kind == Kind::Whole => self.plan_change(Step::Quick),
-            30..=37 => self.plan_load(),
-            38..=54 => self.plan_disorder_asked(),
-            55..=60 => self.plan_write(),
-            61..=66 => self.plan_depth(),
+            30..=48 => self.plan_change(Step::Quick),
+            49..=54 => self.plan_load(),
+            55..=64 => self.plan_disorder_asked(),
+            65..=68 => self.plan_write(),
+            69..=72 => self.plan_depth(),
             73..=79 => self.planned.push_back(Step::Audit),
             80..=84 => self.plan_write(),
             85..=89 => self.plan_depth(),
@@ -83,11 +89,20 @@ impl Script {
         }
     }
 
-    /// Whether a small script goes on with changes: mostly, while the stores
-    /// are in order, since a plain change says nothing but 3 of others.
-    fn is_changed_again(&mut self) -> bool {
-        let small = self.kind == Kind::Small;
-        small && self.player.stores().audit().number == 0 && !self.random.once_in(6)
+    /// The change that a small script goes on with, as it mostly does: plain or
+    /// quick while the stores are in order, quick while they are only in shape,
+    /// since a plain change says nothing but 3 of those.
+    fn change_again(&mut self) -> Option<fn(Vec<u8>) -> Step> {
+        if self.kind == Kind::Whole {
+            return None;
+        }
+        match self.player.stores().audit().number {
+            1 | 2 => None,
+            0 if self.random.once_in(6) => None,
+            0 if self.random.once_in(2) => Some(Step::Plain),
+            3.. if self.random.once_in(3) => None,
+            _ => Some(Step::Quick),
+        }
     }
 
     fn plan_load(&mut self) {
@@ -183,7 +198,7 @@ impl Script {
         match self.random.below(4) {
             0 => self.plan_load(),
             1 => self.plan_change(Step::Plain),
-            2 if self.kind == Kind::Whole => self.plan_change(Step::Quick),
+            2 => self.plan_change(Step::Quick),
             _ => self
                 .planned
                 .extend([Step::Audit, Step::Depth(0), Step::Write(100)]),

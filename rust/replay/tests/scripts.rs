@@ -129,15 +129,22 @@ fn pokes_and_resizes() {
 }
 
 #[test]
-fn a_small_script_holds_no_quick_changes_and_nothing_over_its_limit() {
+fn a_small_script_has_all_steps_and_nothing_over_its_limit() {
+    let mut names = BTreeSet::new();
     for step in Script::new(4, Kind::Small).take(2000) {
-        let small = match step {
-            Step::Quick(_) => false,
-            Step::Write(length) | Step::Resize { length, .. } => length <= replay::SMALL,
-            _ => true,
-        };
-        assert!(small);
+        names.insert(step.name());
+        if let Step::Write(length) | Step::Resize { length, .. } = step {
+            assert!(length <= replay::SMALL);
+        }
     }
+    assert_eq!(names.len(), 8);
+}
+
+/// The numbers that a call gives in these lines.
+fn numbers<'a>(lines: &'a str, name: &str) -> BTreeSet<&'a str> {
+    let words = lines.lines().map(|line| line.split(' '));
+    let named = words.filter_map(|mut words| words.next().filter(|w| *w == name).and(words.next()));
+    named.collect()
 }
 
 /// The script that the Rattle player plays in the gate, and the output that it
@@ -155,9 +162,8 @@ fn the_stored_output_is_what_the_reference_plays() {
     assert!(script.len() <= replay::SMALL as usize);
     assert_eq!(lines.collect::<String>(), stored);
     assert!(stored.lines().count() > 200);
-    let plain: BTreeSet<&str> = stored
-        .lines()
-        .filter_map(|line| line.strip_prefix("plain ")?.split(' ').next())
-        .collect();
-    assert!(plain.contains("0") && plain.len() > 20);
+    for name in ["plain", "quick"] {
+        let met = numbers(&stored, name);
+        assert!(met.contains("0") && met.len() > 25);
+    }
 }

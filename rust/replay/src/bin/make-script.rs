@@ -1,6 +1,6 @@
 //! Writes a replay script to standard output: `make-script SEED STEPS`. With
-//! `small` behind it, one that the Rattle player plays: no quick changes, and
-//! cut before the step that would take it over 64 KiB.
+//! `small` behind it, one that the Rattle player plays: cut before the step
+//! that would take it over 64 KiB.
 
 use replay::{Kind, SMALL, Script};
 use std::io::{self, BufWriter, Write};

@@ -14,6 +14,12 @@ enum-told-2 c = search needs
 plain-change-requires : tie.Need-plain-change-requires
 plain-change-requires c κs = search needs
 
+enum-told-3 : tie.Need-enum-told-3
+enum-told-3 c = search needs
+
+quick-change-requires : tie.Need-quick-change-requires
+quick-change-requires c κs = search needs
+
 same-length : tie.Need-same-length
 same-length c = search needs
 
@@ -44,6 +50,21 @@ returns-2 c =
     let c₂ = c₁ .before .before .before .before in
     rw (c₂ .enum-told2 .given .1, ← (c₁ .plain-change .ensures))
 
+same-length-7 : tie.Need-same-length-7
+same-length-7 c = search needs
+
+same-length-8 : tie.Need-same-length-8
+same-length-8 c = search needs
+
+same-length-9 : tie.Need-same-length-9
+same-length-9 c = search needs
+
+returns-3 : tie.Need-returns-3
+returns-3 c =
+    let c₁ = c .before .before .before .before .before .before in
+    let c₂ = c₁ .before .before .before .before in
+    rw (c₂ .enum-told3 .given .1, ← (c₁ .quick-change .ensures))
+
 pub take-call-spec : {M : Type 1} → statement M
 take-call-spec =
     tie.close
@@ -52,6 +73,8 @@ take-call-spec =
     load-requires
     enum-told-2
     plain-change-requires
+    enum-told-3
+    quick-change-requires
     same-length
     same-length-2
     same-length-3
@@ -59,4 +82,8 @@ take-call-spec =
     same-length-4
     same-length-5
     same-length-6
-    returns-2)
+    returns-2
+    same-length-7
+    same-length-8
+    same-length-9
+    returns-3)

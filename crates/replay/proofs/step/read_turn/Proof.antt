@@ -26,11 +26,17 @@ unfolding turnAt
 returns-2 c =
     let c₁ = c .before in
     let c₂ = c₁ .before in
-    let c₃ = c₂ .before in
-    (rw (← (c₃ .byte-at .ensures), ne-eqb _ _ (c₂ .if1 .left), eq-eqb _ _ (c₁ .if2 .taken)) (c .read-called2 .ensures .0), c .read-called2 .ensures .1)
+    let c₃ = c₂ .before in (
+      rw (
+        ← (c₃ .byte-at .ensures),
+        ne-eqb _ _ (c₂ .if1 .left),
+        eq-eqb _ _ (c₁ .if2 .taken),
+      ) (c .read-called2 .ensures .0),
+      c .read-called2 .ensures .1,
+    )
 
-add-t8 : tie.Need-add-t8
-add-t8 c = search needs
+read-called-requires-3 : tie.Need-read-called-requires-3
+read-called-requires-3 c κs = search needs
 
 returns-3 : tie.Need-returns-3
 unfolding turnAt
@@ -38,10 +44,18 @@ returns-3 c =
     let c₁ = c .before in
     let c₂ = c₁ .before in
     let c₃ = c₂ .before in
-    (rw (← (c₃ .byte-at .ensures), ne-eqb _ _ (c₂ .if1 .left), ne-eqb _ _ (c₁ .if2 .left), eq-eqb _ _ (c .if3 .taken)), (omega arith, omega arith, tt))
+    let c₄ = c₃ .before in (
+      rw (
+        ← (c₄ .byte-at .ensures),
+        ne-eqb _ _ (c₃ .if1 .left),
+        ne-eqb _ _ (c₂ .if2 .left),
+        eq-eqb _ _ (c₁ .if3 .taken),
+      ) (c .read-called3 .ensures .0),
+      c .read-called3 .ensures .1,
+    )
 
-read-write-requires : tie.Need-read-write-requires
-read-write-requires c κs = search needs
+add-t9 : tie.Need-add-t9
+add-t9 c = search needs
 
 returns-4 : tie.Need-returns-4
 unfolding turnAt
@@ -49,12 +63,19 @@ returns-4 c =
     let c₁ = c .before in
     let c₂ = c₁ .before in
     let c₃ = c₂ .before in
-    let c₄ = c₃ .before in
-    let c₅ = c₄ .before in
-    (rw (← (c₅ .byte-at .ensures), ne-eqb _ _ (c₄ .if1 .left), ne-eqb _ _ (c₃ .if2 .left), ne-eqb _ _ (c₂ .if3 .left), eq-eqb _ _ (c₁ .if4 .taken)) (c .read-write .ensures .0), c .read-write .ensures .1)
+    let c₄ = c₃ .before in (
+      rw (
+        ← (c₄ .byte-at .ensures),
+        ne-eqb _ _ (c₃ .if1 .left),
+        ne-eqb _ _ (c₂ .if2 .left),
+        ne-eqb _ _ (c₁ .if3 .left),
+        eq-eqb _ _ (c .if4 .taken),
+      ),
+      (omega arith, omega arith, tt),
+    )
 
-read-depth-requires : tie.Need-read-depth-requires
-read-depth-requires c κs = search needs
+read-write-requires : tie.Need-read-write-requires
+read-write-requires c κs = search needs
 
 returns-5 : tie.Need-returns-5
 unfolding turnAt
@@ -64,11 +85,20 @@ returns-5 c =
     let c₃ = c₂ .before in
     let c₄ = c₃ .before in
     let c₅ = c₄ .before in
-    let c₆ = c₅ .before in
-    (rw (← (c₆ .byte-at .ensures), ne-eqb _ _ (c₅ .if1 .left), ne-eqb _ _ (c₄ .if2 .left), ne-eqb _ _ (c₃ .if3 .left), ne-eqb _ _ (c₂ .if4 .left), eq-eqb _ _ (c₁ .if5 .taken)) (c .read-depth .ensures .0), c .read-depth .ensures .1)
+    let c₆ = c₅ .before in (
+      rw (
+        ← (c₆ .byte-at .ensures),
+        ne-eqb _ _ (c₅ .if1 .left),
+        ne-eqb _ _ (c₄ .if2 .left),
+        ne-eqb _ _ (c₃ .if3 .left),
+        ne-eqb _ _ (c₂ .if4 .left),
+        eq-eqb _ _ (c₁ .if5 .taken),
+      ) (c .read-write .ensures .0),
+      c .read-write .ensures .1,
+    )
 
-read-poke-requires : tie.Need-read-poke-requires
-read-poke-requires c κs = search needs
+read-depth-requires : tie.Need-read-depth-requires
+read-depth-requires c κs = search needs
 
 returns-6 : tie.Need-returns-6
 unfolding turnAt
@@ -79,11 +109,21 @@ returns-6 c =
     let c₄ = c₃ .before in
     let c₅ = c₄ .before in
     let c₆ = c₅ .before in
-    let c₇ = c₆ .before in
-    (rw (← (c₇ .byte-at .ensures), ne-eqb _ _ (c₆ .if1 .left), ne-eqb _ _ (c₅ .if2 .left), ne-eqb _ _ (c₄ .if3 .left), ne-eqb _ _ (c₃ .if4 .left), ne-eqb _ _ (c₂ .if5 .left), eq-eqb _ _ (c₁ .if6 .taken)) (c .read-poke .ensures .0), c .read-poke .ensures .1)
+    let c₇ = c₆ .before in (
+      rw (
+        ← (c₇ .byte-at .ensures),
+        ne-eqb _ _ (c₆ .if1 .left),
+        ne-eqb _ _ (c₅ .if2 .left),
+        ne-eqb _ _ (c₄ .if3 .left),
+        ne-eqb _ _ (c₃ .if4 .left),
+        ne-eqb _ _ (c₂ .if5 .left),
+        eq-eqb _ _ (c₁ .if6 .taken),
+      ) (c .read-depth .ensures .0),
+      c .read-depth .ensures .1,
+    )
 
-read-resize-requires : tie.Need-read-resize-requires
-read-resize-requires c κs = search needs
+read-poke-requires : tie.Need-read-poke-requires
+read-poke-requires c κs = search needs
 
 returns-7 : tie.Need-returns-7
 unfolding turnAt
@@ -95,8 +135,22 @@ returns-7 c =
     let c₅ = c₄ .before in
     let c₆ = c₅ .before in
     let c₇ = c₆ .before in
-    let c₈ = c₇ .before in
-    (rw (← (c₈ .byte-at .ensures), ne-eqb _ _ (c₇ .if1 .left), ne-eqb _ _ (c₆ .if2 .left), ne-eqb _ _ (c₅ .if3 .left), ne-eqb _ _ (c₄ .if4 .left), ne-eqb _ _ (c₃ .if5 .left), ne-eqb _ _ (c₂ .if6 .left), eq-eqb _ _ (c₁ .if7 .taken)) (c .read-resize .ensures .0), c .read-resize .ensures .1)
+    let c₈ = c₇ .before in (
+      rw (
+        ← (c₈ .byte-at .ensures),
+        ne-eqb _ _ (c₇ .if1 .left),
+        ne-eqb _ _ (c₆ .if2 .left),
+        ne-eqb _ _ (c₅ .if3 .left),
+        ne-eqb _ _ (c₄ .if4 .left),
+        ne-eqb _ _ (c₃ .if5 .left),
+        ne-eqb _ _ (c₂ .if6 .left),
+        eq-eqb _ _ (c₁ .if7 .taken),
+      ) (c .read-poke .ensures .0),
+      c .read-poke .ensures .1,
+    )
+
+read-resize-requires : tie.Need-read-resize-requires
+read-resize-requires c κs = search needs
 
 returns-8 : tie.Need-returns-8
 unfolding turnAt
@@ -108,7 +162,46 @@ returns-8 c =
     let c₅ = c₄ .before in
     let c₆ = c₅ .before in
     let c₇ = c₆ .before in
-    (rw (← (c₇ .byte-at .ensures), ne-eqb _ _ (c₆ .if1 .left), ne-eqb _ _ (c₅ .if2 .left), ne-eqb _ _ (c₄ .if3 .left), ne-eqb _ _ (c₃ .if4 .left), ne-eqb _ _ (c₂ .if5 .left), ne-eqb _ _ (c₁ .if6 .left), ne-eqb _ _ (c .if7 .left)), tt)
+    let c₈ = c₇ .before in
+    let c₉ = c₈ .before in (
+      rw (
+        ← (c₉ .byte-at .ensures),
+        ne-eqb _ _ (c₈ .if1 .left),
+        ne-eqb _ _ (c₇ .if2 .left),
+        ne-eqb _ _ (c₆ .if3 .left),
+        ne-eqb _ _ (c₅ .if4 .left),
+        ne-eqb _ _ (c₄ .if5 .left),
+        ne-eqb _ _ (c₃ .if6 .left),
+        ne-eqb _ _ (c₂ .if7 .left),
+        eq-eqb _ _ (c₁ .if8 .taken),
+      ) (c .read-resize .ensures .0),
+      c .read-resize .ensures .1,
+    )
+
+returns-9 : tie.Need-returns-9
+unfolding turnAt
+returns-9 c =
+    let c₁ = c .before in
+    let c₂ = c₁ .before in
+    let c₃ = c₂ .before in
+    let c₄ = c₃ .before in
+    let c₅ = c₄ .before in
+    let c₆ = c₅ .before in
+    let c₇ = c₆ .before in
+    let c₈ = c₇ .before in (
+      rw (
+        ← (c₈ .byte-at .ensures),
+        ne-eqb _ _ (c₇ .if1 .left),
+        ne-eqb _ _ (c₆ .if2 .left),
+        ne-eqb _ _ (c₅ .if3 .left),
+        ne-eqb _ _ (c₄ .if4 .left),
+        ne-eqb _ _ (c₃ .if5 .left),
+        ne-eqb _ _ (c₂ .if6 .left),
+        ne-eqb _ _ (c₁ .if7 .left),
+        ne-eqb _ _ (c .if8 .left),
+      ),
+      tt,
+    )
 
 pub read-turn-spec : {M : Type 1} → statement M
 read-turn-spec =
@@ -119,14 +212,16 @@ read-turn-spec =
     returns
     read-called-requires-2
     returns-2
-    add-t8
+    read-called-requires-3
     returns-3
-    read-write-requires
+    add-t9
     returns-4
-    read-depth-requires
+    read-write-requires
     returns-5
-    read-poke-requires
+    read-depth-requires
     returns-6
-    read-resize-requires
+    read-poke-requires
     returns-7
-    returns-8)
+    read-resize-requires
+    returns-8
+    returns-9)
