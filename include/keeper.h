@@ -52,7 +52,8 @@ extern "C" {
 
 /*
  * So many bytes of stack are enough for every call. This is measured, not proved: the most was some 36,400 bytes, for
- * a plain change of a full schema in which each class names all others (docs/LAYOUT.md).
+ * a plain change of a full schema in which each class names all others; a quick change takes at most as much, and but
+ * for removals some 5,800 (docs/LAYOUT.md).
  */
 #define KEEPER_STACK 65536
 
