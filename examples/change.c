@@ -1,16 +1,18 @@
 /*
- * Loads a sheet, makes one plain change to the schema, and saves it as a sheet.
+ * Loads a sheet, makes one change to the schema, and saves it as a sheet.
  *
  *     rt staticlib keeper_c
  *     cc -Iinclude examples/change.c target/staticlib/libkeeper_c.a -o target/change
- *     target/change samples/forest.sheet target/renamed.sheet 43 0010 20 0002 0011 01 0008 776F6F6465644861
+ *     target/change plain samples/forest.sheet target/renamed.sheet 43 0010 20 0002 0011 01 0008 776F6F6465644861
  *
- * The change is given in hex digits, parted by spaces as one likes: docs/FORMAT.md shows changes so. This one names
+ * The first word says which call makes the change, plain or quick: from stores just loaded both give the same. The
+ * change is given in hex digits, parted by spaces as one likes: docs/FORMAT.md shows changes so. This one names
  * attribute 17 `woodedHa`. Exits with 0 if the change is done and the sheet is saved, 1 if the sheet or the change is
  * refused (no sheet is saved then), 2 if the words or the files are not as they should be.
  */
 #include <inttypes.h>
 #include <stdio.h>
+#include <string.h>
 
 #include "keeper.h"
 
@@ -101,16 +103,30 @@ static int read_change(int count, char **words, size_t *length)
     return 1;
 }
 
+/* Makes `change` to the stores by the call of that name, and says what it came to. Returns the number. */
+static uint64_t make_change(const char *call, size_t length)
+{
+    uint64_t detail[KEEPER_DETAIL_LENGTH] = {0};
+    int quick = strcmp(call, "quick") == 0;
+    uint64_t number =
+        quick ? keeper_quick_change(change, length, attributes, sizeof attributes, classes, sizeof classes,
+                                    closure, sizeof closure, detail, KEEPER_DETAIL_LENGTH)
+              : keeper_plain_change(change, length, attributes, sizeof attributes, classes, sizeof classes,
+                                    closure, sizeof closure, detail, KEEPER_DETAIL_LENGTH);
+    say(quick ? "quick change" : "plain change", number, detail);
+    return number;
+}
+
 int main(int count, char **words)
 {
     uint64_t detail[KEEPER_DETAIL_LENGTH] = {0};
     size_t length = 0;
     size_t change_length = 0;
-    if (count < 3) {
-        fprintf(stderr, "change SHEET NEW-SHEET HEX-DIGITS..\n");
+    if (count < 4 || (strcmp(words[1], "plain") != 0 && strcmp(words[1], "quick") != 0)) {
+        fprintf(stderr, "change plain|quick SHEET NEW-SHEET HEX-DIGITS..\n");
         return 2;
     }
-    if (!read_sheet(words[1], &length) || !read_change(count - 3, words + 3, &change_length))
+    if (!read_sheet(words[2], &length) || !read_change(count - 4, words + 4, &change_length))
         return 2;
 
     uint64_t number = keeper_load(sheet, length, attributes, sizeof attributes, classes, sizeof classes,
@@ -119,10 +135,7 @@ int main(int count, char **words)
     if (number != KEEPER_DONE)
         return 1;
 
-    number = keeper_plain_change(change, change_length, attributes, sizeof attributes, classes, sizeof classes,
-                                 closure, sizeof closure, detail, KEEPER_DETAIL_LENGTH);
-    say("plain change", number, detail);
-    if (number != KEEPER_DONE)
+    if (make_change(words[1], change_length) != KEEPER_DONE)
         return 1;
 
     number = keeper_write(attributes, sizeof attributes, classes, sizeof classes, closure, sizeof closure,
@@ -130,5 +143,5 @@ int main(int count, char **words)
     say("write", number, detail);
     if (number != KEEPER_DONE)
         return 1;
-    return save_sheet(words[2], (size_t)detail[1]) ? 0 : 2;
+    return save_sheet(words[3], (size_t)detail[1]) ? 0 : 2;
 }

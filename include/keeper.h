@@ -52,7 +52,8 @@ extern "C" {
 
 /*
  * So many bytes of stack are enough for every call. This is measured, not proved: the most was some 36,400 bytes, for
- * a plain change of a full schema in which each class names all others (docs/LAYOUT.md).
+ * a plain change of a full schema in which each class names all others; a quick change takes at most as much, and but
+ * for removals some 5,800 (docs/LAYOUT.md).
  */
 #define KEEPER_STACK 65536
 
@@ -76,7 +77,7 @@ extern "C" {
 #define KEEPER_BROKEN_SHAPE 2       /* counts, rows or unused rows hold bytes that no load could have left there */
 /*
  * 3 has two meanings. Audit: every row is fine, but the closure store is not what the rows give. Plain change: an audit
- * would not give 0, for that reason or because a row breaks a rule.
+ * would not give 0, for that reason or because a row breaks a rule. A quick change never gives 3.
  */
 #define KEEPER_NOT_IN_ORDER 3
 #define KEEPER_UNREADABLE 4         /* the sheet or the change cannot be read; place: the byte offset */
@@ -166,6 +167,28 @@ uint64_t keeper_audit(const uint8_t *attributes, size_t attributes_length,
  * the place of 4.
  */
 uint64_t keeper_plain_change(const uint8_t *change, size_t change_length,
+                             uint8_t *attributes, size_t attributes_length,
+                             uint8_t *classes, size_t classes_length,
+                             uint8_t *closure, size_t closure_length,
+                             uint64_t *detail, size_t detail_length);
+
+/*
+ * Quick change: the same change as keeper_plain_change, judged at the changed row alone.
+ * What it does not check: whether the stores are in order. Of them it checks shape only, and of the rules only the row
+ * that the change alters or adds, against all rows; what the other rows break stays as it is, and the closure store is
+ * taken at its word. So it is for stores that a load accepted and that only these calls have changed since.
+ * On such stores it is proved to give, change after change, what the plain change gives, in every answer and every
+ * byte (demand 3, docs/PROOFS.md). On any others it still gives one fixed answer, touches no byte past the lengths,
+ * and refused alters nothing; but what it leaves may be out of order, as what it was given.
+ *   0       done: only this change is made; table and place: the row changed or added
+ *   1, 2    the stores are too short, or out of shape
+ *   4       the change cannot be read; place: the byte offset
+ *   5..11   the row that it asks for cannot be changed or added so
+ *   12..29  the changed row breaks a rule: the smallest number
+ *   30      the class would demand other attributes than before
+ * It never gives 3. Refused, no byte of any store is altered, and table and place are 0 but for the place of 4.
+ */
+uint64_t keeper_quick_change(const uint8_t *change, size_t change_length,
                              uint8_t *attributes, size_t attributes_length,
                              uint8_t *classes, size_t classes_length,
                              uint8_t *closure, size_t closure_length,

@@ -19,6 +19,8 @@ pub enum Call {
     Audit,
     /// This plain change.
     Plain(Vec<u8>),
+    /// This quick change.
+    Quick(Vec<u8>),
     /// The depth of this class.
     Depth(u16),
 }
@@ -31,6 +33,7 @@ impl Call {
             Call::Write(_) => "write",
             Call::Audit => "audit",
             Call::Plain(_) => "plain",
+            Call::Quick(_) => "quick",
             Call::Depth(_) => "depth",
         }
     }
@@ -57,6 +60,11 @@ impl Case {
         }
     }
 
+    /// Whether it is a quick change of stores that are in shape and not in order.
+    pub fn is_quick_on_disorder(&self) -> bool {
+        matches!(self.call, Call::Quick(_)) && self.stores.audit().number > 2
+    }
+
     /// Plays the case with a keeper.
     pub fn play(&self, keeper: &impl Keeper) -> Outcome {
         let mut detail = vec![UNTOLD; self.detail];
@@ -70,6 +78,7 @@ impl Case {
             Call::Write(_) => keeper.write(lent(&stores), &mut output, &mut detail),
             Call::Audit => keeper.audit(lent(&stores), &mut detail),
             Call::Plain(change) => keeper.plain_change(change, lent_mut(&mut stores), &mut detail),
+            Call::Quick(change) => keeper.quick_change(change, lent_mut(&mut stores), &mut detail),
             Call::Depth(class) => keeper.depth(lent(&stores), *class, &mut detail),
         };
         Outcome {

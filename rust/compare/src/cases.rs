@@ -3,6 +3,7 @@
 use crate::case::{Call, Case};
 use crate::lists;
 use crate::page;
+use crate::pokes;
 use generate::stores::{self, PAST};
 use generate::{Random, Stores, changes, sheets};
 use reference::layout::{ATTRIBUTE_STORE, CLASS_STORE, CLOSURE_STORE};
@@ -17,21 +18,25 @@ const WHOLE: &[u8] = &[
 ];
 
 /// The sample of the repository.
-const FOREST: &[u8] = include_bytes!("../../../samples/forest.sheet");
+pub const FOREST: &[u8] = include_bytes!("../../../samples/forest.sheet");
 
-/// So many inputs the families in full have.
-pub const EXPECTED: usize =
-    256 * WHOLE.len() + (FOREST.len() + 1) + POKED * 4 * POKES.len() + page::EXPECTED;
+/// So many inputs there are: the families in full, and those at random, of which
+/// there are four for each that is asked for.
+pub const fn expected(count: usize) -> usize {
+    let families = 256 * WHOLE.len() + (FOREST.len() + 1) + pokes::EXPECTED + page::EXPECTED;
+    families + 4 * count
+}
 
-/// All inputs, the same for the same seed: so many of every call, and as many
-/// changes in lists.
+/// All inputs, the same for the same seed: so many of every call, as many plain
+/// changes in lists, and twice as many quick changes in lists.
 pub fn cases(seed: u64, count: usize) -> impl Iterator<Item = Case> {
     let random = (0..count as u64).map(move |number| any(&mut Random::nth(seed, number)));
     random
-        .chain(lists::all(seed).take(count))
+        .chain(lists::plain(seed).take(count))
+        .chain(lists::quick(seed).take(2 * count))
         .chain(every_byte())
         .chain(every_prefix())
-        .chain(every_poke())
+        .chain(pokes::all())
         .chain(page::every_byte())
         .chain(page::every_prefix())
 }
@@ -56,47 +61,15 @@ fn every_prefix() -> impl Iterator<Item = Case> {
     })
 }
 
-/// So many bytes at the front of the stores are poked: counts and two rows.
-const POKED: usize = (2 + 2 * 189) + (2 + 2 * 315) + 2 * 80;
-
-/// Each is poked with these.
-const POKES: [u8; 8] = [0x00, 0x01, 0x02, 0x0A, 0x40, 0x41, 0x7F, 0xFF];
-
-/// A change that the forest accepts: attribute 17 is named `woodedHa`.
-const RENAMING: &[u8] = b"\x43\x00\x10\x20\x00\x02\x00\x11\x01\x00\x08woodedHa";
-
-/// The forest's stores with a byte poked, asked by every call that reads them.
-fn every_poke() -> impl Iterator<Item = Case> {
-    let mut forest = Stores::default();
-    forest.load(FOREST);
-    let fronts = [(0, 2 + 2 * 189), (1, 2 + 2 * 315), (2, 2 * 80)];
-    let places = fronts
-        .into_iter()
-        .flat_map(|(store, front)| (0..front).map(move |place| (store, place)));
-    let pokes = places.flat_map(|place| POKES.map(|byte| (place, byte)));
-    pokes.flat_map(move |((store, place), byte)| {
-        let mut stores = forest.clone();
-        if let Some(bytes) = stores.store_mut(store) {
-            bytes[place] = byte;
-        }
-        let calls = [
-            Call::Audit,
-            Call::Write(FOREST.len()),
-            Call::Depth(19),
-            Call::Plain(RENAMING.to_vec()),
-        ];
-        calls.map(|call| Case::new(call, stores.clone()))
-    })
-}
-
 /// An input of any kind.
 fn any(random: &mut Random) -> Case {
     let stores = any_stores(random);
-    let call = match random.below(12) {
+    let call = match random.below(14) {
         0..=3 => Call::Load(any_sheet(random)),
         4..=5 => Call::Write(any_length(random, &stores)),
         6..=7 => Call::Audit,
         8..=9 => Call::Plain(changes::any(random, &stores.schema())),
+        10..=11 => Call::Quick(changes::any(random, &stores.schema())),
         _ => Call::Depth(any_class(random, &stores)),
     };
     let mut case = Case::new(call, stores);

@@ -39,6 +39,9 @@ pub trait Keeper {
     /// `keeper_plain_change`
     fn plain_change(&self, change: &[u8], stores: LentMut<'_>, detail: &mut [u64]) -> u64;
 
+    /// `keeper_quick_change`
+    fn quick_change(&self, change: &[u8], stores: LentMut<'_>, detail: &mut [u64]) -> u64;
+
     /// `keeper_depth`
     fn depth(&self, stores: Lent<'_>, class: u16, detail: &mut [u64]) -> u64;
 }
@@ -80,6 +83,12 @@ impl Keeper for Reference {
     fn plain_change(&self, change: &[u8], s: LentMut<'_>, detail: &mut [u64]) -> u64 {
         tell(detail, || {
             reference::plain_change(s.attributes, s.classes, s.closure, change)
+        })
+    }
+
+    fn quick_change(&self, change: &[u8], s: LentMut<'_>, detail: &mut [u64]) -> u64 {
+        tell(detail, || {
+            reference::quick_change(s.attributes, s.classes, s.closure, change)
         })
     }
 

@@ -10,13 +10,16 @@ mod keeper;
 pub mod linked;
 mod listings;
 mod lists;
+mod long;
 mod outcome;
 mod page;
+mod pokes;
 mod run;
 
 pub use case::{Call, Case};
-pub use cases::{EXPECTED, cases};
+pub use cases::{cases, expected};
 pub use keeper::{Keeper, Lent, LentMut, Reference};
 pub use listings::{Listings, compare_listings};
+pub use long::{LENGTH, LongLists, compare_long};
 pub use outcome::{Difference, Outcome};
 pub use run::{Report, compare};

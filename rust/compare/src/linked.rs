@@ -24,6 +24,10 @@ impl Keeper for Declared {
         keeper::c::plain_change(change, s.attributes, s.classes, s.closure, detail)
     }
 
+    fn quick_change(&self, change: &[u8], s: LentMut<'_>, detail: &mut [u64]) -> u64 {
+        keeper::c::quick_change(change, s.attributes, s.classes, s.closure, detail)
+    }
+
     fn depth(&self, s: Lent<'_>, class: u16, detail: &mut [u64]) -> u64 {
         keeper::c::depth(s.attributes, s.classes, s.closure, class, detail)
     }
@@ -75,6 +79,17 @@ impl Keeper for Wrapped {
                 closure,
             } = s;
             same(keeper::plain_change(change, attributes, classes, closure))
+        })
+    }
+
+    fn quick_change(&self, change: &[u8], s: LentMut<'_>, detail: &mut [u64]) -> u64 {
+        tell(detail, || {
+            let LentMut {
+                attributes,
+                classes,
+                closure,
+            } = s;
+            same(keeper::quick_change(change, attributes, classes, closure))
         })
     }
 

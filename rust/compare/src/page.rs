@@ -36,8 +36,9 @@ const CHANGES: [&str; 11] = [
 /// All bytes of the changes.
 const BYTES: usize = 254;
 
-/// So many inputs there are: each byte with each value, and each cut.
-pub const EXPECTED: usize = 256 * BYTES + (BYTES + CHANGES.len());
+/// So many inputs there are: each byte with each value, and each cut, by the
+/// plain and by the quick call.
+pub const EXPECTED: usize = 2 * (256 * BYTES + (BYTES + CHANGES.len()));
 
 /// Bytes in hex digits, with spaces anywhere.
 fn hex(text: &str) -> Vec<u8> {
@@ -61,14 +62,20 @@ fn accepted() -> impl Iterator<Item = (Stores, Vec<u8>)> {
     })
 }
 
+/// A change by the plain and by the quick call.
+fn by_both(stores: &Stores, change: &[u8]) -> [Case; 2] {
+    let calls = [Call::Plain(change.to_vec()), Call::Quick(change.to_vec())];
+    calls.map(|call| Case::new(call, stores.clone()))
+}
+
 /// Each change with each byte replaced by each value.
 pub fn every_byte() -> impl Iterator<Item = Case> {
     accepted().flat_map(|(stores, change)| {
         let bytes = (0..change.len()).flat_map(|place| (0..=255).map(move |byte| (place, byte)));
-        bytes.map(move |(place, byte)| {
+        bytes.flat_map(move |(place, byte)| {
             let mut change = change.clone();
             change[place] = byte;
-            Case::new(Call::Plain(change), stores.clone())
+            by_both(&stores, &change)
         })
     })
 }
@@ -76,10 +83,7 @@ pub fn every_byte() -> impl Iterator<Item = Case> {
 /// Each change cut at each place.
 pub fn every_prefix() -> impl Iterator<Item = Case> {
     accepted().flat_map(|(stores, change)| {
-        (0..=change.len()).map(move |length| {
-            let cut = change[..length].to_vec();
-            Case::new(Call::Plain(cut), stores.clone())
-        })
+        (0..=change.len()).flat_map(move |length| by_both(&stores, &change[..length]))
     })
 }
 

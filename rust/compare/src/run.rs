@@ -14,6 +14,8 @@ pub struct Report {
     pub coverage: Coverage,
     /// How many inputs were compared.
     pub inputs: usize,
+    /// How many of them are quick changes of stores in shape and not in order.
+    pub disordered: usize,
     /// The differences found, each with the input's number and call.
     pub differences: Vec<String>,
 }
@@ -25,6 +27,7 @@ pub fn compare(keeper: &impl Keeper, expected: &impl Keeper, seed: u64, count: u
         let got = case.play(keeper);
         let name = case.call.name();
         report.inputs += 1;
+        report.disordered += usize::from(case.is_quick_on_disorder());
         report.coverage.note(name, got.number);
         if let Some(difference) = got.differs(&case.play(expected)) {
             let line = format!("input {number}, {name}: {difference}");

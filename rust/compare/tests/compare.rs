@@ -1,23 +1,35 @@
 //! The comparison finds what it is there to find, without the library linked.
 
-use compare::{EXPECTED, Keeper, Lent, LentMut, Reference, compare};
+use compare::{Keeper, Lent, LentMut, Reference, compare, expected};
 use generate::Stores;
 use generate::coverage::may_give;
 
 /// So many inputs `rust/run` makes at random, from seed 1.
 const COUNT: usize = 20_000;
 
-/// At least so often every number is met that a plain change may give.
+/// At least so often every number is met that a plain or a quick change may
+/// give.
 const OFTEN: u64 = 20;
+
+/// At least so many quick changes are made, and so many of them to stores in
+/// shape that are not in order.
+const QUICK: u64 = 100_000;
+const DISORDERED: usize = 30_000;
 
 #[test]
 fn the_reference_does_not_differ_from_itself_and_every_number_is_reached() {
     let report = compare(&Reference, &Reference, 1, COUNT);
     println!("{}", report.coverage);
     assert_eq!(report.differences, Vec::<String>::new());
-    assert_eq!(report.inputs, EXPECTED + 2 * COUNT);
-    for call in ["load", "write", "audit", "plain", "depth"] {
-        let least = if call == "plain" { OFTEN } else { 1 };
+    assert_eq!(report.inputs, expected(COUNT));
+    let quick: u64 = (0..=31)
+        .map(|number| report.coverage.count("quick", number))
+        .sum();
+    println!("{quick} quick changes, {} on disorder", report.disordered);
+    assert!(quick >= QUICK && report.disordered >= DISORDERED);
+    for call in ["load", "write", "audit", "plain", "quick", "depth"] {
+        let is_change = matches!(call, "plain" | "quick");
+        let least = if is_change { OFTEN } else { 1 };
         for number in 0..=40 {
             let count = report.coverage.count(call, number);
             let expected = may_give(call, number);
@@ -122,6 +134,10 @@ impl Keeper for Wrong {
             stores.closure.copy_from_slice(&made.closure);
         }
         self.plain_number(number)
+    }
+
+    fn quick_change(&self, change: &[u8], stores: LentMut<'_>, detail: &mut [u64]) -> u64 {
+        Reference.quick_change(change, stores, detail)
     }
 
     fn depth(&self, stores: Lent<'_>, class: u16, detail: &mut [u64]) -> u64 {

@@ -57,6 +57,15 @@ impl Lent {
         keeper::plain_change(&changes::bytes(change), attributes, classes, closure)
     }
 
+    fn quick_change(&mut self, change: &Change) -> Answer {
+        let Lent {
+            attributes,
+            classes,
+            closure,
+        } = self;
+        keeper::quick_change(&changes::bytes(change), attributes, classes, closure)
+    }
+
     fn depth(&self, class: u16) -> Answer {
         keeper::depth(&self.attributes, &self.classes, &self.closure, class)
     }
@@ -115,6 +124,21 @@ fn the_forest_is_changed() {
     assert_eq!(lent.audit(), answer(DONE, 0));
     let told = lent.plain_change(&renamed(19, b"AREAHA"));
     assert_eq!((told.number, told.table, told.place), (0, 1, 19));
+}
+
+/// The quick change gives what the plain one gives, in every answer and byte.
+#[test]
+fn the_forest_is_changed_quickly() {
+    let mut lent = Lent::new();
+    assert_eq!(lent.load(FOREST), answer(DONE, 0));
+    let mut copy = lent.clone();
+    let made: [(u16, &[u8]); 3] = [(19, b"AREAHA"), (17, b"woodedHa"), (19, b"AREAHA")];
+    for (attribute, name) in made {
+        let change = renamed(attribute, name);
+        assert_eq!(lent.quick_change(&change), copy.plain_change(&change));
+        assert!(lent == copy);
+    }
+    assert_eq!(lent.audit(), answer(DONE, 0));
 }
 
 /// All rows below the limit.
@@ -206,15 +230,24 @@ fn deepest() -> Schema {
     }
 }
 
-/// The last class of that schema may have attribute 0, which it demands anyway.
-fn allowed_more() -> Change {
+/// The last class of that schema.
+fn last_class(alteration: Alteration) -> Change {
     Change::Alter {
         target: Row::Class(127),
-        alteration: Alteration::AddEntry {
-            list: OpenList::Optional,
-            entry: 0,
-        },
+        alteration,
     }
+}
+
+/// It may have attribute 0, which it demands anyway.
+fn allowed_more() -> Change {
+    let list = OpenList::Optional;
+    last_class(Alteration::AddEntry { list, entry: 0 })
+}
+
+/// It may no longer have it: the kept sets of all classes are worked out afresh.
+fn allowed_less() -> Change {
+    let list = OpenList::Optional;
+    last_class(Alteration::RemoveEntry { list, entry: 0 })
 }
 
 #[test]
@@ -228,8 +261,13 @@ fn the_stack_named_is_enough_for_the_deepest_schema() {
         assert_eq!(lent.depth(127), answer(DONE, 127));
         assert_eq!(lent.write(&mut output), answer(DONE, sheet.len()));
         assert!(output == sheet);
-        let told = lent.plain_change(&allowed_more());
-        assert_eq!((told.number, told.table, told.place), (0, 2, 127));
+        for change in [allowed_more(), allowed_less()] {
+            let mut copy = lent.clone();
+            let told = copy.plain_change(&change);
+            assert_eq!((told.number, told.table, told.place), (0, 2, 127));
+            assert_eq!(lent.quick_change(&change), told);
+            assert!(lent == copy);
+        }
     };
     let thread = thread::Builder::new().stack_size(keeper::STACK);
     let ended = thread.spawn(calls).map(|thread| thread.join().is_ok());

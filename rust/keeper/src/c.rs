@@ -54,6 +54,19 @@ mod declared {
             detail_length: usize,
         ) -> u64;
 
+        pub fn keeper_quick_change(
+            change: *const u8,
+            change_length: usize,
+            attributes: *mut u8,
+            attributes_length: usize,
+            classes: *mut u8,
+            classes_length: usize,
+            closure: *mut u8,
+            closure_length: usize,
+            detail: *mut u64,
+            detail_length: usize,
+        ) -> u64;
+
         pub fn keeper_depth(
             attributes: *const u8,
             attributes_length: usize,
@@ -147,6 +160,31 @@ pub fn plain_change(
     // SAFETY: as in `load`.
     unsafe {
         declared::keeper_plain_change(
+            change.as_ptr(),
+            change.len(),
+            attributes.as_mut_ptr(),
+            attributes.len(),
+            classes.as_mut_ptr(),
+            classes.len(),
+            closure.as_mut_ptr(),
+            closure.len(),
+            detail.as_mut_ptr(),
+            detail.len(),
+        )
+    }
+}
+
+/// `keeper_quick_change`
+pub fn quick_change(
+    change: &[u8],
+    attributes: &mut [u8],
+    classes: &mut [u8],
+    closure: &mut [u8],
+    detail: &mut [u64],
+) -> u64 {
+    // SAFETY: as in `load`.
+    unsafe {
+        declared::keeper_quick_change(
             change.as_ptr(),
             change.len(),
             attributes.as_mut_ptr(),

@@ -190,7 +190,10 @@ fn brought_in(path: &str) -> Vec<String> {
 /// and no file of laws is among it.
 #[test]
 fn what_must_be_believed_is_what_the_promises_bring_in() {
-    let mut found = vec!["crates/keeper_promises/specs/Promises.antt".to_owned()];
+    let promises = ["Promises", "Demand3"];
+    let mut found = promises
+        .map(|file| format!("crates/keeper_promises/specs/{file}.antt"))
+        .to_vec();
     let mut next = 0;
     while next < found.len() {
         for path in brought_in(&found[next]) {

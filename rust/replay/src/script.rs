@@ -63,9 +63,14 @@ impl Script {
 
     fn plan(&mut self) {
         let empty = self.player.stores().schema().is_empty();
-        match self.random.below(100) {
-            _ if empty && self.random.once_in(2) => self.plan_sound_load(),
-            _ if self.is_changed_again() => self.plan_either_change(),
+        let chance = self.random.below(100);
+        if empty && self.random.once_in(2) {
+            return self.plan_sound_load();
+        }
+        if let Some(step) = self.change_again() {
+            return self.plan_change(step);
+        }
+        match chance {
             0..=4 => self.plan_load(),
             5..=6 => self.plan_sound_load(),
             7..=29 => self.plan_change(Step::Plain),
@@ -84,12 +89,20 @@ impl Script {
         }
     }
 
-    /// Whether a small script goes on with changes, plain and quick ones:
-    /// mostly, while the stores are in order, since a plain change says nothing
-    /// but 3 of others.
-    fn is_changed_again(&mut self) -> bool {
-        let small = self.kind == Kind::Small;
-        small && self.player.stores().audit().number == 0 && !self.random.once_in(6)
+    /// The change that a small script goes on with, as it mostly does: plain or
+    /// quick while the stores are in order, quick while they are only in shape,
+    /// since a plain change says nothing but 3 of those.
+    fn change_again(&mut self) -> Option<fn(Vec<u8>) -> Step> {
+        if self.kind == Kind::Whole {
+            return None;
+        }
+        match self.player.stores().audit().number {
+            1 | 2 => None,
+            0 if self.random.once_in(6) => None,
+            0 if self.random.once_in(2) => Some(Step::Plain),
+            3.. if self.random.once_in(3) => None,
+            _ => Some(Step::Quick),
+        }
     }
 
     fn plan_load(&mut self) {
@@ -106,13 +119,6 @@ impl Script {
         let schema = self.player.stores().schema();
         let change = changes::any(&mut self.random, &schema);
         self.planned.push_back(step(change));
-    }
-
-    fn plan_either_change(&mut self) {
-        match self.random.once_in(2) {
-            true => self.plan_change(Step::Plain),
-            false => self.plan_change(Step::Quick),
-        }
     }
 
     fn plan_write(&mut self) {
