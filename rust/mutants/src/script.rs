@@ -8,33 +8,33 @@ use std::path::{Path, PathBuf};
 use std::process::{Child, Command, Stdio};
 use std::time::{Duration, Instant};
 
-/// A player that takes longer than this has gone astray.
-const PATIENCE: Duration = Duration::from_secs(30);
+/// A player that takes longer than this has gone astray, on a busy machine too.
+const PATIENCE: Duration = Duration::from_secs(60);
 
 /// Inputs of a program, one after the other, and all that it must write.
 pub struct Script {
     /// What reports call it.
     pub name: String,
     program: &'static str,
-    inputs: Vec<PathBuf>,
+    inputs: Vec<Vec<u8>>,
     output: Vec<u8>,
 }
 
 /// The gate's own script and samples first, then those of rust/replay/scripts.
 pub fn scripts(top: &Path) -> io::Result<Vec<Script>> {
-    let samples = ["forest", "refused", "long"];
-    let samples = samples.map(|name| top.join(format!("samples/{name}.sheet")));
+    let samples = ["forest", "refused", "long"].iter();
+    let samples = samples.map(|name| fs::read(top.join(format!("samples/{name}.sheet"))));
     let mut scripts = vec![
         Script {
             name: "crates/replay".to_string(),
             program: "replay-reference",
-            inputs: vec![top.join("crates/replay/stdin")],
+            inputs: vec![fs::read(top.join("crates/replay/stdin"))?],
             output: fs::read(top.join("crates/replay/stdout"))?,
         },
         Script {
             name: "crates/list_samples".to_string(),
             program: "list-reference",
-            inputs: samples.to_vec(),
+            inputs: samples.collect::<io::Result<_>>()?,
             output: fs::read(top.join("crates/list_samples/stdout"))?,
         },
     ];
@@ -59,8 +59,8 @@ fn further(input: PathBuf) -> io::Result<Option<Script>> {
     Ok(Some(Script {
         name: name.to_string_lossy().into_owned(),
         program,
+        inputs: vec![fs::read(&input)?],
         output: fs::read(input.with_extension("txt"))?,
-        inputs: vec![input],
     }))
 }
 
@@ -79,10 +79,12 @@ impl Script {
 }
 
 /// What a program writes; nothing if it fails or has no end.
-fn play(program: &Path, input: &Path) -> io::Result<Option<Vec<u8>>> {
+fn play(program: &Path, input: &[u8]) -> io::Result<Option<Vec<u8>>> {
+    let lent = program.with_extension("input");
     let written = program.with_extension("written");
+    fs::write(&lent, input)?;
     let mut child = Command::new(program)
-        .stdin(File::open(input)?)
+        .stdin(File::open(lent)?)
         .stdout(File::create(&written)?)
         .stderr(Stdio::null())
         .spawn()?;

@@ -67,7 +67,7 @@ pub fn classes(record: &mut Record) {
 }
 
 /// A chain: each class under the one before.
-fn chain(count: u16) -> Vec<Row> {
+pub fn chain(count: u16) -> Vec<Row> {
     let class = |number: u16| Row::class(number).under(number.saturating_sub(1));
     (0..count).map(class).collect()
 }

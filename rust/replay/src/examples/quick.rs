@@ -2,6 +2,7 @@
 //! answers on stores that are not.
 
 use super::base;
+use super::limits::chain;
 use super::record::{PASSED, Record};
 use super::rows::{Row, alter, entry, range, rename};
 
@@ -19,6 +20,7 @@ fn superclass(class: usize) -> usize {
 pub fn examples(record: &mut Record) {
     refused(record);
     rules(record);
+    full(record);
     done(record);
     added(record);
     demands(record);
@@ -78,6 +80,23 @@ fn rules(record: &mut Record) {
     number(record, &Row::class(19).category(3).under(4).added(), 21);
     number(record, &Row::class(19).naming(1).added(), 23);
     number(record, &Row::attribute(15).link(9).added(), 29);
+    number(record, &Row::attribute(15).arcs(&[1, 40]).added(), 14);
+    number(record, &Row::attribute(15).mapi(4).added(), 24);
+    number(record, &Row::attribute(15).syntax(9, 65).added(), 26);
+    let wrong = Row::attribute(15).syntax(13, 127).with(0x08, &[1]);
+    number(record, &wrong.added(), 27);
+    number(record, &Row::attribute(15).link(5).added(), 28);
+}
+
+/// 6: a table of 128 classes is full.
+fn full(record: &mut Record) {
+    record.pass(&chain(128));
+    number(record, &Row::class(128).added(), 6);
+    number(record, &Row::class(128).flags(0x10).added(), 6);
+    record.quick(&Row::attribute(0).added(), (0, 1, 0));
+    record.quick(&entry(0x49, 127, 0x15, 0), (0, 2, 127));
+    record.quick(&entry(0x49, 0, 0x15, 0), (0, 2, 0));
+    record.audit(PASSED);
 }
 
 /// Each kind of change done, on stores in order: they stay so.
@@ -223,24 +242,12 @@ fn joined_as_kept(record: &mut Record) {
         record.poke(2, kept(9)[0] + 5, 0x80);
         record.poke(2, kept(9)[2] + 7, 0x80);
         record.quick(&entry(0x49, 18, list, other), (0, 2, 18));
-        record.quick(
-            &entry(0x49, 1, list, other + 10 * u16::from(list != 0x15)).clone(),
-            given(list),
-        );
+        record.quick(&entry(0x49, 1, 0x15, 8), (0, 2, 1));
     }
     record.pass(&base::all());
     record.poke(2, kept(18)[0] + 2, 0);
     record.quick(&entry(0x49, 18, 0x15, 8), (0, 2, 18));
     record.audit((3, 0, 0));
-}
-
-/// Of class 1: attribute 8 fits, class 19 has no row, class 15 fits no place.
-fn given(list: u8) -> (u64, u64, u64) {
-    match list {
-        0x15 => (0, 2, 1),
-        0x17 => (18, 0, 0),
-        _ => (20, 0, 0),
-    }
 }
 
 /// "After a removal those are worked out afresh from the rows; its rule 30 holds
