@@ -1,7 +1,7 @@
 //! The scripts made by hand are current, and meet every number that each call
 //! can give.
 
-use replay::examples::{NAMES, edge, script};
+use replay::examples::{NAMES, SHEETS, listed, script};
 use replay::{Player, SMALL, Step, steps};
 use std::collections::BTreeSet;
 
@@ -53,17 +53,22 @@ fn the_rattle_player_can_play_all_but_quick() {
 }
 
 #[test]
-fn the_longest_sheet_listed_is_listed() {
-    let sheet = edge();
-    assert_eq!(sheet.len(), 32_768);
-    assert!(sheet == stored("edge.sheet"));
-    let listed = reference::listing(&sheet);
-    assert_eq!(String::from_utf8_lossy(&listed), output("edge"));
-    assert_eq!(listed.split(|byte| *byte == b'\n').count(), 4);
-    assert_eq!(
-        reference::listing(&[sheet, vec![0]].concat()),
-        b"too long\n"
-    );
+fn the_sheets_are_listed_as_the_paper_says() {
+    for (name, text) in SHEETS {
+        let sheet = listed(name).unwrap_or_default();
+        assert!(sheet == stored(&format!("{name}.sheet")), "{name}");
+        let listing = reference::listing(&sheet);
+        assert_eq!(String::from_utf8_lossy(&listing), text);
+        assert_eq!(output(name), text);
+    }
+}
+
+#[test]
+fn one_byte_more_is_too_long() {
+    let mut longest = listed("edge").unwrap_or_default();
+    assert_eq!(longest.len(), 32_768);
+    longest.push(0);
+    assert_eq!(reference::listing(&longest), b"too long\n");
 }
 
 /// The numbers that a call gives in the outputs.

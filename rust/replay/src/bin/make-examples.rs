@@ -1,5 +1,5 @@
-//! Writes a script made by hand from document 01 to standard output:
-//! `make-examples NAME`. Fails where the reference answers otherwise than the
+//! Writes a script, or a sheet to be listed, made by hand from document 01 to
+//! standard output: `make-examples NAME`. Fails where the reference answers otherwise than the
 //! paper, and tells at which steps.
 
 use std::io::{self, Write};
@@ -7,7 +7,10 @@ use std::process::ExitCode;
 
 fn main() -> ExitCode {
     let name = std::env::args().nth(1).unwrap_or_default();
-    let made = replay::examples::script(&name);
+    let made = match replay::examples::listed(&name) {
+        Some(sheet) => Ok(sheet),
+        None => replay::examples::script(&name),
+    };
     let written = made.and_then(|script| {
         let written = io::stdout().lock().write_all(&script);
         written.map_err(|error| error.to_string())

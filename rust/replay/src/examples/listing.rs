@@ -1,4 +1,4 @@
-//! The longest sheet that the program lists.
+//! Sheets for the program that lists: the longest, and refused ones.
 
 use super::rows::{Row, sheet};
 
@@ -30,4 +30,15 @@ pub fn edge() -> Vec<u8> {
     };
     let rows: Vec<Row> = (0..250).map(row).chain(classes).collect();
     sheet(&rows)
+}
+
+/// A sheet refused by a rule, whose table and row differ.
+pub fn refused() -> Vec<u8> {
+    let attribute = Row::attribute;
+    sheet(&[attribute(0), attribute(1), attribute(2).range(5, 5)])
+}
+
+/// A sheet that cannot be read at its end: nothing but a heading and a tag.
+pub fn unreadable() -> Vec<u8> {
+    [sheet(&[]), vec![0x20]].concat()
 }

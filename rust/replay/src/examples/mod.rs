@@ -17,8 +17,6 @@ mod rows;
 mod stores;
 mod values;
 
-pub use listing::edge;
-
 use record::Record;
 
 /// The scripts' names. All but `quick` hold only what the Rattle player plays.
@@ -31,7 +29,30 @@ pub const NAMES: [&str; 6] = [
     "quick",
 ];
 
-/// A script's bytes, or with `edge` the longest sheet that is listed; or none of this name, or what the reference answers
+/// The names of the sheets for the program that lists, and what it
+/// prints.
+pub const SHEETS: [(&str, &str); 4] = [
+    (
+        "edge",
+        "no name oid must may\n0 c0 2.48.0 2 2\n1 c1 2.4294967295.0 2 4\n",
+    ),
+    ("none", "no name oid must may\n"),
+    ("refused", "refused 25 1 2\n"),
+    ("unreadable", "refused 4 0 4\n"),
+];
+
+/// A sheet's bytes, if there is one of this name.
+pub fn listed(name: &str) -> Option<Vec<u8>> {
+    match name {
+        "edge" => Some(listing::edge()),
+        "none" => Some(rows::sheet(&[])),
+        "refused" => Some(listing::refused()),
+        "unreadable" => Some(listing::unreadable()),
+        _ => None,
+    }
+}
+
+/// A script's bytes; or none of this name, or what the reference answers
 /// otherwise than the paper.
 pub fn script(name: &str) -> Result<Vec<u8>, String> {
     let mut record = Record::default();
@@ -49,7 +70,6 @@ pub fn script(name: &str) -> Result<Vec<u8>, String> {
         "attributes" => limits::attributes(&mut record),
         "classes" => limits::classes(&mut record),
         "quick" => quick::examples(&mut record),
-        "edge" => return Ok(edge()),
         _ => return Err(format!("no script {name}")),
     }
     record.finish()

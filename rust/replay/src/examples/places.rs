@@ -41,7 +41,9 @@ fn headings(record: &mut Record) {
         at(record, &HEADING[..cut], 0);
     }
     at(record, &[1, 0, 2, 1], 0);
-    at(record, &[1, 1, 1, 1], 0);
+    for high in [1, 2, 4, 8, 16, 32, 64, 128] {
+        at(record, &[1, high, 1, 1], 0);
+    }
 }
 
 /// Doubled, or after a row.
