@@ -1,6 +1,7 @@
 //! Replay scripts, "for comparing implementations in every answer and byte":
 //! their steps, the reference playing them, and scripts made at random.
 
+pub mod examples;
 mod hash;
 mod player;
 mod script;

@@ -1,0 +1,76 @@
+//! Scripts made by hand from document 01, not at random: for every number that
+//! a call can give the smallest schema or change that gives it, with active and
+//! defunct rows and rivals, and the nearest one that passes; every limit at its
+//! edge and past it. Each step has the answer that the paper gives, and a script
+//! is made only if the reference gives the same.
+
+mod base;
+mod changes;
+mod identity;
+mod limits;
+mod listing;
+mod named;
+mod places;
+mod quick;
+mod record;
+mod rows;
+mod stores;
+mod values;
+
+use record::Record;
+
+/// The scripts' names. All but `quick` hold only what the Rattle player plays.
+pub const NAMES: [&str; 6] = [
+    "places",
+    "rules",
+    "changes",
+    "attributes",
+    "classes",
+    "quick",
+];
+
+/// The names of the sheets for the program that lists, and what it
+/// prints.
+pub const SHEETS: [(&str, &str); 4] = [
+    (
+        "edge",
+        "no name oid must may\n0 c0 2.48.0 2 2\n1 c1 2.4294967295.0 2 4\n",
+    ),
+    ("none", "no name oid must may\n"),
+    ("refused", "refused 25 1 2\n"),
+    ("unreadable", "refused 4 0 4\n"),
+];
+
+/// A sheet's bytes, if there is one of this name.
+pub fn listed(name: &str) -> Option<Vec<u8>> {
+    match name {
+        "edge" => Some(listing::edge()),
+        "none" => Some(rows::sheet(&[])),
+        "refused" => Some(listing::refused()),
+        "unreadable" => Some(listing::unreadable()),
+        _ => None,
+    }
+}
+
+/// A script's bytes; or none of this name, or what the reference answers
+/// otherwise than the paper.
+pub fn script(name: &str) -> Result<Vec<u8>, String> {
+    let mut record = Record::default();
+    match name {
+        "places" => places::examples(&mut record),
+        "rules" => {
+            identity::examples(&mut record);
+            named::examples(&mut record);
+            values::examples(&mut record);
+        }
+        "changes" => {
+            changes::examples(&mut record);
+            stores::examples(&mut record);
+        }
+        "attributes" => limits::attributes(&mut record),
+        "classes" => limits::classes(&mut record),
+        "quick" => quick::examples(&mut record),
+        _ => return Err(format!("no script {name}")),
+    }
+    record.finish()
+}
