@@ -4,6 +4,8 @@ pub mod PlainLaws
 pub mod ReadingLaws
 pub mod Pieces
 pub mod PiecesLaws
+pub mod PaperTables
+pub mod PaperTablesLaws
 pub mod Promises
 pub mod Demand3
 pub mod Demand3Laws
