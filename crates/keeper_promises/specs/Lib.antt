@@ -5,6 +5,7 @@ pub mod ReadingLaws
 pub mod Pieces
 pub mod PiecesLaws
 pub mod PaperTables
+pub mod ComputedLaws
 pub mod PaperTablesLaws
 pub mod Promises
 pub mod Demand3

@@ -29,8 +29,10 @@ use Rattle.rows_read.specs.ObjectClass.{readRow}
 use Rattle.rules_names.specs.Name.{sameName, validName}
 use Rattle.rules_attribute.specs.Syntax.{syntaxFits}
 use Rattle.change_read.specs.Reading.{readChange}
-use Rattle.change_model.specs.Model.{rowsAfter}
+use Rattle.change_read.specs.declared.read.ChangeRead.{ChangeRead}
+use Rattle.change_rows.specs.Rows.{schemaAfter}
 use Rattle.keeper_promises.specs.Pieces.{classRow, classes, judgedRows, sample}
+use Rattle.change_read.specs.declared.read.ChangeRead.the-variants as changes
 use Prim.Native.String as string
 
 -- ---- texts
@@ -152,9 +154,13 @@ sevenSets row =
 
 -- ---- changes
 
--- a schema after a change of these bytes
+-- a schema after the change that these bytes are read as, were it accepted
+unfoldable pub madeBy : ChangeRead → List ℕ → Schema → Schema
+madeBy (changes.Read change) r m = schemaAfter change r m
+madeBy (changes.Bad at) r m = m
+
 unfoldable pub changedBy : List ℕ → Schema → Schema
-changedBy x m = rowsAfter (readChange x .answer) (readChange x .row) m
+changedBy x m = madeBy (readChange x .answer) (readChange x .row) m
 
 -- 49 or 4A, of class 1: the list by its tag, and the entry
 abbrev pub entryChange : ℕ → ℕ → ℕ → List ℕ
@@ -169,58 +175,78 @@ removed list entry = sevenSets (changedBy (entryChange 0x4A list entry) (changed
 
 -- ---- the tables
 
-pub record PaperTables : Type 0 where
-  -- "a letter, then letters, digits or hyphens (ASCII)": of all bytes, those that a name may begin with, and those that may follow
-  pub name-begins : listBelow 256 (λ b. validName (b ∷ [])) ≡ text "ABCDEFGHIJKLMNOPQRSTUVWXYZabcdefghijklmnopqrstuvwxyz"
-  pub name-goes-on : listBelow 256 (λ b. validName (97 ∷ b ∷ []))
-      ≡ text "-0123456789ABCDEFGHIJKLMNOPQRSTUVWXYZabcdefghijklmnopqrstuvwxyz"
-  -- "A to Z equal to a to z", and nothing else but itself
+-- 12, 13: "a letter, then letters, digits or hyphens (ASCII)"; "A to Z equal to a to z"
+pub record NameTables : Type 0 where
+  -- of all bytes, those that a name may begin with, and those that may follow
+  pub begins : listBelow 256 (λ b. validName (b ∷ [])) ≡ text "ABCDEFGHIJKLMNOPQRSTUVWXYZabcdefghijklmnopqrstuvwxyz"
+  pub goes-on : listBelow 256 (λ b. validName (97 ∷ b ∷ [])) ≡ text "-0123456789ABCDEFGHIJKLMNOPQRSTUVWXYZabcdefghijklmnopqrstuvwxyz"
+  -- each letter is equal to the other of its two cases, and of any two bytes nothing else but the same
   pub alphabets : sameName (text "ABCDEFGHIJKLMNOPQRSTUVWXYZ") (text "abcdefghijklmnopqrstuvwxyz") ≡ true
   pub letters-same : (b c : ℕ) → (sameName (b ∷ []) (c ∷ []) ≡ true) ↔ ((b ≡ c) ⊎ (SmallOf b c ⊎ SmallOf c b))
-  -- "A row is a *base row* if systemFlags has 0x10"
-  pub base-bit : (row : List ℕ) (high bit low : ℕ) → low < 0x10 → bit < 2 → systemFlags row ≡ high * 0x20 + bit * 0x10 + low
-      → (isBase row ≡ true) ↔ (bit ≡ 1)
-  -- 21 "Row 0 not abstract; abstract under a class not abstract; auxiliary under structural; structural under auxiliary. All else is legal."
+
+-- 21: "Row 0 not abstract; abstract under a class not abstract; auxiliary under structural; structural under auxiliary. All else is legal."
+pub record CategoryTable : Type 0 where
   pub under-88 : under 0 ≡ 0 ∷ 0 ∷ 21 ∷ 0 ∷ []
   pub under-structural : under 1 ≡ 0 ∷ 0 ∷ 21 ∷ 21 ∷ []
   pub under-abstract : under 2 ≡ 0 ∷ 0 ∷ 0 ∷ 0 ∷ []
   pub under-auxiliary : under 3 ≡ 0 ∷ 21 ∷ 21 ∷ 0 ∷ []
   pub row-zero : (alone 0 ∷ alone 1 ∷ alone 2 ∷ alone 3 ∷ []) ≡ 21 ∷ 21 ∷ 0 ∷ 21 ∷ []
-  -- 26: exactly these pairs, of any two numbers
-  pub syntax-pairs : (syntax omSyntax : ℕ) → (syntaxFits syntax omSyntax ≡ true) ↔ SyntaxPair syntax omSyntax
-  -- 27: exactly these values, of any bytes
-  pub object-classes : (syntax : ℕ) (value : List ℕ) → (objectClassFits syntax value ≡ true) ↔ RightObjectClass syntax value
-  -- "Absent, the first is stored. With any other oMSyntax it is read and dropped."
-  pub defaults : (storedClass 1 127 [] ∷ storedClass 7 127 [] ∷ storedClass 13 127 [] ∷ storedClass 14 127 [] ∷ [])
+
+-- "Absent, the first is stored. With any other oMSyntax it is read and dropped."
+pub record DefaultTable : Type 0 where
+  pub absent : (storedClass 1 127 [] ∷ storedClass 7 127 [] ∷ storedClass 13 127 [] ∷ storedClass 14 127 [] ∷ [])
       ≡ hex "2B0C0287731C00854A" ∷ hex "56060102050B1D" ∷ hex "2B0C0287731C00855C" ∷ hex "2B0C0287731C00853E" ∷ []
-  pub dropped : (storedClass 7 64 (field 0x08 (hex "56060102050B1D")) ∷ storedClass 7 126 (field 0x08 (hex "56060102050B1D")) ∷ []) ≡ [] ∷ [] ∷ []
-  -- which field fills which cell: what every row has
-  pub common-read : rowRead Classes classFields .answer ≡ Read
-  pub common-cells : nameOf (rowRead Classes classFields .row) ≡ text "ab"
-  pub common-arcs : (arcCount (rowRead Classes classFields .row) ∷ arcOf (rowRead Classes classFields .row) 0
-      ∷ arcOf (rowRead Classes classFields .row) 1 ∷ []) ≡ 2 ∷ 2 ∷ 5 ∷ []
-  pub common-guid : guidOf (rowRead Classes classFields .row) ≡ hex "000102030405060708090A0B0C0D0E0F"
-  pub common-flags : systemFlags (rowRead Classes classFields .row) ≡ 0x01020304
-  pub common-defunct : isDefunct (rowRead Classes classFields .row) ≡ true
-  -- a class row
-  pub class-category : categoryOf (rowRead Classes classFields .row) ≡ 3
-  pub class-superclass : superclassOf (rowRead Classes classFields .row) ≡ 0x11
-  pub class-naming : namingOf (rowRead Classes classFields .row) ≡ By (record { 0 = 0x12 })
-  pub class-sets : sevenSets (rowRead Classes classFields .row)
-      ≡ (0x13 ∷ []) ∷ (0x14 ∷ []) ∷ (0x15 ∷ []) ∷ (0x16 ∷ []) ∷ (0x17 ∷ []) ∷ (0x18 ∷ []) ∷ (0x19 ∷ []) ∷ []
-  -- an attribute row
+  pub kept : storedClass 7 127 (field 0x08 (hex "2A864886F7140101010B")) ≡ hex "2A864886F7140101010B"
+  pub dropped : (storedClass 7 126 (field 0x08 (hex "56060102050B1D")) ∷ storedClass 7 128 (field 0x08 (hex "56060102050B1D")) ∷ []) ≡ [] ∷ [] ∷ []
+
+-- which field fills which cell: "01 name, 02 arcs (4 bytes each), 03 GUID, 04 systemFlags; 05 defunct"
+pub record CommonCells (row : List ℕ) : Type 0 where
+  pub name : nameOf row ≡ text "ab"
+  pub arcs : (arcCount row ∷ arcOf row 0 ∷ arcOf row 1 ∷ []) ≡ 2 ∷ 2 ∷ 5 ∷ []
+  pub guid : guidOf row ≡ hex "000102030405060708090A0B0C0D0E0F"
+  pub flags : systemFlags row ≡ 0x01020304
+  pub defunct : isDefunct row ≡ true
+
+-- "06 syntax, 07 oMSyntax .. 08 oMObjectClass .., 09 single-valued .., 0A and 0B ranges, 0C linkID, 0D mAPIID"
+pub record AttributeCells (row : List ℕ) : Type 0 where
+  pub common : CommonCells row
+  pub syntaxes : (syntaxOf row ∷ omSyntaxOf row ∷ []) ≡ 7 ∷ 127 ∷ []
+  pub objectClass : objectClassOf row ≡ hex "2A864886F7140101010B"
+  pub single : isSingleValued row ≡ true
+  pub lower : rangeLower row ≡ Given 0x0A
+  pub upper : rangeUpper row ≡ Given 0x0B
+  pub links : (linkOf row ∷ mapiOf row ∷ []) ≡ 0x0C ∷ 0x0D ∷ []
+
+-- "10 category, 11 superclass; optional 12 rDNAttID, 13 to 19 the seven sets in the order above"
+pub record ClassCells (row : List ℕ) : Type 0 where
+  pub common : CommonCells row
+  pub category : categoryOf row ≡ 3
+  pub superclass : superclassOf row ≡ 0x11
+  pub naming : namingOf row ≡ By (record { 0 = 0x12 })
+  pub sets : sevenSets row ≡ (0x13 ∷ []) ∷ (0x14 ∷ []) ∷ (0x15 ∷ []) ∷ (0x16 ∷ []) ∷ (0x17 ∷ []) ∷ (0x18 ∷ []) ∷ (0x19 ∷ []) ∷ []
+
+-- "21 (one byte: 15, 17, 19)": attribute 1 becomes optional, class 2 auxiliary, class 1 a possible superior, each in the open list alone; 4A takes it out
+-- of the same
+pub record ChangeLists : Type 0 where
+  pub optional : entered 0x15 1 ≡ (0 ∷ []) ∷ [] ∷ (1 ∷ []) ∷ [] ∷ [] ∷ [] ∷ [] ∷ []
+  pub auxiliary : entered 0x17 2 ≡ (0 ∷ []) ∷ [] ∷ [] ∷ [] ∷ (2 ∷ []) ∷ [] ∷ [] ∷ []
+  pub superior : entered 0x19 1 ≡ (0 ∷ []) ∷ [] ∷ [] ∷ [] ∷ [] ∷ [] ∷ (1 ∷ []) ∷ []
+  pub optional-back : removed 0x15 1 ≡ (0 ∷ []) ∷ [] ∷ [] ∷ [] ∷ [] ∷ [] ∷ [] ∷ []
+  pub auxiliary-back : removed 0x17 2 ≡ (0 ∷ []) ∷ [] ∷ [] ∷ [] ∷ [] ∷ [] ∷ [] ∷ []
+  pub superior-back : removed 0x19 1 ≡ (0 ∷ []) ∷ [] ∷ [] ∷ [] ∷ [] ∷ [] ∷ [] ∷ []
+
+pub record PaperTables : Type 0 where
+  pub names : NameTables
+  pub categories : CategoryTable
+  -- 26: exactly these pairs, of any two numbers; 27: exactly these values, of any bytes
+  pub syntax-pairs : (syntax omSyntax : ℕ) → (syntaxFits syntax omSyntax ≡ true) ↔ SyntaxPair syntax omSyntax
+  pub object-classes : (syntax : ℕ) (value : List ℕ) → (objectClassFits syntax value ≡ true) ↔ RightObjectClass syntax value
+  pub defaults : DefaultTable
+  -- "A row is a *base row* if systemFlags has 0x10"
+  pub base-bit : (row : List ℕ) (high bit low : ℕ) → low < 0x10 → bit < 2 → systemFlags row ≡ high * 0x20 + bit * 0x10 + low
+      → (isBase row ≡ true) ↔ (bit ≡ 1)
   pub attribute-read : rowRead Attributes attributeFields .answer ≡ Read
-  pub attribute-syntaxes : (syntaxOf (rowRead Attributes attributeFields .row) ∷ omSyntaxOf (rowRead Attributes attributeFields .row) ∷ [])
-      ≡ 7 ∷ 127 ∷ []
-  pub attribute-class : objectClassOf (rowRead Attributes attributeFields .row) ≡ hex "2A864886F7140101010B"
-  pub attribute-single : isSingleValued (rowRead Attributes attributeFields .row) ≡ true
-  pub attribute-lower : rangeLower (rowRead Attributes attributeFields .row) ≡ Given 0x0A
-  pub attribute-upper : rangeUpper (rowRead Attributes attributeFields .row) ≡ Given 0x0B
-  pub attribute-links : (linkOf (rowRead Attributes attributeFields .row) ∷ mapiOf (rowRead Attributes attributeFields .row) ∷ []) ≡ 0x0C ∷ 0x0D ∷ []
-  -- which list a change's 15, 17 and 19 mean: attribute 1 becomes optional, class 2 auxiliary, class 1 a possible superior, each in the open list alone
-  pub change-optional : entered 0x15 1 ≡ (0 ∷ []) ∷ [] ∷ (1 ∷ []) ∷ [] ∷ [] ∷ [] ∷ [] ∷ []
-  pub change-auxiliary : entered 0x17 2 ≡ (0 ∷ []) ∷ [] ∷ [] ∷ [] ∷ (2 ∷ []) ∷ [] ∷ [] ∷ []
-  pub change-superior : entered 0x19 1 ≡ (0 ∷ []) ∷ [] ∷ [] ∷ [] ∷ [] ∷ [] ∷ (1 ∷ []) ∷ []
-  -- and a removal takes it out of the same
-  pub change-back : (removed 0x15 1 ∷ removed 0x17 2 ∷ removed 0x19 1 ∷ [])
-      ≡ ((0 ∷ []) ∷ [] ∷ [] ∷ [] ∷ [] ∷ [] ∷ [] ∷ []) ∷ ((0 ∷ []) ∷ [] ∷ [] ∷ [] ∷ [] ∷ [] ∷ [] ∷ []) ∷ ((0 ∷ []) ∷ [] ∷ [] ∷ [] ∷ [] ∷ [] ∷ [] ∷ []) ∷ []
+  pub attribute-cells : AttributeCells (rowRead Attributes attributeFields .row)
+  pub class-read : rowRead Classes classFields .answer ≡ Read
+  pub class-cells : ClassCells (rowRead Classes classFields .row)
+  pub change-lists : ChangeLists

@@ -1,9 +1,10 @@
 -- The small tables of document 01: the tables of values by computation, the others for every number and every string of bytes.
+use Rattle.sets.specs.Sets.{listBelow}
 use Rattle.prelude.specs.BelowLaws.{last-or-less}
 use Rattle.schema.specs.ObjectClassesLaws.{says-object-class-fits}
 use Rattle.rules_names.specs.NameLaws.{folded-upper, says-same-name, folded-other, says-between}
 use Rattle.prelude.specs.Part.{part, sameBytes, padded, zeros}
-use Rattle.rules_names.specs.Name.{folded, sameName, between}
+use Rattle.rules_names.specs.Name.{folded, sameName, between, validName, isLetter, isNameByte}
 use Rattle.schema.specs.ObjectClasses.{objectClasses, objectClassFits, entryCount, entrySyntax, entryValue}
 use mathlib.Core.Bool.{true, false}
 use mathlib.Core.List.{List, [], _∷_}
@@ -11,8 +12,6 @@ use mathlib.Core.Logic.{_⊎_, inl, inr, ⊎-elim, _↔_}
 use mathlib.Core.Path.{_≡_, refl, sym, ap, subst₂, _∙_, subst}
 use Prim.Native.Nat.{ℕ, suc, _+_, _*_, _/_, _%_, _≤_, _<_}
 use native.Mathlib.Omega.{arith}
-use native.Mathlib.Decide.{ℕ-discrete}
-use lib.Dec.{eqb}
 use lib.ListN.{getD}
 use Rattle.prelude.specs.Below.{anyBelow, allBelow}
 use Rattle.prelude.specs.SaysLaws.{says-eq, says-split}
@@ -22,7 +21,8 @@ use Rattle.rules_attribute.specs.SyntaxLaws.{says-syntax-fits}
 use Rattle.keeper_promises.specs.PaperTables.{SyntaxPair, name, identifier, exactString, teletex, printable, ia5, numeric, nameWithBinary, boolean}
 use Rattle.keeper_promises.specs.PaperTables.{integer, enumeration, octets, universalTime, generalTime, unicode, presentation, nameWithString}
 use Rattle.keeper_promises.specs.PaperTables.{descriptor, largeInteger, sid, RightObjectClass, one, seven, sevenToo, thirteen, fourteen, fourteenToo}
-use Rattle.keeper_promises.specs.PaperTables.{SmallOf, hexBytes, hexDigit, text}
+use Rattle.keeper_promises.specs.ComputedLaws as computed
+use Rattle.keeper_promises.specs.PaperTables.{PaperTables, NameTables, SmallOf, hexBytes, hexDigit, text}
 
 -- a proof for each number below n, in their order
 infixl 20 _also_
@@ -37,15 +37,20 @@ below {P} (before also last) i l = ⊎-elim (λ k. below before i k) (λ e. subs
 -- ---- the base bit
 
 base-bit : (row : List ℕ) (high bit low : ℕ) → low < 0x10 → bit < 2 → systemFlags row ≡ high * 0x20 + bit * 0x10 + low → (isBase row ≡ true) ↔ (bit ≡ 1)
-base-bit row high bit low l b e = (λ h. let q = says-eq (systemFlags row / 16 % 2) 1 .holds h in omega arith, λ h. says-eq (systemFlags row / 16 % 2) 1 .passes (omega arith))
+base-bit row high bit low l b e = (
+  λ h. let q = says-eq (systemFlags row / 16 % 2) 1 .holds h in omega arith,
+  λ h. says-eq (systemFlags row / 16 % 2) 1 .passes (omega arith),
+)
 
 -- ---- syntaxes
 
 -- the pairs of the table, each one of the paper's
 pairs-listed : (i : ℕ) → i < pairCount → SyntaxPair (getD syntaxPairs (2 * i) 0) (getD syntaxPairs (2 * i + 1) 0)
 pairs-listed =
-    below (none also name also identifier also exactString also teletex also printable also ia5 also numeric also nameWithBinary also boolean also integer also enumeration
-    also octets also universalTime also generalTime also unicode also presentation also nameWithString also descriptor also largeInteger also sid)
+    below
+    (none also name also identifier also exactString also teletex also printable also ia5 also numeric also nameWithBinary also boolean also integer
+    also enumeration also octets also universalTime also generalTime also unicode also presentation also nameWithString also descriptor
+    also largeInteger also sid)
 
 syntax-pairs : (syntax omSyntax : ℕ) → (syntaxFits syntax omSyntax ≡ true) ↔ SyntaxPair syntax omSyntax
 unfolding syntaxFits anyBelow
@@ -120,5 +125,25 @@ small-folds {b} {c} h = folded-upper b (h .0 .0) (h .0 .1) ∙ sym (h .1) ∙ sy
 letters-same : (b c : ℕ) → (sameName (b ∷ []) (c ∷ []) ≡ true) ↔ ((b ≡ c) ⊎ (SmallOf b c ⊎ SmallOf c b))
 letters-same b c = (
   λ h. folds b c (says-same-name (b ∷ []) (c ∷ []) .holds h .bytes 0 (omega arith)),
-  λ h. says-same-name (b ∷ []) (c ∷ []) .passes (record { lengths = refl; bytes = below (none also ⊎-elim (ap folded) (⊎-elim small-folds (λ q. sym (small-folds q))) h) }),
+  λ h. says-same-name (b ∷ []) (c ∷ []) .passes
+      (record { lengths = refl; bytes = below (none also ⊎-elim (ap folded) (⊎-elim small-folds (λ q. sym (small-folds q))) h) }),
 )
+
+names : NameTables
+unfolding listBelow validName sameName isLetter isNameByte folded between allBelow text
+names = record { begins = refl; goes-on = refl; alphabets = refl; letters-same = letters-same }
+
+pub paper-tables : PaperTables
+paper-tables = record {
+  names = names;
+  categories = computed.categories;
+  syntax-pairs = syntax-pairs;
+  object-classes = object-classes;
+  defaults = computed.defaults;
+  base-bit = base-bit;
+  attribute-read = computed.attribute-read;
+  attribute-cells = computed.attribute-cells;
+  class-read = computed.class-read;
+  class-cells = computed.class-cells;
+  change-lists = computed.change-lists;
+}
