@@ -1,51 +1,44 @@
 -- The tables of document 01 that the judge, the reader of rows and the model of a change give, by computation.
-use Rattle.keeper_promises.specs.PaperTables.{madeBy}
-use Rattle.sets.specs.Sets.{withoutMember}
-use Rattle.rows_format.specs.Formats.{entryColumns}
-use Rattle.keeper_promises.specs.PaperTables.{changedBy, entered, removed}
-use Rattle.change_read.specs.Reading.{changeOf, fieldOut, formatOf, readChange, readValue, taggedOut, wholeRead}
-use Rattle.rows_read.specs.declared.read.RowRead.the-variants.{Read}
-use Rattle.schema.specs.declared.number.TableId.the-variants.{Attributes, Classes}
-use Rattle.rows_format.specs.Encodings.{room}
-use Rattle.wire.specs.Wire.{fieldAt}
-use Rattle.schema.specs.ObjectClasses.{firstObjectClass}
-use Rattle.rows_format.specs.Formats.{attributeColumns, classColumns, columnsOf, commonColumns, formatWidth, ownColumns}
-use Rattle.rows_format.specs.Entries.{entries, risesBelow}
-use Rattle.rows_format.specs.Encodings.{accepts, image, passes}
-use Rattle.rows_format.specs.Columns.{cellOf, columnWidth, lead, mark, possible, required, takes}
-use Rattle.prelude.specs.Unlike.{among}
-use Rattle.prelude.specs.Part.{isZero}
-use Rattle.keeper_promises.specs.PaperTables.{commonFields, hexBytes, hexDigit, rowRead, text}
-use Rattle.rows_read.specs.Reading.{readBy, onward, turnOf, tookOf, rowOf}
-use Rattle.rows_read.specs.ObjectClass.{readRow, finish, finished, finishedRow, settled, objectClassCell}
-use Rattle.rules.specs.Rules.{barred, entryDead, attributeNotLive, classNotLive}
-use Rattle.schema.specs.Numbers.{sameTable, sameRow}
-use Rattle.prelude.specs.Part.{part, zeros, padded, sameBytes, splice}
-use Rattle.prelude.specs.BigEndian.{bigEndian, bigEndianBytes}
+use mathlib.Core.Path.{_≡_, refl}
 use Rattle.prelude.specs.Below.{anyBelow, allBelow, firstBelow}
-use Rattle.sets.specs.Sets.{digit, bit, member, digitsOf, setOf, withMember, membersFrom, listBelow}
+use Rattle.prelude.specs.BigEndian.{bigEndian, bigEndianBytes}
+use Rattle.prelude.specs.Part.{isZero, part, zeros, padded, sameBytes, splice}
+use Rattle.prelude.specs.Unlike.{among}
+use Rattle.sets.specs.Sets.{withoutMember, digit, bit, member, digitsOf, setOf, withMember, membersFrom, listBelow}
+use Rattle.wire.specs.Wire.{fieldAt}
 use Rattle.schema.specs.AttributeRow.{boundAt}
 use Rattle.schema.specs.ClassRow.{namingOf}
-use Rattle.rules_names.specs.Name.{between, isLetter, isNameByte, validName, folded, sameName, nameInvalid, identifierInvalid}
+use Rattle.schema.specs.Numbers.{sameTable, sameRow}
+use Rattle.schema.specs.ObjectClasses.{firstObjectClass, objectClasses, objectClassFits}
+use Rattle.schema.specs.Store.{withRow}
+use Rattle.schema.specs.declared.number.TableId.the-variants.{Attributes, Classes}
 use Rattle.tables.specs.Live.{live}
+use Rattle.tables.specs.Named.{lists, namedBy, names}
+use Rattle.rows_format.specs.Columns.{cellOf, columnWidth, lead, mark, possible, required, takes}
+use Rattle.rows_format.specs.Encodings.{room, accepts, image, passes}
+use Rattle.rows_format.specs.Entries.{entries, risesBelow}
+use Rattle.rows_format.specs.Formats.{entryColumns, attributeColumns, classColumns, columnsOf, commonColumns, formatWidth, ownColumns}
+use Rattle.rows_read.specs.ObjectClass.{readRow, finish, finished, finishedRow, settled, objectClassCell}
+use Rattle.rows_read.specs.Reading.{readBy, onward, turnOf, tookOf, rowOf}
+use Rattle.rows_read.specs.declared.read.RowRead.the-variants.{Read}
+use Rattle.change_read.specs.Carried.{openList}
+use Rattle.change_read.specs.Reading.{changeOf, fieldOut, formatOf, readChange, readValue, taggedOut, wholeRead}
+use Rattle.change_rows.specs.Rows.{schemaAfter, tableAfter, editedRow}
+use Rattle.rules_names.specs.Name.{between, isLetter, isNameByte, validName, folded, sameName, nameInvalid, identifierInvalid}
 use Rattle.rules_unique.specs.Unique.{sameKey, hasKey, samePresent, rivalIn, taken}
+use Rattle.rules_attribute.specs.Links.{isBackLink, isForwardOf, forwardMissing}
 use Rattle.rules_attribute.specs.Range.{signed, endsCrossed, rangeWrong}
 use Rattle.rules_attribute.specs.Syntax.{syntaxFits, syntaxWrong, objectClassWrong}
-use Rattle.schema.specs.ObjectClasses.{objectClasses, objectClassFits}
-use Rattle.rules_attribute.specs.Links.{isBackLink, isForwardOf, forwardMissing}
-use Rattle.tables.specs.Named.{lists, namedBy, names}
-use Rattle.rules_class.specs.Live.{namesDead, notLive, superclassLate, classWrong, namingWrong}
 use Rattle.rules_class.specs.Category.{categoryWrong, wronglyListed, otherCategory, inheritance, rootInheritance, inheritanceOf, inheritanceWrong}
 use Rattle.rules_class.specs.Chain.{chainEnds, chainWrong}
+use Rattle.rules_class.specs.Live.{namesDead, notLive, superclassLate, classWrong, namingWrong}
 use Rattle.rules.specs.Judge.{judgeTable, judgeRule, judgeRules, judged}
-use Rattle.schema.specs.Store.{withRow}
-use Rattle.change_rows.specs.Rows.{schemaAfter, tableAfter, editedRow}
-use Rattle.change_read.specs.Carried.{openList}
-use Rattle.keeper_promises.specs.Pieces.{arcBytes, common, endBytes, attributeRow, classRow, judgedRows, areaHa}
-use Rattle.keeper_promises.specs.Pieces.{classes, demanding, twoAttributes, threeClasses, sample}
-use mathlib.Core.Path.{_≡_, refl}
-use Rattle.keeper_promises.specs.PaperTables.{under, alone, CategoryTable, DefaultTable, ChangeLists, AttributeCells, ClassCells}
-use Rattle.keeper_promises.specs.PaperTables.{storedClass, attributeFields, classFields, sevenSets}
+use Rattle.rules.specs.Rules.{barred, entryDead, attributeNotLive, classNotLive}
+use Rattle.keeper_promises.specs.PaperTables.{madeBy, changedBy, entered, removed, commonFields, hexBytes, hexDigit, rowRead, text, under}
+use Rattle.keeper_promises.specs.PaperTables.{alone, CategoryTable, DefaultTable, ChangeLists, AttributeCells, ClassCells, storedClass}
+use Rattle.keeper_promises.specs.PaperTables.{attributeFields, classFields, sevenSets}
+use Rattle.keeper_promises.specs.Pieces.{arcBytes, common, endBytes, attributeRow, classRow, judgedRows, areaHa, classes, demanding}
+use Rattle.keeper_promises.specs.Pieces.{twoAttributes, threeClasses, sample}
 
 -- ---- categories
 

@@ -7,6 +7,8 @@ pub mod PiecesLaws
 pub mod PaperTables
 pub mod ComputedLaws
 pub mod PaperTablesLaws
+pub mod PaperSheet
+pub mod PaperSheetLaws
 pub mod Promises
 pub mod Demand3
 pub mod Demand3Laws

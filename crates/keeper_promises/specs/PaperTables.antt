@@ -6,31 +6,31 @@ use mathlib.Core.Logic.{_⊎_, _↔_}
 use mathlib.Core.Path.{_≡_}
 use Prim.Native.Char.{code}
 use Prim.Native.Nat.{ℕ, _+_, _-_, _*_, _≤_, _<_}
-use lib.Dec.{ltb}
 use Prim.Native.String.{String}
+use lib.Dec.{ltb}
 use lib.ListN.{length}
 use Rattle.prelude.specs.Part.{zeros}
 use Rattle.sets.specs.Sets.{listBelow, membersFrom}
-use Rattle.schema.specs.Layout.{rowWidth}
-use Rattle.schema.specs.Row.{arcCount, arcOf, guidOf, isBase, isDefunct, nameOf, systemFlags}
 use Rattle.schema.specs.AttributeRow.{isSingleValued, linkOf, mapiOf, objectClassOf, omSyntaxOf, rangeLower, rangeUpper, syntaxOf}
-use Rattle.schema.specs.ClassRow.{categoryOf, fixedAuxiliaryOf, fixedOptionalOf, fixedSuperiorOf, mandatoryOf, namingOf, openAuxiliaryOf, openOptionalOf}
-use Rattle.schema.specs.ClassRow.{openSuperiorOf, superclassOf}
+use Rattle.schema.specs.ClassRow.{categoryOf, fixedAuxiliaryOf, fixedOptionalOf, fixedSuperiorOf, mandatoryOf, namingOf, openAuxiliaryOf}
+use Rattle.schema.specs.ClassRow.{openOptionalOf, openSuperiorOf, superclassOf}
+use Rattle.schema.specs.Layout.{rowWidth}
 use Rattle.schema.specs.ObjectClasses.{objectClassFits}
+use Rattle.schema.specs.Row.{arcCount, arcOf, guidOf, isBase, isDefunct, nameOf, systemFlags}
 use Rattle.schema.specs.Store.{Schema}
 use Rattle.schema.specs.declared.attribute.Bound.the-variants.{Given}
 use Rattle.schema.specs.declared.class.Naming.the-variants.{By}
 use Rattle.schema.specs.declared.number.TableId.{TableId}
 use Rattle.schema.specs.declared.number.TableId.the-variants.{Attributes, Classes}
 use Rattle.rows_format.specs.declared.format.Format.the-variants.{Row}
-use Rattle.rows_read.specs.declared.read.RowRead.the-variants.{Read}
-use Rattle.rows_read.specs.Reading.{Out}
 use Rattle.rows_read.specs.ObjectClass.{readRow}
-use Rattle.rules_names.specs.Name.{sameName, validName}
-use Rattle.rules_attribute.specs.Syntax.{syntaxFits}
+use Rattle.rows_read.specs.Reading.{Out}
+use Rattle.rows_read.specs.declared.read.RowRead.the-variants.{Read}
 use Rattle.change_read.specs.Reading.{readChange}
 use Rattle.change_read.specs.declared.read.ChangeRead.{ChangeRead}
 use Rattle.change_rows.specs.Rows.{schemaAfter}
+use Rattle.rules_names.specs.Name.{sameName, validName}
+use Rattle.rules_attribute.specs.Syntax.{syntaxFits}
 use Rattle.keeper_promises.specs.Pieces.{classRow, classes, judgedRows, sample}
 use Rattle.change_read.specs.declared.read.ChangeRead.the-variants as changes
 use Prim.Native.String as string

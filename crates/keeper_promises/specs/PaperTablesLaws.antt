@@ -1,11 +1,4 @@
 -- The small tables of document 01: the tables of values by computation, the others for every number and every string of bytes.
-use Rattle.sets.specs.Sets.{listBelow}
-use Rattle.prelude.specs.BelowLaws.{last-or-less}
-use Rattle.schema.specs.ObjectClassesLaws.{says-object-class-fits}
-use Rattle.rules_names.specs.NameLaws.{folded-upper, says-same-name, folded-other, says-between}
-use Rattle.prelude.specs.Part.{part, sameBytes, padded, zeros}
-use Rattle.rules_names.specs.Name.{folded, sameName, between, validName, isLetter, isNameByte}
-use Rattle.schema.specs.ObjectClasses.{objectClasses, objectClassFits, entryCount, entrySyntax, entryValue}
 use mathlib.Core.Bool.{true, false}
 use mathlib.Core.List.{List, [], _∷_}
 use mathlib.Core.Logic.{_⊎_, inl, inr, ⊎-elim, _↔_}
@@ -14,15 +7,22 @@ use Prim.Native.Nat.{ℕ, suc, _+_, _*_, _/_, _%_, _≤_, _<_}
 use native.Mathlib.Omega.{arith}
 use lib.ListN.{getD}
 use Rattle.prelude.specs.Below.{anyBelow, allBelow}
+use Rattle.prelude.specs.BelowLaws.{last-or-less}
+use Rattle.prelude.specs.Part.{part, sameBytes, padded, zeros}
 use Rattle.prelude.specs.SaysLaws.{says-eq, says-split}
+use Rattle.sets.specs.Sets.{listBelow}
+use Rattle.schema.specs.ObjectClasses.{objectClasses, objectClassFits, entryCount, entrySyntax, entryValue}
+use Rattle.schema.specs.ObjectClassesLaws.{says-object-class-fits}
 use Rattle.schema.specs.Row.{isBase, systemFlags}
+use Rattle.rules_names.specs.Name.{folded, sameName, between, validName, isLetter, isNameByte}
+use Rattle.rules_names.specs.NameLaws.{folded-upper, says-same-name, folded-other, says-between}
 use Rattle.rules_attribute.specs.Syntax.{syntaxFits, syntaxPairs, pairCount}
 use Rattle.rules_attribute.specs.SyntaxLaws.{says-syntax-fits}
-use Rattle.keeper_promises.specs.PaperTables.{SyntaxPair, name, identifier, exactString, teletex, printable, ia5, numeric, nameWithBinary, boolean}
-use Rattle.keeper_promises.specs.PaperTables.{integer, enumeration, octets, universalTime, generalTime, unicode, presentation, nameWithString}
-use Rattle.keeper_promises.specs.PaperTables.{descriptor, largeInteger, sid, RightObjectClass, one, seven, sevenToo, thirteen, fourteen, fourteenToo}
+use Rattle.keeper_promises.specs.PaperTables.{SyntaxPair, name, identifier, exactString, teletex, printable, ia5, numeric, nameWithBinary}
+use Rattle.keeper_promises.specs.PaperTables.{boolean, integer, enumeration, octets, universalTime, generalTime, unicode, presentation}
+use Rattle.keeper_promises.specs.PaperTables.{nameWithString, descriptor, largeInteger, sid, RightObjectClass, one, seven, sevenToo, thirteen}
+use Rattle.keeper_promises.specs.PaperTables.{fourteen, fourteenToo, PaperTables, NameTables, SmallOf, hexBytes, hexDigit, text}
 use Rattle.keeper_promises.specs.ComputedLaws as computed
-use Rattle.keeper_promises.specs.PaperTables.{PaperTables, NameTables, SmallOf, hexBytes, hexDigit, text}
 
 -- a proof for each number below n, in their order
 infixl 20 _also_
