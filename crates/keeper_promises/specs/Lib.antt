@@ -9,6 +9,9 @@ pub mod ComputedLaws
 pub mod PaperTablesLaws
 pub mod PaperSheet
 pub mod PaperSheetLaws
+pub mod Uses
+pub mod UsesGraphLaws
+pub mod UsesLaws
 pub mod Promises
 pub mod Demand3
 pub mod Demand3Laws

@@ -119,7 +119,7 @@ folds b c e = go (says-split (says-between 65 90 b)) (says-split (says-between 6
     go (inr p) (inl q) = let r : b ≡ c + 32 = (rw (p .0, q .0) at e) in inr (inr (q .1, r))
     go (inr p) (inr q) = inl (rw (p .0, q .0) at e)
 
-small-folds : {b c : ℕ} → SmallOf b c → folded b ≡ folded c
+pub small-folds : {b c : ℕ} → SmallOf b c → folded b ≡ folded c
 small-folds {b} {c} h = folded-upper b (h .0 .0) (h .0 .1) ∙ sym (h .1) ∙ sym (folded-other c (λ q. omega arith))
 
 letters-same : (b c : ℕ) → (sameName (b ∷ []) (c ∷ []) ≡ true) ↔ ((b ≡ c) ⊎ (SmallOf b c ⊎ SmallOf c b))
