@@ -4,6 +4,14 @@ pub mod PlainLaws
 pub mod ReadingLaws
 pub mod Pieces
 pub mod PiecesLaws
+pub mod PaperTables
+pub mod ComputedLaws
+pub mod PaperTablesLaws
+pub mod PaperSheet
+pub mod PaperSheetLaws
+pub mod Uses
+pub mod UsesGraphLaws
+pub mod UsesLaws
 pub mod Promises
 pub mod Demand3
 pub mod Demand3Laws

@@ -1,0 +1,149 @@
+-- The small tables of document 01: the tables of values by computation, the others for every number and every string of bytes.
+use mathlib.Core.Bool.{true, false}
+use mathlib.Core.List.{List, [], _∷_}
+use mathlib.Core.Logic.{_⊎_, inl, inr, ⊎-elim, _↔_}
+use mathlib.Core.Path.{_≡_, refl, sym, ap, subst₂, _∙_, subst}
+use Prim.Native.Nat.{ℕ, suc, _+_, _*_, _/_, _%_, _≤_, _<_}
+use native.Mathlib.Omega.{arith}
+use lib.ListN.{getD}
+use Rattle.prelude.specs.Below.{anyBelow, allBelow}
+use Rattle.prelude.specs.BelowLaws.{last-or-less}
+use Rattle.prelude.specs.Part.{part, sameBytes, padded, zeros}
+use Rattle.prelude.specs.SaysLaws.{says-eq, says-split}
+use Rattle.sets.specs.Sets.{listBelow}
+use Rattle.schema.specs.ObjectClasses.{objectClasses, objectClassFits, entryCount, entrySyntax, entryValue}
+use Rattle.schema.specs.ObjectClassesLaws.{says-object-class-fits}
+use Rattle.schema.specs.Row.{isBase, systemFlags}
+use Rattle.rules_names.specs.Name.{folded, sameName, between, validName, isLetter, isNameByte}
+use Rattle.rules_names.specs.NameLaws.{folded-upper, says-same-name, folded-other, says-between}
+use Rattle.rules_attribute.specs.Syntax.{syntaxFits, syntaxPairs, pairCount}
+use Rattle.rules_attribute.specs.SyntaxLaws.{says-syntax-fits}
+use Rattle.keeper_promises.specs.PaperTables.{SyntaxPair, name, identifier, exactString, teletex, printable, ia5, numeric, nameWithBinary}
+use Rattle.keeper_promises.specs.PaperTables.{boolean, integer, enumeration, octets, universalTime, generalTime, unicode, presentation}
+use Rattle.keeper_promises.specs.PaperTables.{nameWithString, descriptor, largeInteger, sid, RightObjectClass, one, seven, sevenToo, thirteen}
+use Rattle.keeper_promises.specs.PaperTables.{fourteen, fourteenToo, PaperTables, NameTables, SmallOf, hexBytes, hexDigit, text}
+use Rattle.keeper_promises.specs.ComputedLaws as computed
+
+-- a proof for each number below n, in their order
+infixl 20 _also_
+data Upto (P : ℕ → Type 0) : ℕ → Type 0 where
+  none : Upto P 0
+  _also_ : {n : ℕ} → Upto P n → P n → Upto P (suc n)
+
+below : {P : ℕ → Type 0} {n : ℕ} → Upto P n → (i : ℕ) → i < n → P i
+below none i l = absurd (omega arith)
+below {P} (before also last) i l = ⊎-elim (λ k. below before i k) (λ e. subst P (sym e) last) (last-or-less l)
+
+-- ---- the base bit
+
+base-bit : (row : List ℕ) (high bit low : ℕ) → low < 0x10 → bit < 2 → systemFlags row ≡ high * 0x20 + bit * 0x10 + low → (isBase row ≡ true) ↔ (bit ≡ 1)
+base-bit row high bit low l b e = (
+  λ h. let q = says-eq (systemFlags row / 16 % 2) 1 .holds h in omega arith,
+  λ h. says-eq (systemFlags row / 16 % 2) 1 .passes (omega arith),
+)
+
+-- ---- syntaxes
+
+-- the pairs of the table, each one of the paper's
+pairs-listed : (i : ℕ) → i < pairCount → SyntaxPair (getD syntaxPairs (2 * i) 0) (getD syntaxPairs (2 * i + 1) 0)
+pairs-listed =
+    below
+    (none also name also identifier also exactString also teletex also printable also ia5 also numeric also nameWithBinary also boolean also integer
+    also enumeration also octets also universalTime also generalTime also unicode also presentation also nameWithString also descriptor
+    also largeInteger also sid)
+
+syntax-pairs : (syntax omSyntax : ℕ) → (syntaxFits syntax omSyntax ≡ true) ↔ SyntaxPair syntax omSyntax
+unfolding syntaxFits anyBelow
+syntax-pairs syntax omSyntax = (listed, fits)
+  where
+    listed : syntaxFits syntax omSyntax ≡ true → SyntaxPair syntax omSyntax
+    listed h = let s = says-syntax-fits syntax omSyntax .holds h in subst₂ SyntaxPair (s .is .0) (s .is .1) (pairs-listed (s .at) (s .below))
+
+    fits : {a b : ℕ} → SyntaxPair a b → syntaxFits a b ≡ true
+    fits name = refl
+    fits identifier = refl
+    fits exactString = refl
+    fits teletex = refl
+    fits printable = refl
+    fits ia5 = refl
+    fits numeric = refl
+    fits nameWithBinary = refl
+    fits boolean = refl
+    fits integer = refl
+    fits enumeration = refl
+    fits octets = refl
+    fits universalTime = refl
+    fits generalTime = refl
+    fits unicode = refl
+    fits presentation = refl
+    fits nameWithString = refl
+    fits descriptor = refl
+    fits largeInteger = refl
+    fits sid = refl
+
+-- ---- values of oMObjectClass
+
+values-listed : (i : ℕ) → i < entryCount → RightObjectClass (entrySyntax objectClasses i) (entryValue objectClasses i)
+unfolding objectClasses part padded zeros hexBytes hexDigit text
+values-listed = below (none also one also seven also sevenToo also thirteen also fourteen also fourteenToo)
+
+object-classes : (syntax : ℕ) (value : List ℕ) → (objectClassFits syntax value ≡ true) ↔ RightObjectClass syntax value
+unfolding objectClassFits anyBelow allBelow sameBytes objectClasses part padded zeros hexBytes hexDigit text
+object-classes syntax value = (listed, fits)
+  where
+    listed : objectClassFits syntax value ≡ true → RightObjectClass syntax value
+    listed h =
+        let s = says-object-class-fits syntax value .holds h in
+        subst₂ RightObjectClass (s .is .0) (sym (s .is .1)) (values-listed (s .at) (s .below))
+
+    fits : {a : ℕ} {v : List ℕ} → RightObjectClass a v → objectClassFits a v ≡ true
+    fits one = refl
+    fits seven = refl
+    fits sevenToo = refl
+    fits thirteen = refl
+    fits fourteen = refl
+    fits fourteenToo = refl
+
+-- ---- names
+
+-- two bytes are folded to one exactly if they are one, or one is the other's small letter
+folds : (b c : ℕ) → folded b ≡ folded c → (b ≡ c) ⊎ (SmallOf b c ⊎ SmallOf c b)
+unfolding folded
+folds b c e = go (says-split (says-between 65 90 b)) (says-split (says-between 65 90 c))
+  where
+    go : ((between 65 90 b ≡ true) × ((65 ≤ b) × (b ≤ 90))) ⊎ ((between 65 90 b ≡ false) × ¬ ((65 ≤ b) × (b ≤ 90)))
+        → ((between 65 90 c ≡ true) × ((65 ≤ c) × (c ≤ 90))) ⊎ ((between 65 90 c ≡ false) × ¬ ((65 ≤ c) × (c ≤ 90)))
+        → (b ≡ c) ⊎ (SmallOf b c ⊎ SmallOf c b)
+    go (inl p) (inl q) = let r : b + 32 ≡ c + 32 = (rw (p .0, q .0) at e) in inl (omega arith)
+    go (inl p) (inr q) = let r : b + 32 ≡ c = (rw (p .0, q .0) at e) in inr (inl (p .1, sym r))
+    go (inr p) (inl q) = let r : b ≡ c + 32 = (rw (p .0, q .0) at e) in inr (inr (q .1, r))
+    go (inr p) (inr q) = inl (rw (p .0, q .0) at e)
+
+pub small-folds : {b c : ℕ} → SmallOf b c → folded b ≡ folded c
+small-folds {b} {c} h = folded-upper b (h .0 .0) (h .0 .1) ∙ sym (h .1) ∙ sym (folded-other c (λ q. omega arith))
+
+letters-same : (b c : ℕ) → (sameName (b ∷ []) (c ∷ []) ≡ true) ↔ ((b ≡ c) ⊎ (SmallOf b c ⊎ SmallOf c b))
+letters-same b c = (
+  λ h. folds b c (says-same-name (b ∷ []) (c ∷ []) .holds h .bytes 0 (omega arith)),
+  λ h. says-same-name (b ∷ []) (c ∷ []) .passes
+      (record { lengths = refl; bytes = below (none also ⊎-elim (ap folded) (⊎-elim small-folds (λ q. sym (small-folds q))) h) }),
+)
+
+names : NameTables
+unfolding listBelow validName sameName isLetter isNameByte folded between allBelow text
+names = record { begins = refl; goes-on = refl; alphabets = refl; letters-same = letters-same }
+
+pub paper-tables : PaperTables
+paper-tables = record {
+  names = names;
+  categories = computed.categories;
+  syntax-pairs = syntax-pairs;
+  object-classes = object-classes;
+  defaults = computed.defaults;
+  base-bit = base-bit;
+  attribute-read = computed.attribute-read;
+  attribute-cells = computed.attribute-cells;
+  class-read = computed.class-read;
+  class-cells = computed.class-cells;
+  change-lists = computed.change-lists;
+}
