@@ -9,6 +9,7 @@ pub mod ComputedLaws
 pub mod PaperTablesLaws
 pub mod PaperSheet
 pub mod PaperSheetLaws
+pub mod PaperListingLaws
 pub mod Uses
 pub mod UsesGraphLaws
 pub mod UsesLaws
