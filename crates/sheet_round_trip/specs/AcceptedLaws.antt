@@ -1,16 +1,15 @@
 -- An accepted sheet, field by field: the bytes read so far are those of the sheet that the rows so far are written as.
-use mathlib.Core.Bool.{Bool, true, false, cond, _&&_, false≢true, true≢false}
+use mathlib.Core.Bool.{Bool, true, false, false≢true, true≢false}
 use mathlib.Core.List.{List, [], _∷_, _++_}
-use mathlib.Core.Path.{_≡_, refl, sym, ap, ap₂, _∙_}
-use Prim.Native.Nat.{ℕ, zero, suc, _+_, _-_, _≤_, _<_}
+use mathlib.Core.Path.{_≡_, refl, sym, ap, ap₂, subst, _∙_}
+use Prim.Native.Nat.{ℕ, _+_, _-_, _≤_}
 use native.Mathlib.Nat.{zero-add}
 use native.Mathlib.Omega.{arith}
 use lib.Dec.{eqb}
 use lib.ListN.{length, getD}
-use Rattle.prelude.specs.SaysLaws.{says-and, says-eq, says-test, choose}
+use Rattle.prelude.specs.SaysLaws.{says-and, says-eq}
 use Rattle.prelude.specs.Part.{part, zeros, Bytes}
 use Rattle.prelude.specs.PartLaws.{part-add, part-cons, part-none, part-all, zeros-length}
-use Rattle.wire.specs.declared.FieldRead.{FieldRead}
 use Rattle.wire.specs.Wire.{fieldAt, fieldBytes}
 use Rattle.wire.specs.WireLaws.{field-is, field-back}
 use Rattle.schema.specs.declared.number.TableId.{TableId}
@@ -18,24 +17,22 @@ use Rattle.schema.specs.declared.number.TableId.the-variants.{Attributes, Class
 use Rattle.schema.specs.Layout.{rowWidth}
 use Rattle.rows_format.specs.declared.format.Format.{Format}
 use Rattle.rows_format.specs.Columns.{writeBy}
-use Rattle.rows_format.specs.Formats.{columnsOf}
-use Rattle.rows_read.specs.declared.read.RowRead.{RowRead}
-use Rattle.rows_read.specs.Reading.{Out, out}
-use Rattle.rows_read.specs.RoundTripLaws.{row-read-written}
-use Rattle.sheet_read.specs.declared.read.SheetRead.the-variants.{Read, Bad, Full}
-use Rattle.sheet_read.specs.declared.read.SheetTag.{SheetTag}
-use Rattle.sheet_read.specs.declared.read.SheetTag.the-variants.{Heading, Row, Unknown}
+use Rattle.rows_format.specs.Formats.{columnsOf, formatWidth}
+use Rattle.rows_read.specs.Reading.{out, readBy}
+use Rattle.rows_read.specs.RoundTripLaws.{fields-back, row-read, row-read-written}
+use Rattle.rows_read.specs.WellFormed.{standsExactly}
+use Rattle.sheet_read.specs.declared.read.SheetRead.the-variants.{Read}
+use Rattle.sheet_read.specs.declared.read.SheetTag.the-variants.{Heading, Row}
 use Rattle.sheet_read.specs.declared.read.Phase.{Phase}
-use Rattle.sheet_read.specs.declared.read.Phase.the-variants.{Start, InRows}
-use Rattle.sheet_read.specs.declared.read.Room.{Room}
-use Rattle.sheet_read.specs.declared.read.Turn.{Turn}
-use Rattle.sheet_read.specs.declared.read.Turn.the-variants.{On, Stop}
-use Rattle.sheet_read.specs.Reading.{Rows, noRows, plus, schemaFrom, sheetTag, position, headingOpen, rowsOpen, isHeading, takeHeading, isRead}
-use Rattle.sheet_read.specs.Reading.{rowOut, rowTurn, rowsWith, takeTableRow, Step, step, takeTagged, fieldStep, roomAt, roomStep, takeField, SheetOut}
-use Rattle.sheet_read.specs.Reading.{onward, ended, readFrom, readSheet}
+use Rattle.sheet_read.specs.declared.read.Phase.the-variants.{InRows}
+use Rattle.sheet_read.specs.Reading.{Rows, plus, schemaFrom, sheetTag, position, headingOpen, rowsOpen, isHeading}
+use Rattle.sheet_read.specs.Reading.{rowOut}
+use Rattle.sheet_read.specs.Reading.{readSheet}
 use Rattle.sheet_write.specs.Writing.{heading, rowTag, rowField, sheetBytes}
-use Rattle.sheet_round_trip.specs.Exact.{placeOf, rawRow, ExactSheet}
-use Rattle.sheet_round_trip.specs.ExactLaws.{next-place}
+use Rattle.sheet_round_trip.specs.Exact.{FieldStands, FieldsStand, none, ExactRow, ExactSheet}
+use Rattle.sheet_round_trip.specs.ExactLaws.{says-exact-row}
+use Rattle.sheet_round_trip.specs.FieldLaws.{fields-more, read-stands}
+use Rattle.sheet_round_trip.specs.WalkLaws.{Goes, accepted-ends}
 use Rattle.sheet_round_trip.specs.RowLaws.{sheet-more, bare-sheet}
 use Rattle.wire.specs.declared.FieldRead.the-variants as fields
 use Rattle.rows_read.specs.declared.read.RowRead.the-variants as row
@@ -54,24 +51,10 @@ abbrev State : List ℕ → ℕ → Phase → Bool → Rows → Type 0
 State s at phase true x = headingOpen phase ≡ true → (at ≡ 0) × (x ≡ noRows)
 State s at phase false x = Written s at phase x
 
--- k fields were read
-record Between (s : List ℕ) (k at : ℕ) (phase : Phase) (missing : Bool) (x : Rows) : Type 0 where
-  place : at ≡ placeOf s k
+-- and the place is behind whole fields
+record Between (s : List ℕ) (at : ℕ) (phase : Phase) (missing : Bool) (x : Rows) : Type 0 where
+  behind : FieldsStand s (length s) 0 at
   state : State s at phase missing x
-
--- a turn comes to such a place, or refuses the sheet
-abbrev After : List ℕ → ℕ → Turn → Rows → Type 0
-After s k (On at phase missing) x = Between s k at phase missing x
-After s k (Stop read) x = ¬ (read ≡ Read)
-
-abbrev Fine : List ℕ → ℕ → Step → Type 0
-Fine s k y = After s k (y .turn) (y .rows)
-
-bad-refused : (at : ℕ) → ¬ (Bad at ≡ Read)
-bad-refused at e = let no : _≡_ {A = ℕ} 0 1 = cc in omega arith
-
-full-refused : (t : TableId) → ¬ (Full t ≡ Read)
-full-refused t e = let no : _≡_ {A = ℕ} 0 1 = cc in omega arith
 
 -- the tags that are known
 row-tag : (t : TableId) (tag : ℕ) → sheetTag tag ≡ Row t → tag ≡ rowTag t
@@ -152,91 +135,46 @@ module _ (s : List ℕ) (bytes : Bytes s) where
         bare Attributes p b q = b p
         bare Classes p b q = unfold rowsOpen position in (absurd (false≢true q))
 
-module _ (s : List ℕ) (bytes : Bytes s) (exact : ExactSheet s) (k : ℕ) (below : k < length s) (at : ℕ) (phase : Phase) (missing : Bool) (x : Rows)
-    (b : Between s k at phase missing x) where
-  module _ (tag start stop : ℕ) (f : fieldAt s at (length s) ≡ fields.Field tag start stop) where
-    heading-after : sheetTag tag ≡ Heading → Fine s (suc k) (step (takeHeading s at start stop phase) x)
-    unfolding takeHeading
-    heading-after known =
-        choose (λ (t : Turn). Fine s (suc k) (step t x)) (headingOpen phase && isHeading s start stop)
-        (λ e. (let h = says-and (says-test (headingOpen phase)) (says-test (isHeading s start stop)) .holds e in
-        record {
-          place = next-place s k at tag start stop (b .place) f;
-          state = heading-state s bytes at phase x tag start stop f missing known (h .0)
-              (h .1) (b .state);
-        }))
-        (λ e. bad-refused at)
-
-    row-after : (t : TableId) → sheetTag tag ≡ Row t → rowsOpen phase t ≡ true → Fine s (suc k) (takeTableRow t s start stop missing x)
-    unfolding takeTableRow rowsWith rowTurn rawRow
-    row-after t known o = go (rowOut t s start stop .answer) refl
-      where
-        y : Out
-        y = rowOut t s start stop
-
-        go : (r : RowRead) → y .answer ≡ r → Fine s (suc k) (step (rowTurn t stop missing r) (cond (isRead r) (plus t (y .row) x) x))
-        go (row.Bad place) e = bad-refused place
-        go row.Read e =
-            let read : y ≡ out row.Read (y .row) = λ i. record { answer = e i; row = y .row } in
-            let w = field-is s at (length s) tag start stop f in
-            let z : rowWidth t ≤ length (zeros (rowWidth t)) = omega (arith, zeros-length (rowWidth t)) in
-            let stands = exact k below t tag start stop (ap (λ (n : ℕ). fieldAt s n (length s)) (sym (b .place)) ∙ f) known in
-            let value = row-read-written t s start stop (zeros (rowWidth t)) (y .row) bytes (w .within) z read stands in
-            record {
-              place = next-place s k at tag start stop (b .place) f;
-              state = row-state s bytes at phase x tag start stop f t (y .row) missing
-                  known o value (b .state);
-            }
-
-    tagged-after : (which : SheetTag) → sheetTag tag ≡ which → Fine s (suc k) (takeTagged which s at phase missing start stop x)
-    unfolding takeTagged
-    tagged-after Heading known = heading-after known
-    tagged-after (Row t) known = choose (Fine s (suc k)) (rowsOpen phase t) (λ o. row-after t known o) (λ o. bad-refused at)
-    tagged-after Unknown known = bad-refused at
-
-  field-after : (r : FieldRead) → fieldAt s at (length s) ≡ r → Fine s (suc k) (fieldStep r s at phase missing x)
-  unfolding fieldStep
-  field-after fields.End e = bad-refused at
-  field-after (fields.Bad place) e = bad-refused at
-  field-after (fields.Field tag start stop) e = tagged-after tag start stop e (sheetTag tag) refl
-
-  step-after : Fine s (suc k) (takeField s at phase missing x)
-  unfolding takeField roomStep
-  step-after = go (roomAt (sheetTag (getD s at 0)) x)
-    where
-      go : (r : Room) → Fine s (suc k) (roomStep r x (fieldStep (fieldAt s at (length s)) s at phase missing x))
-      go (room.Full t) = full-refused t
-      go room.Free = field-after (fieldAt s at (length s)) refl
-
 -- ---- all fields
 
--- a sheet that was accepted is the sheet of the rows
-abbrev Same : List ℕ → SheetOut → Type 0
-Same s o = o .answer ≡ Read → sheetBytes (schemaFrom (o .rows)) ≡ s
-
 module _ (s : List ℕ) (bytes : Bytes s) (exact : ExactSheet s) where
-  -- at the end of the sheet
-  end-same : (at : ℕ) (phase : Phase) (missing : Bool) (x : Rows) → State s at phase missing x → at ≡ length s → Same s (ended s at missing x)
-  unfolding ended
-  end-same at phase true x w e q = absurd (bad-refused at q)
-  end-same at phase false x w e q = sym (w .same) ∙ ap (λ (n : ℕ). part 0 n s) e ∙ part-all (length s) s (omega arith)
+  -- a row's value is what the row that was read is written as
+  row-value : (t : TableId) (at tag start stop : ℕ) → fieldAt s at (length s) ≡ fields.Field tag start stop → sheetTag tag ≡ Row t
+      → FieldsStand s (length s) 0 at → rowOut t s start stop ≡ out row.Read (rowOut t s start stop .row)
+      → writeBy (columnsOf (Format.Row t)) (rowOut t s start stop .row) ≡ part start (stop - start) s
+  unfolding standsExactly formatWidth rowTag
+  row-value Classes at tag start stop f known b read =
+      let w = field-is s at (length s) tag start stop f in
+      row-read-written Classes s start stop (zeros (rowWidth Classes)) _ bytes (w .within) (omega (arith, zeros-length (rowWidth Classes))) read refl
+  row-value Attributes at tag start stop f known b read =
+      let w = field-is s at (length s) tag start stop f in
+      let blank : List ℕ = zeros (rowWidth Attributes) in
+      let fits : rowWidth Attributes ≤ length blank = omega (arith, zeros-length (rowWidth Attributes)) in
+      let raw : List ℕ = readBy s stop (columnsOf (Format.Row Attributes)) start false blank .row in
+      let back = fields-back (Format.Row Attributes) s start stop blank raw bytes (w .within) fits
+      (row-read (Format.Row Attributes) s start stop blank _ read .0) in
+      let stands : FieldStands s (length s) at 32 stop =
+      subst (λ (n : ℕ). FieldStands s (length s) at n stop) (row-tag Attributes tag known) (read-stands s at (length s) tag start stop f) in
+      let row-exact : ExactRow s start stop =
+      subst (λ (n : ℕ). ExactRow s n stop) (sym (w .start-is)) (exact at stop (record { before = b; field = stands })) in
+      row-read-written Attributes s start stop blank _ bytes (w .within) fits read
+      (says-exact-row s start stop raw (omega (arith, w .start-is, w .stop-is)) (w .within) (omega (arith, back .0)) (back .1 .0) (back .1 .1) .passes row-exact)
 
-  from-same : (n k at : ℕ) (phase : Phase) (missing : Bool) (x : Rows) → k + n ≡ length s → Between s k at phase missing x
-      → Same s (readFrom n s at phase missing x)
-  unfolding readFrom
-  from-same zero k at phase missing x h b =
-      choose (Same s) (eqb at (length s)) (λ e. end-same at phase missing x (b .state) (says-eq at (length s) .holds e)) (λ d q. absurd (bad-refused at q))
-  from-same (suc n) k at phase missing x h b =
-      choose (Same s) (eqb at (length s)) (λ e. end-same at phase missing x (b .state) (says-eq at (length s) .holds e))
-      (λ d. onward-same (readFrom n s) (λ at phase missing x. from-same n (suc k) at phase missing x (omega arith)) (takeField s at phase missing x .turn)
-      (takeField s at phase missing x .rows) (step-after s bytes exact k (omega arith) at phase missing x b))
-    where
-      onward-same : (rest : ℕ → Phase → Bool → Rows → SheetOut)
-          → ((at : ℕ) (phase : Phase) (missing : Bool) (x : Rows) → Between s (suc k) at phase missing x → Same s (rest at phase missing x))
-          → (t : Turn) (y : Rows) → After s (suc k) t y → Same s (onward rest t y)
-      onward-same rest same (On next later lacking) y r = unfold onward in (same next later lacking y r)
-      onward-same rest same (Stop read) y r = unfold onward in (λ q. absurd (r q))
+  goes : Goes s (Between s)
+  goes = record {
+    heading = λ at phase missing x tag start stop f known o h b. record {
+      behind = fields-more (b .behind) (read-stands s at (length s) tag start stop f);
+      state = heading-state s bytes at phase x tag start stop f missing known o h (b .state);
+    };
+    row = λ at phase missing x tag start stop f t known o read b. record {
+      behind = fields-more (b .behind) (read-stands s at (length s) tag start stop f);
+      state = row-state s bytes at phase x tag start stop f t (rowOut t s start stop .row) missing known o
+          (row-value t at tag start stop f known (b .behind) read) (b .state);
+    };
+  }
 
+  -- a sheet that was accepted is the sheet of the rows
   pub accepted-same : readSheet s .answer ≡ Read → sheetBytes (schemaFrom (readSheet s .rows)) ≡ s
-  unfolding readSheet placeOf
-  accepted-same = from-same (length s) 0 0 Start true noRows (omega arith) (record { place = refl; state = λ e. (refl, refl) })
+  accepted-same e =
+      let last = accepted-ends s (Between s) goes (record { behind = none; state = λ e. (refl, refl) }) e in
+      sym (last .holds .state .same) ∙ part-all (length s) s (omega arith)

@@ -1,58 +1,47 @@
--- The sheets that the tables give back. Document 01: "sheet, tables, sheet does if accepted and 08 stands exactly where oMSyntax is 127".
-use mathlib.Core.Bool.{Bool, true, false}
+-- The sheets that the tables give back. Document 01: "sheet, tables, sheet does if accepted and 08 stands exactly where oMSyntax is 127". It is said of the
+-- fields that stand in the sheet, byte by byte, and of nothing that a reader makes of them; `says-exact-row` (ExactLaws) joins it to what is read.
 use mathlib.Core.List.{List}
+use mathlib.Core.Logic.{_↔_}
 use mathlib.Core.Path.{_≡_}
-use Prim.Native.Nat.{ℕ, zero, suc, _<_}
-use lib.ListN.{length}
-use Rattle.prelude.specs.Below.{allBelow}
-use Rattle.prelude.specs.Part.{zeros}
-use Rattle.wire.specs.declared.FieldRead.{FieldRead}
-use Rattle.wire.specs.declared.FieldRead.the-variants.{Field, End, Bad}
-use Rattle.wire.specs.Wire.{fieldAt}
-use Rattle.schema.specs.declared.number.TableId.{TableId}
-use Rattle.schema.specs.Layout.{rowWidth}
-use Rattle.rows_format.specs.declared.format.Format.{Format}
-use Rattle.rows_format.specs.Formats.{columnsOf}
-use Rattle.rows_read.specs.Reading.{readBy}
-use Rattle.rows_read.specs.WellFormed.{standsExactly}
-use Rattle.sheet_read.specs.declared.read.SheetTag.{SheetTag}
-use Rattle.sheet_read.specs.declared.read.SheetTag.the-variants.{Heading, Row, Unknown}
-use Rattle.sheet_read.specs.Reading.{sheetTag}
+use Prim.Native.Nat.{ℕ, _+_, _≤_}
+use lib.ListN.{length, getD}
+use Rattle.prelude.specs.BigEndian.{bigEndian}
 
--- where a field ends; the end of the sheet where there is none, and the place of one that is cut
-unfoldable pub endOf : List ℕ → FieldRead → ℕ
-endOf s (Field tag start stop) = stop
-endOf s End = length s
-endOf s (Bad at) = at
+-- "one byte tag, two bytes length, value": a whole field stands at a place of the fields that end at `end`, and its value goes up to `stop`
+pub record FieldStands (s : List ℕ) (end at tag stop : ℕ) : Type 0 where
+  pub tagged : getD s at 0 ≡ tag
+  pub header : at + 3 ≤ end
+  pub ends : stop ≡ at + 3 + bigEndian 2 (at + 1) s
+  pub within : stop ≤ end
 
--- where field k of a sheet begins
-unfoldable pub placeOf : List ℕ → ℕ → ℕ
-placeOf s zero = 0
-placeOf s (suc k) = endOf s (fieldAt s (placeOf s k) (length s))
+-- whole fields, none or more, stand one behind the other from a place up to another
+pub data FieldsStand (s : List ℕ) (end : ℕ) : ℕ → ℕ → Type 0 where
+  none : {at : ℕ} → FieldsStand s end at at
+  more : {from tag stop at : ℕ} → FieldStands s end from tag stop → FieldsStand s end stop at → FieldsStand s end from at
 
--- the row s[start..stop) as its fields are read, before 08 is dropped or its default stored
-unfoldable pub rawRow : TableId → List ℕ → ℕ → ℕ → List ℕ
-rawRow t s start stop = readBy s stop (columnsOf (Format.Row t)) start false (zeros (rowWidth t)) .row
+-- among the fields of s[from..end) one with the tag stands at a place
+pub record Stands (s : List ℕ) (from end tag at stop : ℕ) : Type 0 where
+  pub before : FieldsStand s end from at
+  pub field : FieldStands s end at tag stop
 
--- an attribute row has 08 exactly where its oMSyntax is 127. Of any other field nothing is asked
-unfoldable pub exactTagged : SheetTag → List ℕ → ℕ → ℕ → Bool
-exactTagged (Row t) s start stop = standsExactly t (rawRow t s start stop)
-exactTagged Heading s start stop = true
-exactTagged Unknown s start stop = true
+-- "08 oMObjectClass" stands in the value s[from..end) of a row
+pub record HasObjectClass (s : List ℕ) (from end : ℕ) : Type 0 where
+  pub at : ℕ
+  pub stop : ℕ
+  pub stands : Stands s from end 8 at stop
 
-unfoldable pub exactField : List ℕ → FieldRead → Bool
-exactField s (Field tag start stop) = exactTagged (sheetTag tag) s start stop
-exactField s End = true
-exactField s (Bad at) = true
+-- "07 oMSyntax (a byte ..)" stands in it, and that byte is 127
+pub record HasObjectSyntax (s : List ℕ) (from end : ℕ) : Type 0 where
+  pub at : ℕ
+  pub stop : ℕ
+  pub stands : Stands s from end 7 at stop
+  pub one : stop ≡ at + 3 + 1
+  pub object : getD s (at + 3) 0 ≡ 127
 
--- "08 stands exactly where oMSyntax is 127", in every attribute row of a sheet. It has no more fields than bytes
-unfoldable pub exactSheet : List ℕ → Bool
-exactSheet s = allBelow (length s) (λ k. exactField s (fieldAt s (placeOf s k) (length s)))
+-- "08 stands exactly where oMSyntax is 127"
+abbrev pub ExactRow : List ℕ → ℕ → ℕ → Type 0
+ExactRow s from end = HasObjectClass s from end ↔ HasObjectSyntax s from end
 
--- ---- the same as a statement
-
--- every row of a sheet
+-- in every attribute row of a sheet: "attribute rows 20", the tag in decimal here
 abbrev pub ExactSheet : List ℕ → Type 0
-ExactSheet s =
-    (k : ℕ) → k < length s → (t : TableId) (tag start stop : ℕ) → fieldAt s (placeOf s k) (length s) ≡ Field tag start stop → sheetTag tag ≡ Row t
-    → standsExactly t (rawRow t s start stop) ≡ true
+ExactSheet s = (at stop : ℕ) → Stands s 0 (length s) 32 at stop → ExactRow s (at + 3) stop

@@ -1,50 +1,107 @@
--- What the test of a sheet says, row by row.
-use mathlib.Core.Bool.{true}
+-- "08 stands exactly where oMSyntax is 127": what is said of the bytes of an attribute row is what is so of the fields as they are read from them.
+use mathlib.Core.Bool.{true, false, false≢true}
 use mathlib.Core.List.{List}
 use mathlib.Core.Path.{_≡_, refl, sym, ap, _∙_}
-use Prim.Native.Nat.{ℕ, suc}
+use Prim.Native.Nat.{ℕ, _+_, _-_, _≤_, _<_}
+use native.Mathlib.Nat.{add-zero}
+use native.Mathlib.Decide.{ℕ-discrete}
 use native.Mathlib.Omega.{arith}
-use lib.ListN.{length}
+use lib.ListN.{length, getD}
 use Rattle.prelude.specs.Says.{Says}
-use Rattle.prelude.specs.SaysLaws.{says-iff}
-use Rattle.prelude.specs.BelowLaws.{says-all}
-use Rattle.wire.specs.declared.FieldRead.{FieldRead}
-use Rattle.wire.specs.declared.FieldRead.the-variants.{Field, End, Bad}
-use Rattle.wire.specs.Wire.{fieldAt}
-use Rattle.schema.specs.declared.number.TableId.{TableId}
+use Rattle.prelude.specs.SaysLaws.{says-eq, says-false, says-not-test, says-true}
+use Rattle.prelude.specs.Part.{part, isZero}
+use Rattle.prelude.specs.PartLaws.{part-at, part-length, says-zero, zeros-at}
+use Rattle.schema.specs.declared.number.TableId.the-variants.{Attributes}
+use Rattle.schema.specs.Layout.{objectClassLimit, omSyntaxAt, objectClassAt, attributeWidth}
+use Rattle.schema.specs.AttributeRow.{omSyntaxOf, objectClassLength}
+use Rattle.rows_format.specs.declared.column.Encoding.the-variants.{Counted}
+use Rattle.rows_format.specs.declared.column.Presence.the-variants.{Optional}
+use Rattle.rows_format.specs.declared.format.Format.the-variants.{Row}
+use Rattle.rows_format.specs.Encodings.{room, stored}
+use Rattle.rows_format.specs.EncodingsLaws.{says-holds}
+use Rattle.rows_format.specs.Columns.{mark, columnWidth, cellAt, hasValue, valueOf, wellFormedCell, wellFormedBy, writeBy}
+use Rattle.rows_format.specs.ColumnsLaws.{formed-at}
+use Rattle.rows_format.specs.Formats.{column, commonColumns, attributeColumns, ownColumns, columnsOf, noColumn}
+use Rattle.rows_read.specs.ObjectClass.{objectClassWidth}
 use Rattle.rows_read.specs.WellFormed.{standsExactly}
-use Rattle.sheet_read.specs.declared.read.SheetTag.{SheetTag}
-use Rattle.sheet_read.specs.declared.read.SheetTag.the-variants.{Heading, Row, Unknown}
-use Rattle.sheet_read.specs.Reading.{sheetTag}
-use Rattle.sheet_round_trip.specs.Exact.{endOf, placeOf, rawRow, exactTagged, exactField, exactSheet, ExactSheet}
+use Rattle.sheet_round_trip.specs.Exact.{HasObjectClass, HasObjectSyntax, ExactRow}
+use Rattle.sheet_round_trip.specs.FieldLaws.{Found, valueAt, valueIn, field-column, column-field}
 
--- a field that is a row has 08 exactly where its oMSyntax is 127
-abbrev ExactField : List ℕ → FieldRead → Type 0
-ExactField s r = (t : TableId) (tag start stop : ℕ) → r ≡ Field tag start stop → sheetTag tag ≡ Row t → standsExactly t (rawRow t s start stop) ≡ true
+module _ (s : List ℕ) (start end : ℕ) (raw : List ℕ) (from : start ≤ end) (within : end ≤ length s) (fits : attributeWidth ≤ length raw)
+    (formed : wellFormedBy (columnsOf (Row Attributes)) raw ≡ true) (is : writeBy (columnsOf (Row Attributes)) raw ≡ part start (end - start) s) where
+  -- ---- 08, the eighth column
 
-says-tagged : (s : List ℕ) (which : SheetTag) (start stop : ℕ)
-    → Says (exactTagged which s start stop) ((t : TableId) → which ≡ Row t → standsExactly t (rawRow t s start stop) ≡ true)
-unfolding exactTagged
-says-tagged s (Row u) start stop = record { holds = λ e t q. (let same : u ≡ t = cc in rw same at e); passes = λ h. h u refl }
-says-tagged s Heading start stop = record { holds = λ e t q. (let no : _≡_ {A = ℕ} 0 1 = cc in absurd (omega arith)); passes = λ h. refl }
-says-tagged s Unknown start stop = record { holds = λ e t q. (let no : _≡_ {A = ℕ} 0 1 = cc in absurd (omega arith)); passes = λ h. refl }
+  abbrev class : List ℕ
+  class = part objectClassAt objectClassWidth raw
 
-says-exact-field : (s : List ℕ) (r : FieldRead) → Says (exactField s r) (ExactField s r)
-unfolding exactField
-says-exact-field s End = record { holds = λ e t k i j q. (let no : _≡_ {A = ℕ} 0 1 = cc in absurd (omega arith)); passes = λ h. refl }
-says-exact-field s (Bad at) = record { holds = λ e t k i j q. (let no : _≡_ {A = ℕ} 0 1 = cc in absurd (omega arith)); passes = λ h. refl }
-says-exact-field s (Field tag start stop) =
-    says-iff (says-tagged s (sheetTag tag) start stop) (
-      λ h t k i j q known. (let a : tag ≡ k = cc in let b : start ≡ i = cc in let c : stop ≡ j = cc in rw (b, c) at (h t (ap sheetTag a ∙ known))),
-      λ h
-          t known. h t tag start stop refl known,
-    )
+  counted : getD class 0 0 ≡ objectClassLength raw
+  counted = part-at objectClassAt objectClassWidth raw 0 (omega arith)
 
-pub says-exact : (s : List ℕ) → Says (exactSheet s) (ExactSheet s)
-unfolding exactSheet
-says-exact s = says-all (length s) (λ k l. says-exact-field s (fieldAt s (placeOf s k) (length s)))
+  class-formed : wellFormedCell (column Optional 8 (Counted 1 objectClassLimit) objectClassAt) class ≡ true
+  unfolding columnsOf ownColumns commonColumns attributeColumns cellAt columnWidth mark room
+  class-formed = formed-at (columnsOf (Row Attributes)) noColumn raw 7 formed (omega arith)
 
--- the place of the next field
-pub next-place : (s : List ℕ) (k at tag start stop : ℕ) → at ≡ placeOf s k → fieldAt s at (length s) ≡ Field tag start stop → stop ≡ placeOf s (suc k)
-unfolding placeOf endOf
-next-place s k at tag start stop e f = sym (ap (λ (x : ℕ). endOf s (fieldAt s x (length s))) (sym e) ∙ ap (endOf s) f)
+  class-some : isZero class ≡ false → ¬ (objectClassLength raw ≡ 0)
+  unfolding wellFormedCell hasValue mark
+  class-some z e = omega (arith, counted, says-holds (Counted 1 objectClassLimit) class .holds (rw z at class-formed) .0)
+
+  class-zero : ¬ (objectClassLength raw ≡ 0) → isZero class ≡ false
+  class-zero d = says-false (says-zero class) (λ e. d (sym counted ∙ ap (λ (x : List ℕ). getD x 0 0) e ∙ zeros-at (length class) 0))
+
+  stands-class : HasObjectClass s start end → ¬ (objectClassLength raw ≡ 0)
+  unfolding columnsOf ownColumns commonColumns attributeColumns cellAt columnWidth mark room hasValue
+  stands-class h = class-some (says-not-test (isZero class) .holds
+      (field-column (Row Attributes) raw s start end from within is 7 (omega arith) (h .at) (h .stop) (h .stands) .0))
+
+  class-stands : ¬ (objectClassLength raw ≡ 0) → HasObjectClass s start end
+  unfolding columnsOf ownColumns commonColumns attributeColumns cellAt columnWidth mark room hasValue
+  class-stands d =
+      let f : Found s start end 8 (valueIn (columnsOf (Row Attributes)) 7 raw) =
+      column-field (Row Attributes) raw s start end from within is 7 (omega arith) (says-not-test (isZero class) .passes (class-zero d)) in
+      record { at = f .at; stop = f .stop; stands = f .stands }
+
+  -- ---- 07, the seventh
+
+  first-byte : (at n : ℕ) → 0 < n → getD (part at n s) 0 0 ≡ getD s at 0
+  first-byte at n l = part-at at n s 0 l ∙ ap (λ (k : ℕ). getD s k 0) (add-zero at)
+
+  stands-object : HasObjectSyntax s start end → omSyntaxOf raw ≡ 127
+  unfolding columnsOf ownColumns commonColumns attributeColumns cellAt columnWidth mark room hasValue valueOf stored
+  stands-object h =
+      let value : part omSyntaxAt 1 raw ≡ valueAt s (h .at) (h .stop) =
+      field-column (Row Attributes) raw s start end from within is 6 (omega arith) (h .at) (h .stop) (h .stands) .1 in
+      let one : h .stop - (h .at + 3) ≡ 1 = omega (arith, h .one) in
+      sym (part-at omSyntaxAt 1 raw 0 (omega arith)) ∙ ap (λ (x : List ℕ). getD x 0 0) value ∙ first-byte (h .at + 3) (h .stop - (h .at + 3)) (omega arith)
+      ∙ h .object
+
+  object-stands : omSyntaxOf raw ≡ 127 → HasObjectSyntax s start end
+  unfolding columnsOf ownColumns commonColumns attributeColumns cellAt columnWidth mark room hasValue valueOf stored
+  object-stands e =
+      let f : Found s start end 7 (part omSyntaxAt 1 raw) = column-field (Row Attributes) raw s start end from within is 6 (omega arith) refl in
+      let field = f .stands .field in
+      let n : ℕ = f .stop - (f .at + 3) in
+      let wide : length (valueAt s (f .at) (f .stop)) ≡ n = part-length (f .at + 3) n s (omega (arith, field .ends, field .within)) in
+      let one : n ≡ 1 = sym wide ∙ ap length (f .value) ∙ part-length omSyntaxAt 1 raw (omega arith) in
+      record {
+        at = f .at;
+        stop = f .stop;
+        stands = f .stands;
+        one = omega (arith, field .ends);
+        object = sym (first-byte (f .at + 3) n (omega arith)) ∙ ap (λ (x : List ℕ). getD x 0 0) (f .value) ∙ part-at omSyntaxAt 1 raw 0 (omega arith) ∙ e;
+      }
+
+  -- ---- both
+
+  pub says-exact-row : Says (standsExactly Attributes raw) (ExactRow s start end)
+  unfolding standsExactly
+  says-exact-row = go (ℕ-discrete (omSyntaxOf raw) 127) (ℕ-discrete (objectClassLength raw) 0)
+    where
+      go : Dec (omSyntaxOf raw ≡ 127) → Dec (objectClassLength raw ≡ 0) → Says (standsExactly Attributes raw) (ExactRow s start end)
+      go (yes e) (yes z) = rw (says-true (says-eq (omSyntaxOf raw) 127) e, says-true (says-eq (objectClassLength raw) 0) z)
+          (record { holds = λ q. absurd (false≢true q); passes = λ h. absurd (stands-class (h .1 (object-stands e)) z) })
+      go (yes e) (no d) = rw (says-true (says-eq (omSyntaxOf raw) 127) e, says-false (says-eq (objectClassLength raw) 0) d)
+          (record { holds = λ q. (λ h. object-stands e, λ h. class-stands d); passes = λ h. refl })
+      go (no d) (yes z) = rw (says-false (says-eq (omSyntaxOf raw) 127) d, says-true (says-eq (objectClassLength raw) 0) z)
+          (record { holds = λ q. (λ h. absurd (stands-class h z), λ h. absurd (d (stands-object h))); passes = λ h. refl })
+      go (no d) (no c) = rw (says-false (says-eq (omSyntaxOf raw) 127) d, says-false (says-eq (objectClassLength raw) 0) c)
+          (record { holds = λ q. absurd (false≢true q); passes = λ h. absurd (d (stands-object (h .0 (class-stands c)))) })

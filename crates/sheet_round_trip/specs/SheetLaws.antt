@@ -19,8 +19,7 @@ use Rattle.sheet_read.specs.ReadingLaws.{Sound}
 use Rattle.sheet_write.specs.Writing.{sheetBytes}
 use Rattle.sheet_write.specs.SameLaws.{sheet-same}
 use Rattle.tables_shape.specs.Shape.{tableFormed, storesFormed}
-use Rattle.sheet_round_trip.specs.Exact.{exactSheet}
-use Rattle.sheet_round_trip.specs.ExactLaws.{says-exact}
+use Rattle.sheet_round_trip.specs.Exact.{ExactSheet}
 use Rattle.sheet_round_trip.specs.HeldLaws.{rowsHeld, store-held, held-sound, held-same}
 use Rattle.sheet_round_trip.specs.WrittenLaws.{rows-read-back}
 use Rattle.sheet_round_trip.specs.AcceptedLaws.{accepted-same}
@@ -56,6 +55,6 @@ module _ (a c : List ℕ) (ba : Bytes a) (bc : Bytes c) (la : storeLength Attrib
 
 -- ---- sheet, tables, sheet
 
--- a sheet that is accepted, with 08 exactly where oMSyntax is 127 (`says-exact` has it with quantifiers), is what its rows are written as
-pub read-written : (s : List ℕ) → Bytes s → exactSheet s ≡ true → readSheet s .answer ≡ Read → sheetBytes (schemaFrom (readSheet s .rows)) ≡ s
-read-written s bytes exact = accepted-same s bytes (says-exact s .holds exact)
+-- a sheet that is accepted, with 08 exactly where oMSyntax is 127, is what its rows are written as
+pub read-written : (s : List ℕ) → Bytes s → ExactSheet s → readSheet s .answer ≡ Read → sheetBytes (schemaFrom (readSheet s .rows)) ≡ s
+read-written s bytes exact = accepted-same s bytes exact

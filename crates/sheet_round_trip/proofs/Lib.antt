@@ -1,2 +1,0 @@
--- Sheets tested by computation.
-pub mod Vectors
