@@ -1,5 +1,6 @@
 -- A change: what reading it comes to, and what it carries.
 pub mod Reading
+pub mod Stopping
 pub mod Carried
 pub mod ChangeLaws
 pub mod AdditionLaws

@@ -1,6 +1,7 @@
 -- Reading a row by its table, the default of oMObjectClass, the encoding of a row, and the round trips.
 pub mod Reading
 pub mod ReadingLaws
+pub mod Stopping
 pub mod ObjectClass
 pub mod ObjectClassLaws
 pub mod ReadBackLaws
