@@ -25,11 +25,12 @@ use Rattle.sheet_read.specs.declared.read.SheetRead.the-variants.{Read}
 use Rattle.sheet_read.specs.declared.read.SheetTag.the-variants.{Heading, Row}
 use Rattle.sheet_read.specs.declared.read.Phase.{Phase}
 use Rattle.sheet_read.specs.declared.read.Phase.the-variants.{InRows}
-use Rattle.sheet_read.specs.Reading.{Rows, plus, schemaFrom, sheetTag, position, headingOpen, rowsOpen, isHeading}
+use Rattle.sheet_read.specs.Reading.{Rows, plus, schemaFrom, sheetTag, position, headingOpen, rowsOpen, isHeading, noRows}
 use Rattle.sheet_read.specs.Reading.{rowOut}
 use Rattle.sheet_read.specs.Reading.{readSheet}
 use Rattle.sheet_write.specs.Writing.{heading, rowTag, rowField, sheetBytes}
-use Rattle.sheet_round_trip.specs.Exact.{FieldStands, FieldsStand, none, ExactRow, ExactSheet}
+use Rattle.rows_read.specs.Stopping.{FieldStands}
+use Rattle.sheet_round_trip.specs.Exact.{FieldsStand, none, ExactRow, ExactSheet}
 use Rattle.sheet_round_trip.specs.ExactLaws.{says-exact-row}
 use Rattle.sheet_round_trip.specs.FieldLaws.{fields-more, read-stands}
 use Rattle.sheet_round_trip.specs.WalkLaws.{Goes, accepted-ends}

@@ -1,18 +1,11 @@
 -- The sheets that the tables give back. Document 01: "sheet, tables, sheet does if accepted and 08 stands exactly where oMSyntax is 127". It is said of the
--- fields that stand in the sheet, byte by byte, and of nothing that a reader makes of them; `says-exact-row` (ExactLaws) joins it to what is read.
+-- fields that stand in the sheet (`FieldStands`: "one byte tag, two bytes length, value"), and of nothing that a reader makes of them; `says-exact-row` (ExactLaws) joins it to what is read.
 use mathlib.Core.List.{List}
 use mathlib.Core.Logic.{_↔_}
 use mathlib.Core.Path.{_≡_}
-use Prim.Native.Nat.{ℕ, _+_, _≤_}
+use Prim.Native.Nat.{ℕ, _+_}
 use lib.ListN.{length, getD}
-use Rattle.prelude.specs.BigEndian.{bigEndian}
-
--- "one byte tag, two bytes length, value": a whole field stands at a place of the fields that end at `end`, and its value goes up to `stop`
-pub record FieldStands (s : List ℕ) (end at tag stop : ℕ) : Type 0 where
-  pub tagged : getD s at 0 ≡ tag
-  pub header : at + 3 ≤ end
-  pub ends : stop ≡ at + 3 + bigEndian 2 (at + 1) s
-  pub within : stop ≤ end
+use Rattle.rows_read.specs.Stopping.{FieldStands}
 
 -- whole fields, none or more, stand one behind the other from a place up to another
 pub data FieldsStand (s : List ℕ) (end : ℕ) : ℕ → ℕ → Type 0 where

@@ -22,7 +22,8 @@ use Rattle.rows_format.specs.declared.format.Format.{Format}
 use Rattle.rows_format.specs.Formats.{noColumn, columnsOf, formatWidth}
 use Rattle.rows_format.specs.FormatsLaws.{without, distinct, format-distinct, format-laid}
 use Rattle.rows_format.specs.ShortLaws.{field-bound}
-use Rattle.sheet_round_trip.specs.Exact.{FieldStands, FieldsStand, none, more, Stands}
+use Rattle.rows_read.specs.Stopping.{FieldStands}
+use Rattle.sheet_round_trip.specs.Exact.{FieldsStand, none, more, Stands}
 use Rattle.wire.specs.declared.FieldRead.the-variants as fields
 
 -- ---- a field that stands is the one that is read there

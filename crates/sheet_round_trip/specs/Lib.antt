@@ -8,3 +8,4 @@ pub mod WrittenLaws
 pub mod AcceptedLaws
 pub mod HeldLaws
 pub mod SheetLaws
+pub mod LongestLaws
