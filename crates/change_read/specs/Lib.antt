@@ -2,5 +2,7 @@
 pub mod Reading
 pub mod Stopping
 pub mod Carried
+pub mod Written
 pub mod ChangeLaws
 pub mod AdditionLaws
+pub mod WrittenLaws

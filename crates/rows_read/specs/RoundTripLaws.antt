@@ -1,11 +1,11 @@
 -- The round trips of whole rows. What the reader accepts is well-formed, and is written as the bytes that were read, an attribute row where 08 stands
 -- exactly where oMSyntax is 127; a well-formed row that is written is read back.
 use mathlib.Core.Bool.{true, false}
-use mathlib.Core.List.{List, _++_}
+use mathlib.Core.List.{List, [], _++_}
 use mathlib.Core.Path.{_≡_, refl, sym, ap, _∙_}
 use Prim.Native.Nat.{ℕ, _+_, _-_, _≤_}
 use native.Mathlib.Omega.{arith}
-use lib.ListN.{length}
+use lib.ListN.{length, drop, drop-of-length-le}
 use Rattle.prelude.specs.Part.{part, Bytes}
 use Rattle.schema.specs.declared.number.TableId.{TableId}
 use Rattle.schema.specs.Layout.{rowWidth}
@@ -84,11 +84,23 @@ module _ (t : TableId) (s : List ℕ) (start end : ℕ) (row new : List ℕ) (by
 
 -- ---- a well-formed row is what the reader gives back for what the writer writes
 
+-- for any format: a row whose cells are well-formed, read into a row that has the same bytes behind the cells
+pub written-value-read : (format : Format) (p q row old : List ℕ) → Bytes row → formatWidth format ≤ length row → length old ≡ length row
+    → drop (formatWidth format) old ≡ drop (formatWidth format) row → wellFormedBy (columnsOf format) row ≡ true
+    → readRow format (p ++ (writeBy (columnsOf format) row ++ q)) (length p) (length p + length (writeBy (columnsOf format) row)) old
+    ≡ out Read (finished format row)
+unfolding readRow finish
+written-value-read format p q row old bytes fits k rest f =
+    rw (write-read (columnsOf format) (formatWidth format) row (format-laid format) (format-distinct format) fits bytes f p q old k rest)
+
+nothing-behind : (n : ℕ) (s : List ℕ) → length s ≡ n → drop n s ≡ []
+nothing-behind n s e = let short : length s ≤ n = omega arith in drop-of-length-le s short
+
 module _ (t : TableId) (p q row old : List ℕ) (bytes : Bytes row) where
   pub written-row-read : length row ≡ rowWidth t → length old ≡ rowWidth t → wellFormed t row ≡ true
       → readRow (Row t) (p ++ (writeBy (columnsOf (Row t)) row ++ q)) (length p) (length p + length (writeBy (columnsOf (Row t)) row)) old ≡ out Read row
-  unfolding readRow finish finished formatWidth
+  unfolding finished formatWidth
   written-row-read l k f =
-      let w = write-read (columnsOf (Row t)) 0 (formatWidth (Row t)) row (format-laid (Row t)) (format-distinct (Row t)) (sym l) bytes
-      (formed-parts t row f .0) p q old (k ∙ sym l) refl in
-      rw w (ap (out Read) (finished-same t row (omega arith) f))
+      written-value-read (Row t) p q row old bytes (omega arith) (k ∙ sym l)
+      (nothing-behind (rowWidth t) old k ∙ sym (nothing-behind (rowWidth t) row l)) (formed-parts t row f .0)
+      ∙ ap (out Read) (finished-same t row (omega arith) f)

@@ -1,19 +1,19 @@
--- A well-formed row that is written is read back, whatever stands before and after it and whatever the row read into held: by one way through the
--- table, for any table whose tags differ.
+-- A well-formed row that is written is read back, whatever stands before and after it and whatever the cells of the row read into held: by one way
+-- through the table, for any table whose tags differ. A row may be longer than its cells; what stands behind them stays.
 use mathlib.Core.Bool.{Bool, true, false}
 use mathlib.Core.List.{List, [], _∷_, _++_, append-assoc}
 use mathlib.Core.Logic.{_⊎_, inl, inr}
-use mathlib.Core.Path.{_≡_, refl, sym, ap, _∙_}
+use mathlib.Core.Path.{_≡_, refl, sym, ap, ap₂, _∙_}
 use Prim.Native.Nat.{ℕ, _+_, _-_, _≤_, _<_}
 use native.Mathlib.Nat.{add-zero}
 use native.Mathlib.Omega.{arith}
-use lib.ListN.{length, take, drop, length-append}
+use lib.ListN.{length, take, drop, length-append, take-append-drop}
 use lib.Seq.{take-add, take-all, take-at, length-take-le}
 use borrow.Author.Tests.{eq-eqb}
 use Rattle.prelude.specs.SaysLaws.{says-and, says-not, says-eq, says-test, true-or-false}
 use Rattle.prelude.specs.Part.{part, splice, Bytes}
 use Rattle.prelude.specs.PartLaws.{part-length, part-bytes}
-use Rattle.prelude.specs.SpliceLaws.{splice-length}
+use Rattle.prelude.specs.SpliceLaws.{splice-after, splice-length}
 use Rattle.wire.specs.Wire.{fieldAt, fieldBytes}
 use Rattle.wire.specs.WireLaws.{field-end, field-length, field-read, value-read}
 use Rattle.rows_format.specs.declared.column.Column.{Column}
@@ -98,14 +98,19 @@ passes-rest r (r′ ∷ rs) o n row a h fits b f = go (passes-rest r rs (o + col
 
 -- ---- the table
 
-abbrev Reads : List Column → List ℕ → List ℕ → ℕ → Type 0
-Reads columns row w o = (p q st : List ℕ) → length st ≡ length row → take o st ≡ take o row
-    → readBy (p ++ (w ++ q)) (length p + length w) columns (length p) false st ≡ out Read row
+-- a row that holds the cells of another before o, and the same behind n
+record Holding (row : List ℕ) (o n : ℕ) (st : List ℕ) : Type 0 where
+  long : length st ≡ length row
+  front : take o st ≡ take o row
+  rest : drop n st ≡ drop n row
 
-reads-end : (row : List ℕ) → Reads [] row [] (length row)
+abbrev Reads : List Column → List ℕ → List ℕ → ℕ → ℕ → Type 0
+Reads columns row w o n = (p q st : List ℕ) → Holding row o n st → readBy (p ++ (w ++ q)) (length p + length w) columns (length p) false st ≡ out Read row
+
+reads-end : (row : List ℕ) (n : ℕ) → Reads [] row [] n n
 unfolding readBy
-reads-end row p q st l e =
-    let same : st ≡ row = sym (take-all (length row) st (omega arith)) ∙ e ∙ take-all (length row) row (omega arith) in
+reads-end row n p q st h =
+    let same : st ≡ row = sym (take-append-drop n st) ∙ ap₂ (λ (x y : List ℕ). x ++ y) (h .front) (h .rest) ∙ take-append-drop n row in
     rw (add-zero (length p), eq-eqb (length p) (length p) refl, same)
 
 module _ (r : Column) (rs : List Column) (o n : ℕ) (row w : List ℕ) (l : Laid r rs o n) (fits : n ≤ length row) (b : Bytes row)
@@ -114,23 +119,28 @@ module _ (r : Column) (rs : List Column) (o n : ℕ) (row w : List ℕ) (l : Lai
   c = cell-facts r rs o n row l fits b
 
   -- the cell stored into a row that holds those before it
-  state : (st : List ℕ) → length st ≡ length row → take o st ≡ take o row
-      → (length (splice (r .at) (cellAt r row) st) ≡ length row)
-      × (take (o + columnWidth r) (splice (r .at) (cellAt r row) st) ≡ take (o + columnWidth r) row)
+  state : (st : List ℕ) → Holding row o n st → Holding row (o + columnWidth r) n (splice (r .at) (cellAt r row) st)
   unfolding cellAt
-  state st k e = cell-state (r .at) o (columnWidth r) row st (l .place) (omega (arith, laid-le rs (o + columnWidth r) n (l .rest))) k e
+  state st h =
+      let inside : o + columnWidth r ≤ n = laid-le rs (o + columnWidth r) n (l .rest) in
+      let s = cell-state (r .at) o (columnWidth r) row st (l .place) (omega arith) (h .long) (h .front) in
+      let wide : length (part (r .at) (columnWidth r) row) ≡ columnWidth r = c .0 in
+      record {
+        long = s .0;
+        front = s .1;
+        rest = splice-after (r .at) (part (r .at) (columnWidth r) row) st (omega (arith, l .place, h .long)) n (omega (arith, l .place)) ∙ h .rest;
+      }
 
-  reads-absent : hasValue (r .presence) (cellAt r row) ≡ false → Passes r w → Reads rs row w (o + columnWidth r) → Reads (r ∷ rs) row w o
+  reads-absent : hasValue (r .presence) (cellAt r row) ≡ false → Passes r w → Reads rs row w (o + columnWidth r) n → Reads (r ∷ rs) row w o n
   unfolding readBy onward tookOf rowOf
-  reads-absent h pass ih p q st k e =
+  reads-absent h pass ih p q st k =
       let blank = blank-cell r (cellAt r row) (c .0) f h in
-      let now = state st k e in
-      rw (← (pass p q (length p + length w) refl), blank .1, ← (blank .0)) (ih p q (splice (r .at) (cellAt r row) st) (now .0) (now .1))
+      rw (← (pass p q (length p + length w) refl), blank .1, ← (blank .0)) (ih p q (splice (r .at) (cellAt r row) st) (state st k))
 
-  reads-present : hasValue (r .presence) (cellAt r row) ≡ true → Reads rs row w (o + columnWidth r)
-      → Reads (r ∷ rs) row (fieldBytes (r .tag) (valueOf r (cellAt r row)) ++ w) o
+  reads-present : hasValue (r .presence) (cellAt r row) ≡ true → Reads rs row w (o + columnWidth r) n
+      → Reads (r ∷ rs) row (fieldBytes (r .tag) (valueOf r (cellAt r row)) ++ w) o n
   unfolding readBy onward tookOf rowOf
-  reads-present h ih p q st k e =
+  reads-present h ih p q st k =
       let v : List ℕ = valueOf r (cellAt r row) in
       let vc = value-cell r (cellAt r row) (l .sound) (c .1) (c .0) f h in
       let field : List ℕ = fieldBytes (r .tag) v in
@@ -142,23 +152,22 @@ module _ (r : Column) (rs : List Column) (o n : ℕ) (row w : List ℕ) (l : Lai
       let value : part (length p + 3) (length p + 3 + length v - (length p + 3)) s ≡ v = rw span (value-read p (w ++ q) (r .tag) v) in
       let taken : Taken (length p + 3) (length p + 3 + length v) ≡ turnOf s r (fieldAt s (length p) end) =
       turn-taken s r (length p) end (sym (field-read p (w ++ q) (r .tag) v end (vc .short) (omega arith))) refl refl (rw value (vc .taken)) in
-      let now = state st k e in
       let longer : length (p ++ field) ≡ length p + 3 + length v = length-append p field ∙ omega arith in
       let ends : end ≡ length (p ++ field) + length w = omega arith in
       let regroup : s ≡ (p ++ field) ++ (w ++ q) = sym (append-assoc p field (w ++ q)) in
       rw (append-assoc field w q, ← taken, value, vc .cell-is, ends, ← longer, regroup)
-      (ih (p ++ field) q (splice (r .at) (cellAt r row) st) (now .0) (now .1))
+      (ih (p ++ field) q (splice (r .at) (cellAt r row) st) (state st k))
 
 distinct-cons : (r : Column) (rs : List Column) → distinct (r ∷ rs) ≡ true → (without (r .tag) rs ≡ true) × (distinct rs ≡ true)
 unfolding distinct
 distinct-cons r rs d = says-and (says-test (without (r .tag) rs)) (says-test (distinct rs)) .holds d
 
-pub write-read : (columns : List Column) (o n : ℕ) (row : List ℕ) → laid columns o n ≡ true → distinct columns ≡ true → n ≡ length row → Bytes row
+table-read : (columns : List Column) (o n : ℕ) (row : List ℕ) → laid columns o n ≡ true → distinct columns ≡ true → n ≤ length row → Bytes row
     → wellFormedBy columns row ≡ true
-    → Reads columns row (writeBy columns row) o
+    → Reads columns row (writeBy columns row) o n
 unfolding writeBy
-write-read [] o n row h d fits b f = let e : o ≡ length row = laid-end o n h ∙ fits in rw e (reads-end row)
-write-read (r ∷ rs) o n row h d fits b f = go (write-read rs (o + columnWidth r) n row (l .rest) (t .1) fits b (w .1))
+table-read [] o n row h d fits b f = rw (laid-end o n h) (reads-end row n)
+table-read (r ∷ rs) o n row h d fits b f = go (table-read rs (o + columnWidth r) n row (l .rest) (t .1) fits b (w .1))
     (true-or-false (hasValue (r .presence) (cellAt r row)))
   where
     l : Laid r rs o n
@@ -170,14 +179,17 @@ write-read (r ∷ rs) o n row h d fits b f = go (write-read rs (o + columnWidth 
     t : (without (r .tag) rs ≡ true) × (distinct rs ≡ true)
     t = distinct-cons r rs d
 
-    within : n ≤ length row
-    within = omega arith
-
     has : Bool
     has = hasValue (r .presence) (cellAt r row)
 
-    go : Reads rs row (writeBy rs row) (o + columnWidth r) → (has ≡ true) ⊎ (has ≡ false) → Reads (r ∷ rs) row (fieldOf r row ++ writeBy rs row) o
-    go ih (inl k) = rw (field-some r row k) (reads-present r rs o n row (writeBy rs row) l within b (w .0) k ih)
+    go : Reads rs row (writeBy rs row) (o + columnWidth r) n → (has ≡ true) ⊎ (has ≡ false) → Reads (r ∷ rs) row (fieldOf r row ++ writeBy rs row) o n
+    go ih (inl k) = rw (field-some r row k) (reads-present r rs o n row (writeBy rs row) l fits b (w .0) k ih)
     go ih (inr k) = rw (field-none r row k)
-        (reads-absent r rs o n row (writeBy rs row) l within b (w .0) k (passes-rest r rs (o + columnWidth r) n row (t .0) (l .rest) within b (w .1))
-        ih)
+        (reads-absent r rs o n row (writeBy rs row) l fits b (w .0) k (passes-rest r rs (o + columnWidth r) n row (t .0) (l .rest) fits b (w .1)) ih)
+
+-- the row read into has the same bytes behind the cells
+pub write-read : (columns : List Column) (n : ℕ) (row : List ℕ) → laid columns 0 n ≡ true → distinct columns ≡ true → n ≤ length row → Bytes row
+    → wellFormedBy columns row ≡ true → (p q old : List ℕ) → length old ≡ length row → drop n old ≡ drop n row
+    → readBy (p ++ (writeBy columns row ++ q)) (length p + length (writeBy columns row)) columns (length p) false old ≡ out Read row
+write-read columns n row h d fits b f p q old long rest =
+    table-read columns 0 n row h d fits b f p q old (record { long = long; front = refl; rest = rest })

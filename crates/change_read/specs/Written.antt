@@ -1,0 +1,44 @@
+-- A change, written. Document 01: "A change is one field"; what it carries stands in a row of cells, as the reader leaves it (`scratch`).
+use mathlib.Core.Bool.{true}
+use mathlib.Core.List.{List}
+use mathlib.Core.Path.{_≡_}
+use Prim.Native.Nat.{ℕ, _-_}
+use lib.ListN.{length, drop}
+use Rattle.prelude.specs.Part.{Bytes, zeros}
+use Rattle.wire.specs.Wire.{fieldBytes}
+use Rattle.schema.specs.declared.number.TableId.the-variants.{Attributes, Classes}
+use Rattle.schema.specs.Layout.{classWidth}
+use Rattle.rows_format.specs.Columns.{wellFormedBy, writeBy}
+use Rattle.rows_format.specs.Formats.{columnsOf, formatWidth}
+use Rattle.rows_read.specs.ObjectClass.{finished}
+use Rattle.change_read.specs.declared.read.Change.{Change}
+use Rattle.change_read.specs.declared.read.Change.the-variants.{Add, SetRange, Rename, Deactivate, Reactivate, AddEntry, RemoveEntry}
+use Rattle.change_read.specs.Reading.{formatOf}
+
+-- "40, 41 add attribute, class (value as a row, no 05); 42 range; 43, 44 name of attribute, class; 45, 46 deactivate; 47, 48 reactivate; 49, 4A list
+-- addition, removal", with the paper's hex beside each tag
+unfoldable pub changeTag : Change → ℕ
+changeTag (Add Attributes) = 64  -- 40
+changeTag (Add Classes) = 65  -- 41
+changeTag SetRange = 66  -- 42
+changeTag (Rename Attributes) = 67  -- 43
+changeTag (Rename Classes) = 68  -- 44
+changeTag (Deactivate Attributes) = 69  -- 45
+changeTag (Deactivate Classes) = 70  -- 46
+changeTag (Reactivate Attributes) = 71  -- 47
+changeTag (Reactivate Classes) = 72  -- 48
+changeTag AddEntry = 73  -- 49
+changeTag RemoveEntry = 74  -- 4A
+
+-- one field: what the change carries, by the columns of its format
+unfoldable pub changeBytes : Change → List ℕ → List ℕ
+changeBytes change carried = fieldBytes (changeTag change) (writeBy (columnsOf (formatOf change)) carried)
+
+-- what a change may carry: bytes, as many as a class row has; each cell of its format one that the reader could have stored; in an added attribute row
+-- oMObjectClass as the other fields ask (rule 27); and nothing behind the cells
+pub record WellFormedChange (change : Change) (carried : List ℕ) : Type 0 where
+  pub bytes : Bytes carried
+  pub wide : length carried ≡ classWidth
+  pub formed : wellFormedBy (columnsOf (formatOf change)) carried ≡ true
+  pub settled : finished (formatOf change) carried ≡ carried
+  pub bare : drop (formatWidth (formatOf change)) carried ≡ zeros (classWidth - formatWidth (formatOf change))
