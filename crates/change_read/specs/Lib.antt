@@ -6,3 +6,4 @@ pub mod Written
 pub mod ChangeLaws
 pub mod AdditionLaws
 pub mod WrittenLaws
+pub mod CarriedLaws

@@ -1,5 +1,5 @@
 -- A well-formed change that is written is read as that change; and what is read is well-formed, so every change that can be read comes of one that is written.
-use mathlib.Core.List.{List, [], _++_, append-nil}
+use mathlib.Core.List.{List, [], append-nil}
 use mathlib.Core.Path.{_≡_, refl, sym, ap, _∙_}
 use Prim.Native.Nat.{ℕ, _+_, _-_, _≤_}
 use native.Mathlib.Omega.{arith}
@@ -23,7 +23,7 @@ use Rattle.change_read.specs.declared.read.Change.{Change}
 use Rattle.change_read.specs.declared.read.Change.the-variants.{Add, SetRange, Rename, Deactivate, Reactivate, AddEntry, RemoveEntry}
 use Rattle.change_read.specs.declared.read.Tagged.the-variants.{Known}
 use Rattle.change_read.specs.declared.read.ChangeRead.the-variants.{Read}
-use Rattle.change_read.specs.Reading.{changeOf, formatOf, changeOut, scratch, wholeRead, readValue, taggedOut, fieldOut, readChange}
+use Rattle.change_read.specs.Reading.{changeOf, formatOf, scratch, wholeRead, readValue, taggedOut, fieldOut, readChange}
 use Rattle.change_read.specs.ChangeLaws.{Reads, format-fits-row, scratch-length}
 use Rattle.change_read.specs.Written.{changeTag, changeBytes, WellFormedChange}
 use Rattle.wire.specs.declared.FieldRead.the-variants as fields
@@ -44,7 +44,7 @@ tag-known (Reactivate Classes) = refl
 tag-known AddEntry = refl
 tag-known RemoveEntry = refl
 
-zeros-behind : (n m : ℕ) → n ≤ m → drop n (zeros m) ≡ zeros (m - n)
+pub zeros-behind : (n m : ℕ) → n ≤ m → drop n (zeros m) ≡ zeros (m - n)
 zeros-behind n m l =
     let whole : m ≡ n + (m - n) = omega arith in
     ap (λ (k : ℕ). drop n (zeros k)) whole ∙ ap (drop n) (zeros-add n (m - n)) ∙ drop-at (zeros n) (zeros (m - n)) n (zeros-length n)

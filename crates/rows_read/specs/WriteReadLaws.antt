@@ -8,7 +8,7 @@ use Prim.Native.Nat.{ℕ, _+_, _-_, _≤_, _<_}
 use native.Mathlib.Nat.{add-zero}
 use native.Mathlib.Omega.{arith}
 use lib.ListN.{length, take, drop, length-append, take-append-drop}
-use lib.Seq.{take-add, take-all, take-at, length-take-le}
+use lib.Seq.{take-add, take-at, length-take-le}
 use borrow.Author.Tests.{eq-eqb}
 use Rattle.prelude.specs.SaysLaws.{says-and, says-not, says-eq, says-test, true-or-false}
 use Rattle.prelude.specs.Part.{part, splice, Bytes}
