@@ -105,7 +105,7 @@ module _ (cs : List Column) (s : List ℕ) (end start : ℕ) where
     before = λ i m. omega (arith, h .before i m);
     passed = λ j stop g a c. ⊎-elim (λ b. h .passed j stop b a c) (λ e. d stop (rw e at c)) (last-or-less g);
     lacks = λ e. ⊎-elim this (λ e. earlier (h .lacks e)) (says-or required-is (says-test lacking) .holds e);
-    has = λ e j g n. ⊎-elim (λ b. h .has (neither needs lacking e .1) j b n) (λ q. absurd (says-fails required-is (neither needs lacking e .0) (rw q at (n .1))))
+    has = λ e j g n. ⊎-elim (λ b. h .has (neither needs lacking e .1) j b n) (λ q. absurd (optional (neither needs lacking e .0) (rw q at (n .1))))
         (last-or-less g);
   }
     where
@@ -114,6 +114,9 @@ module _ (cs : List Column) (s : List ℕ) (end start : ℕ) where
 
       required-is : Says needs (columnAt cs k .presence ≡ Required)
       required-is = says-required (columnAt cs k .presence)
+
+      optional : needs ≡ false → ¬ (columnAt cs k .presence ≡ Required)
+      optional = says-fails required-is
 
       this : columnAt cs k .presence ≡ Required → Lacking (suc k) taken
       this e = record { column = k; before = omega arith; needed = (l, e); lacks = λ m. omega (arith, h .before k m) }
@@ -191,7 +194,8 @@ module _ (cs : List Column) (s : List ℕ) (end start : ℕ) where
       own : {stop : ℕ} → ColumnStands cs s end at k stop → fieldAt s at end ≡ fields.Field (r .tag) (at + 3) stop
           → (takes r (valueAt s at stop) ≡ true) ⊎ (takes r (valueAt s at stop) ≡ false) → Stops (readBy s end (drop k cs) at lacking row)
       own {stop} c q (inl e) =
-          rw (read-next cs noColumn s end k at lacking row l refl (stepped-taken s r at end lacking row (turn-taken s r at end refl q refl e) refl) refl, add-one k)
+          let taken-is = stepped-taken s r at end lacking row (turn-taken s r at end refl q refl e) refl in
+          rw (read-next cs noColumn s end k at lacking row l refl taken-is refl, add-one k)
           (rest _ _ _ _ (so-taken h c (λ u. true≢false (sym e ∙ unfit-field (valueAt s at stop) r .1 u))))
       own {stop} c q (inr e) = refuse (turn-refused s r at end refl q refl e) (wrong c (unfit-field (valueAt s at stop) r .0 e))
 

@@ -1,5 +1,5 @@
--- Why a value cannot be a field's: one case for each reason that document 01 gives, said of its bytes. `says-unfit` and `says-unfit-field` (UnfitLaws)
--- join it to the tests that the code is proved against.
+-- Why a value cannot be a field's: one case for each reason that document 01 gives, said of its bytes. `unfit` and `unfit-field` (UnfitLaws) join it to
+-- the tests that the code is proved against.
 use mathlib.Core.List.{List}
 use mathlib.Core.Path.{_≡_}
 use Prim.Native.Nat.{ℕ, suc, _*_, _≤_, _<_}
@@ -12,10 +12,11 @@ use Rattle.rows_format.specs.declared.column.Encoding.{Encoding}
 use Rattle.rows_format.specs.declared.column.Encoding.the-variants.{Plain, Number, Counted, Arcs, Entries}
 use Rattle.rows_format.specs.declared.column.Presence.the-variants.{Never}
 
--- "two bytes an entry": how many bytes the entries up to this one take, and what it is
+-- "two bytes an entry": a whole entry i stands in the value
 abbrev pub HasEntry : List ℕ → ℕ → Type 0
 HasEntry v i = suc i * 2 ≤ length v
 
+-- and is this number
 abbrev pub entryOf : List ℕ → ℕ → ℕ
 entryOf v i = bigEndian 2 (i * 2) v
 
@@ -24,7 +25,7 @@ pub data Unfit : Encoding → List ℕ → Type 0 where
   not-as-long : {len : ℕ} {test : Test} {v : List ℕ} → ¬ (length v ≡ len) → Unfit (Plain len test) v
   -- "Category over 3"
   category-over : {len limit : ℕ} {v : List ℕ} → limit ≤ getD v 0 0 → Unfit (Plain len (Below limit)) v
-  -- "0C linkID, 0D mAPIID (4 bytes, the last two not zero)"
+  -- "0A and 0B ranges, 0C linkID, 0D mAPIID (4 bytes, the last two not zero)": the last two fields
   all-zero : {len : ℕ} {v : List ℕ} → ((i : ℕ) → i < length v → getD v i 0 ≡ 0) → Unfit (Plain len NotZero) v
   -- "21 (one byte: 15, 17, 19)", in hex
   no-list : {len : ℕ} {v : List ℕ} → ¬ (getD v 0 0 ≡ 0x15) → ¬ (getD v 0 0 ≡ 0x17) → ¬ (getD v 0 0 ≡ 0x19) → Unfit (Plain len OpenList) v
