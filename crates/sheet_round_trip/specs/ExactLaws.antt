@@ -24,6 +24,7 @@ use Rattle.rows_format.specs.ColumnsLaws.{formed-at}
 use Rattle.rows_format.specs.Formats.{column, commonColumns, attributeColumns, ownColumns, columnsOf, noColumn}
 use Rattle.rows_read.specs.ObjectClass.{objectClassWidth}
 use Rattle.rows_read.specs.WellFormed.{standsExactly}
+use Rattle.rows_read.specs.Stopping.{valueAt}
 use Rattle.sheet_round_trip.specs.Exact.{HasObjectClass, HasObjectSyntax, ExactRow}
 use Rattle.sheet_round_trip.specs.FieldLaws.{Found, valueAt, valueIn, field-column, column-field}
 

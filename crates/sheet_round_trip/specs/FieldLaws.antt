@@ -20,9 +20,10 @@ use Rattle.rows_format.specs.Columns.{columnWidth, cellAt, hasValue, valueOf, f
 use Rattle.rows_format.specs.ColumnsLaws.{laid-cons, field-none, field-some, width-small}
 use Rattle.rows_format.specs.declared.format.Format.{Format}
 use Rattle.rows_format.specs.Formats.{noColumn, columnsOf, formatWidth}
-use Rattle.rows_format.specs.FormatsLaws.{without, distinct, format-distinct, format-laid}
+use Rattle.rows_format.specs.FormatsLaws.{distinct, format-distinct, format-laid}
 use Rattle.rows_format.specs.ShortLaws.{field-bound}
-use Rattle.rows_read.specs.Stopping.{FieldStands}
+use Rattle.rows_read.specs.Stopping.{FieldStands, columnAt, valueAt}
+use Rattle.rows_read.specs.OneStopLaws.{one-column}
 use Rattle.sheet_round_trip.specs.Exact.{FieldsStand, none, more, Stands}
 use Rattle.wire.specs.declared.FieldRead.the-variants as fields
 
@@ -49,42 +50,28 @@ fields-more (more f b) g = more f (fields-more b g)
 
 -- ---- the columns that have a value
 
--- some column has the tag, and the value in its cell
-abbrev Has : List Column → List ℕ → ℕ → List ℕ → Type 0
-Has [] row tag v = ⊥
-Has (r ∷ rs) row tag v = ((r .tag ≡ tag) × ((hasValue (r .presence) (cellAt r row) ≡ true) × (valueOf r (cellAt r row) ≡ v))) ⊎ Has rs row tag v
-
-without-none : (columns : List Column) (row : List ℕ) (tag : ℕ) (v : List ℕ) → without tag columns ≡ true → Has columns row tag v → ⊥
-unfolding without
-without-none [] row tag v w h = h
-without-none (r ∷ rs) row tag v w (inl k) = says-and (says-not (says-eq (r .tag) tag)) (says-test (without tag rs)) .holds w .0 (k .0)
-without-none (r ∷ rs) row tag v w (inr k) =
-    without-none rs row tag v (says-and (says-not (says-eq (r .tag) tag)) (says-test (without tag rs)) .holds w .1) k
-
-without-at : (columns : List Column) (tag i : ℕ) → without tag columns ≡ true → i < length columns → ¬ (getD columns i noColumn .tag ≡ tag)
-unfolding without
-without-at [] tag i w l e = omega arith
-without-at (r ∷ rs) tag zero w l e = says-and (says-not (says-eq (r .tag) tag)) (says-test (without tag rs)) .holds w .0 e
-without-at (r ∷ rs) tag (suc i) w l e = without-at rs tag i (says-and (says-not (says-eq (r .tag) tag)) (says-test (without tag rs)) .holds w .1) (omega arith) e
-
 abbrev pub HasAt : List Column → ℕ → List ℕ → Type 0
-HasAt columns j row = hasValue (getD columns j noColumn .presence) (cellAt (getD columns j noColumn) row) ≡ true
+HasAt columns j row = hasValue (columnAt columns j .presence) (cellAt (columnAt columns j) row) ≡ true
 
 abbrev pub valueIn : List Column → ℕ → List ℕ → List ℕ
-valueIn columns j row = valueOf (getD columns j noColumn) (cellAt (getD columns j noColumn) row)
+valueIn columns j row = valueOf (columnAt columns j) (cellAt (columnAt columns j) row)
+
+-- some column has the tag, and the value in its cell
+record Has (columns : List Column) (row : List ℕ) (tag : ℕ) (v : List ℕ) : Type 0 where
+  place : ℕ
+  below : place < length columns
+  tagged : columnAt columns place .tag ≡ tag
+  has : HasAt columns place row
+  value : valueIn columns place row ≡ v
+
+next-has : {r : Column} {rs : List Column} {row : List ℕ} {tag : ℕ} {v : List ℕ} → Has rs row tag v → Has (r ∷ rs) row tag v
+next-has h = record { place = suc (h .place); below = omega (arith, h .below); tagged = h .tagged; has = h .has; value = h .value }
 
 -- where the tags differ, it is the column with that tag
-has-at : (columns : List Column) (row v : List ℕ) (j : ℕ) → distinct columns ≡ true → j < length columns
-    → Has columns row (getD columns j noColumn .tag) v → HasAt columns j row × (valueIn columns j row ≡ v)
-unfolding distinct
-has-at [] row v j d l h = absurd h
-has-at (r ∷ rs) row v zero d l (inl k) = k .1
-has-at (r ∷ rs) row v zero d l (inr k) =
-    absurd (without-none rs row (r .tag) v (says-and (says-test (without (r .tag) rs)) (says-test (distinct rs)) .holds d .0) k)
-has-at (r ∷ rs) row v (suc i) d l (inl k) =
-    absurd (without-at rs (r .tag) i (says-and (says-test (without (r .tag) rs)) (says-test (distinct rs)) .holds d .0) (omega arith) (sym (k .0)))
-has-at (r ∷ rs) row v (suc i) d l (inr k) =
-    has-at rs row v i (says-and (says-test (without (r .tag) rs)) (says-test (distinct rs)) .holds d .1) (omega arith) k
+has-at : (columns : List Column) (row v : List ℕ) (j : ℕ) → distinct columns ≡ true → j < length columns → Has columns row (columnAt columns j .tag) v
+    → HasAt columns j row × (valueIn columns j row ≡ v)
+has-at columns row v j d l h =
+    subst (λ (k : ℕ). HasAt columns k row × (valueIn columns k row ≡ v)) (one-column columns d (h .place) j (h .below) l (h .tagged)) (h .has, h .value)
 
 value-short : (r : Column) (row : List ℕ) → Sound r → hasValue (r .presence) (cellAt r row) ≡ true → length (valueOf r (cellAt r row)) < 65536
 value-short r row s h =
@@ -119,10 +106,6 @@ module _ (s p q : List ℕ) (tag : ℕ) (v w : List ℕ) (e : s ≡ p ++ ((field
 
 -- ---- all fields of a written row
 
--- the value of a field that stands at a place
-abbrev pub valueAt : List ℕ → ℕ → ℕ → List ℕ
-valueAt s at stop = part (at + 3) (stop - (at + 3)) s
-
 -- one stands there, with a value
 pub record Found (s : List ℕ) (from end tag : ℕ) (v : List ℕ) : Type 0 where
   pub at : ℕ
@@ -144,7 +127,7 @@ module _ (row s : List ℕ) (end : ℕ) where
   -- and a column's value is there
   abbrev AllFound : List Column → List ℕ → Type 0
   AllFound columns w = (p q : List ℕ) → Written w p q → (j : ℕ) → j < length columns → HasAt columns j row
-      → Found s (length p) end (getD columns j noColumn .tag) (valueIn columns j row)
+      → Found s (length p) end (columnAt columns j .tag) (valueIn columns j row)
 
   module _ (r : Column) (rs : List Column) (w : List ℕ) (sound : Sound r) where
     module _ (k : hasValue (r .presence) (cellAt r row) ≡ true) where
@@ -181,16 +164,16 @@ module _ (row s : List ℕ) (end : ℕ) where
             → Has (r ∷ rs) row tag (valueAt s at stop)
         present-have rest from is at tag stop none f =
             let x = in-front at tag stop is f in
-            inl (x .0, (k, sym (ap₂ (valueAt s) is (x .1) ∙ value)))
+            record { place = 0; below = omega arith; tagged = x .0; has = k; value = sym (ap₂ (valueAt s) is (x .1) ∙ value) }
         present-have rest from is at tag stop (more {tag = t} {stop = z} g b) f =
             let x = in-front from t z is g in
-            inr (rest (p ++ fieldBytes (r .tag) v) q next at tag stop (subst (λ (n : ℕ). FieldsStand s end n at) (x .1 ∙ sym behind) b) f)
+            next-has (rest (p ++ fieldBytes (r .tag) v) q next at tag stop (subst (λ (n : ℕ). FieldsStand s end n at) (x .1 ∙ sym behind) b) f)
 
         own : FieldStands s end (length p) (r .tag) (length p + 3 + length v)
         own = read-stands s (length p) end (r .tag) (length p + 3) (length p + 3 + length v) first
 
         present-found : AllFound rs w → (j : ℕ) → j < length (r ∷ rs) → HasAt (r ∷ rs) j row
-            → Found s (length p) end (getD (r ∷ rs) j noColumn .tag) (valueIn (r ∷ rs) j row)
+            → Found s (length p) end (columnAt (r ∷ rs) j .tag) (valueIn (r ∷ rs) j row)
         present-found rest zero l h = record { at = length p; stop = length p + 3 + length v; stands = record { before = none; field = own }; value = value }
         present-found rest (suc i) l h =
             let y = rest (p ++ fieldBytes (r .tag) v) q next i (omega arith) h in
@@ -202,7 +185,7 @@ module _ (row s : List ℕ) (end : ℕ) where
             }
 
     absent-have : AllHave rs w → AllHave (r ∷ rs) w
-    absent-have rest p q e at tag stop b f = inr (rest p q e at tag stop b f)
+    absent-have rest p q e at tag stop b f = next-has (rest p q e at tag stop b f)
 
     absent-found : hasValue (r .presence) (cellAt r row) ≡ false → AllFound rs w → AllFound (r ∷ rs) w
     absent-found k rest p q e zero l h = absurd (true≢false (sym h ∙ k))
@@ -249,13 +232,13 @@ module _ (format : Format) (row s : List ℕ) (start end : ℕ) (from : start �
 
   module _ (j : ℕ) (l : j < length (columnsOf format)) where
     -- a field with a column's tag has the value of its cell
-    pub field-column : (at stop : ℕ) → Stands s start end (getD (columnsOf format) j noColumn .tag) at stop
+    pub field-column : (at stop : ℕ) → Stands s start end (columnAt (columnsOf format) j .tag) at stop
         → HasAt (columnsOf format) j row × (valueIn (columnsOf format) j row ≡ valueAt s at stop)
     field-column at stop f = has-at (columnsOf format) row (valueAt s at stop) j (format-distinct format) l
         (table-have row s end (columnsOf format) 0 (formatWidth format) (format-laid format) _ _ lent at _ stop
         (subst (λ (n : ℕ). FieldsStand s end n at) (sym place) (f .before)) (f .field))
 
     -- and a cell with a value has its field
-    pub column-field : HasAt (columnsOf format) j row → Found s start end (getD (columnsOf format) j noColumn .tag) (valueIn (columnsOf format) j row)
-    column-field h = subst (λ (n : ℕ). Found s n end (getD (columnsOf format) j noColumn .tag) (valueIn (columnsOf format) j row)) place
+    pub column-field : HasAt (columnsOf format) j row → Found s start end (columnAt (columnsOf format) j .tag) (valueIn (columnsOf format) j row)
+    column-field h = subst (λ (n : ℕ). Found s n end (columnAt (columnsOf format) j .tag) (valueIn (columnsOf format) j row)) place
         (table-found row s end (columnsOf format) 0 (formatWidth format) (format-laid format) _ _ lent j l h)
