@@ -1,11 +1,18 @@
 -- Where reading a change stops, and why, said of the fields that stand in it and not by how it is read. Document 01: "A change is one field"; "leftover
 -- bytes by their start". `change-stops` (StoppingLaws) joins it to the definition that the code is proved against.
+use mathlib.Core.List.{List}
 use mathlib.Core.Path.{_≡_}
 use Prim.Native.Nat.{ℕ, _<_}
 use lib.ListN.{length}
-use Rattle.rows_read.specs.Stopping.{FieldCut, FieldStands}
+use Rattle.schema.specs.declared.number.TableId.the-variants.{Attributes, Classes}
+use Rattle.rows_format.specs.Formats.{columnsOf}
+use Rattle.rows_read.specs.declared.read.RowRead.{RowRead}
+use Rattle.rows_read.specs.Stopping.{FieldCut, FieldStands, ValueStops}
 use Rattle.change_read.specs.declared.read.Change.{Change}
+use Rattle.change_read.specs.declared.read.Change.the-variants.{Add, SetRange, Rename, Deactivate, Reactivate, AddEntry, RemoveEntry}
+use Rattle.change_read.specs.declared.read.ChangeRead.{ChangeRead}
 use Rattle.change_read.specs.declared.read.ChangeRead.the-variants.{Read, Bad}
+use Rattle.change_read.specs.Reading.{formatOf}
 use Rattle.rows_read.specs.declared.read.RowRead.the-variants as rows
 
 -- "40, 41 add attribute, class ..; 42 range; 43, 44 name of attribute, class; 45, 46 deactivate; 47, 48 reactivate; 49, 4A list addition, removal"

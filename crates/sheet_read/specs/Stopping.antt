@@ -3,11 +3,14 @@
 -- to the definition that the code is proved against.
 use mathlib.Core.List.{List}
 use mathlib.Core.Path.{_≡_}
-use Prim.Native.Nat.{ℕ, suc, _+_, _<_}
+use Prim.Native.Nat.{ℕ, suc, _+_, _≤_, _<_}
 use lib.ListN.{getD, length}
 use Rattle.schema.specs.declared.number.TableId.{TableId}
 use Rattle.schema.specs.declared.number.TableId.the-variants.{Attributes, Classes}
-use Rattle.rows_read.specs.Stopping.{FieldCut}
+use Rattle.rows_format.specs.Formats.{columnsOf}
+use Rattle.rows_format.specs.declared.format.Format.the-variants.{Row}
+use Rattle.rows_read.specs.declared.read.RowRead.{RowRead}
+use Rattle.rows_read.specs.Stopping.{FieldCut, FieldStands, ValueStops}
 use Rattle.sheet_read.specs.declared.read.SheetRead.{SheetRead}
 use Rattle.sheet_read.specs.declared.read.SheetRead.the-variants.{Read, Bad, Full}
 use Rattle.rows_read.specs.declared.read.RowRead.the-variants as row
