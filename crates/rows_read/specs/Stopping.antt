@@ -47,7 +47,8 @@ abbrev pub After : List ℕ → ℕ → Type 0
 After taken j = (i : ℕ) → List·Memᴰ i taken → i < j
 
 -- "fields in rising tag order, each once": from start up to a place fields stand one behind the other, each of a column that comes after those of all
--- fields before it, and with a value that is fit for it. The list has these columns, the last field's first
+-- fields before it, and with a value that is fit for it. The list has these columns, the last field's first. (In a row the order of the columns is that
+-- of the tags, `row-order`; in a change 20 comes first)
 pub data AcceptedTo (cs : List Column) (s : List ℕ) (end start : ℕ) : ℕ → List ℕ → Type 0 where
   none : AcceptedTo cs s end start start []
   more : {at stop j : ℕ} {taken : List ℕ} → AcceptedTo cs s end start at taken → After taken j → ColumnStands cs s end at j stop

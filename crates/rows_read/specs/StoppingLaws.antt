@@ -1,6 +1,6 @@
 -- Reading a value stops where `ValueStops` says and as it says. Each turn of reading keeps what is known of the fields so far (`SoFar`), and its end is
 -- one of the three cases; a value stops in one way only (OneStopLaws), so that what holds of a value is what reading comes to.
-use mathlib.Core.Bool.{Bool, true, false, _||_, true≢false}
+use mathlib.Core.Bool.{Bool, true, false, _||_, _&&_, true≢false}
 use mathlib.Core.List.{List, [], _∷_, List·Memᴰ, List·Memᴰ·head, List·Memᴰ·tail, List·Memᴰ·not-nil, List·Memᴰ·cases-cons}
 use mathlib.Core.Logic.{_⊎_, inl, inr, ⊎-elim, _↔_}
 use mathlib.Core.Path.{_≡_, refl, sym, _∙_}
@@ -8,19 +8,23 @@ use Prim.Native.Nat.{ℕ, zero, suc, _+_, _≤_, _<_}
 use native.Mathlib.Decide.{ℕ-discrete, decLe, decLt}
 use native.Mathlib.Numerals.{add-one}
 use native.Mathlib.Omega.{arith}
+use lib.Dec.{leb}
 use lib.ListN.{length, drop}
 use Rattle.prelude.specs.Below.{Some}
 use Rattle.prelude.specs.BelowLaws.{last-or-less, says-any}
 use Rattle.prelude.specs.Says.{Says}
-use Rattle.prelude.specs.SaysLaws.{says-or, says-eq, says-test, says-split, says-iff, says-never, says-fails, neither, true-or-false}
+use Rattle.prelude.specs.SaysLaws.{says-and, says-or, says-le, says-eq, says-test, says-split, says-iff, says-never, says-fails, neither, true-or-false}
 use Rattle.wire.specs.Wire.{fieldAt, valueEnd}
 use Rattle.wire.specs.WireLaws.{field-end, field-short, field-past, field-whole}
+use Rattle.schema.specs.declared.number.TableId.{TableId}
+use Rattle.schema.specs.declared.number.TableId.the-variants.{Attributes, Classes}
 use Rattle.rows_format.specs.declared.column.Column.{Column}
 use Rattle.rows_format.specs.declared.column.Presence.{Presence}
 use Rattle.rows_format.specs.declared.column.Presence.the-variants.{Required, Optional, Marked, Never}
 use Rattle.rows_format.specs.declared.format.Format.{Format}
 use Rattle.rows_format.specs.Columns.{required, takes}
-use Rattle.rows_format.specs.Formats.{noColumn, columnsOf}
+use Rattle.rows_format.specs.declared.format.Format.the-variants.{Row, NewRow}
+use Rattle.rows_format.specs.Formats.{noColumn, commonColumns, attributeColumns, classColumns, ownColumns, columnsOf}
 use Rattle.rows_format.specs.FormatsLaws.{distinct, format-distinct}
 use Rattle.rows_read.specs.Unfit.{UnfitField}
 use Rattle.rows_read.specs.UnfitLaws.{unfit-field}
@@ -245,3 +249,38 @@ unfolding readRow
 value-stops format s end start row l answer =
     let o : Out = readBy s end (columnsOf format) start false row in
     rw (finish-answer format (o .answer) (o .row)) (table-stops (columnsOf format) (format-distinct format) s end start row l answer)
+
+-- ---- the order of a row's fields
+
+-- the tags of a table rise, the first at least low
+rising : ℕ → List Column → Bool
+rising low [] = true
+rising low (r ∷ rs) = leb low (r .tag) && rising (suc (r .tag)) rs
+
+rising-cons : (low : ℕ) (r : Column) (rs : List Column) → rising low (r ∷ rs) ≡ true → (low ≤ r .tag) × (rising (suc (r .tag)) rs ≡ true)
+unfolding rising
+rising-cons low r rs h = says-and (says-le low (r .tag)) (says-test (rising (suc (r .tag)) rs)) .holds h
+
+rising-from : (low : ℕ) (cs : List Column) (j : ℕ) → rising low cs ≡ true → j < length cs → low ≤ columnAt cs j .tag
+rising-from low [] j h l = absurd (omega arith)
+rising-from low (r ∷ rs) zero h l = rising-cons low r rs h .0
+rising-from low (r ∷ rs) (suc j) h l =
+    let t = rising-cons low r rs h in
+    omega (arith, t .0, rising-from (suc (r .tag)) rs j (t .1) (omega arith))
+
+-- a column that comes after another has a larger tag
+abbrev pub InTagOrder : List Column → Type 0
+InTagOrder cs = (i j : ℕ) → i < j → j < length cs → columnAt cs i .tag < columnAt cs j .tag
+
+in-tag-order : (low : ℕ) (cs : List Column) → rising low cs ≡ true → InTagOrder cs
+in-tag-order low [] h i j l k = absurd (omega arith)
+in-tag-order low (r ∷ rs) h zero zero l k = absurd (omega arith)
+in-tag-order low (r ∷ rs) h (suc i) zero l k = absurd (omega arith)
+in-tag-order low (r ∷ rs) h zero (suc j) l k = rising-from (suc (r .tag)) rs j (rising-cons low r rs h .1) (omega arith)
+in-tag-order low (r ∷ rs) h (suc i) (suc j) l k = in-tag-order (suc (r .tag)) rs (rising-cons low r rs h .1) i j (omega arith) (omega arith)
+
+-- "fields in rising tag order": in a row, the order of the columns is that of the tags
+pub row-order : (t : TableId) → InTagOrder (columnsOf (Row t)) × InTagOrder (columnsOf (NewRow t))
+unfolding rising columnsOf ownColumns commonColumns attributeColumns classColumns
+row-order Attributes = (in-tag-order 0 (columnsOf (Row Attributes)) refl, in-tag-order 0 (columnsOf (NewRow Attributes)) refl)
+row-order Classes = (in-tag-order 0 (columnsOf (Row Classes)) refl, in-tag-order 0 (columnsOf (NewRow Classes)) refl)
