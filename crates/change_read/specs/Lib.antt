@@ -4,3 +4,4 @@ pub mod Stopping
 pub mod Carried
 pub mod ChangeLaws
 pub mod AdditionLaws
+pub mod StoppingLaws
