@@ -1,7 +1,11 @@
 -- Reading a row by its table, the default of oMObjectClass, the encoding of a row, and the round trips.
 pub mod Reading
 pub mod ReadingLaws
+pub mod Unfit
+pub mod UnfitLaws
 pub mod Stopping
+pub mod OneStopLaws
+pub mod StoppingLaws
 pub mod ObjectClass
 pub mod ObjectClassLaws
 pub mod ReadBackLaws

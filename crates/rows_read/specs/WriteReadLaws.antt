@@ -68,16 +68,25 @@ passes-field r tag v w d short p q end e =
     rw (append-assoc (fieldBytes tag v) w q)
     (turn-other (p ++ (fieldBytes tag v ++ (w ++ q))) r (length p) end (sym (field-read p (w ++ q) tag v end short (omega arith))) refl d)
 
+-- tags that differ, apart
+pub without-cons : (tag : ℕ) (r : Column) (rs : List Column) → without tag (r ∷ rs) ≡ true → ¬ (r .tag ≡ tag) × (without tag rs ≡ true)
+unfolding without
+without-cons tag r rs w = says-and (says-not (says-eq (r .tag) tag)) (says-test (without tag rs)) .holds w
+
+pub distinct-cons : (r : Column) (rs : List Column) → distinct (r ∷ rs) ≡ true → (without (r .tag) rs ≡ true) × (distinct rs ≡ true)
+unfolding distinct
+distinct-cons r rs d = says-and (says-test (without (r .tag) rs)) (says-test (distinct rs)) .holds d
+
 passes-rest : (r : Column) (columns : List Column) (o n : ℕ) (row : List ℕ) → without (r .tag) columns ≡ true → laid columns o n ≡ true
     → n ≤ length row → Bytes row
     → wellFormedBy columns row ≡ true → Passes r (writeBy columns row)
-unfolding writeBy without
+unfolding writeBy
 passes-rest r [] o n row a h fits b f = passes-nothing r
 passes-rest r (r′ ∷ rs) o n row a h fits b f = go (passes-rest r rs (o + columnWidth r′) n row (t .1) (l .rest) fits b (w .1))
     (true-or-false (hasValue (r′ .presence) (cellAt r′ row)))
   where
     t : ¬ (r′ .tag ≡ r .tag) × (without (r .tag) rs ≡ true)
-    t = says-and (says-not (says-eq (r′ .tag) (r .tag))) (says-test (without (r .tag) rs)) .holds a
+    t = without-cons (r .tag) r′ rs a
 
     l : Laid r′ rs o n
     l = laid-cons r′ rs o n h
@@ -148,10 +157,6 @@ module _ (r : Column) (rs : List Column) (o n : ℕ) (row w : List ℕ) (l : Lai
       let regroup : s ≡ (p ++ field) ++ (w ++ q) = sym (append-assoc p field (w ++ q)) in
       rw (append-assoc field w q, ← taken, value, vc .cell-is, ends, ← longer, regroup)
       (ih (p ++ field) q (splice (r .at) (cellAt r row) st) (now .0) (now .1))
-
-distinct-cons : (r : Column) (rs : List Column) → distinct (r ∷ rs) ≡ true → (without (r .tag) rs ≡ true) × (distinct rs ≡ true)
-unfolding distinct
-distinct-cons r rs d = says-and (says-test (without (r .tag) rs)) (says-test (distinct rs)) .holds d
 
 pub write-read : (columns : List Column) (o n : ℕ) (row : List ℕ) → laid columns o n ≡ true → distinct columns ≡ true → n ≡ length row → Bytes row
     → wellFormedBy columns row ≡ true
