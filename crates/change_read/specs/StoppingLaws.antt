@@ -1,7 +1,7 @@
 -- Reading a change comes to what `ChangeStops` says, and to nothing else.
-use mathlib.Core.Bool.{Bool, cond, false, true}
+use mathlib.Core.Bool.{cond}
 use mathlib.Core.List.{List}
-use mathlib.Core.Logic.{_↔_, _⊎_, inl, inr, ⊎-elim}
+use mathlib.Core.Logic.{_↔_, _⊎_, ⊎-elim}
 use mathlib.Core.Path.{_≡_, ap, ap₂, refl, subst, sym, _∙_}
 use Prim.Native.Nat.{ℕ, _+_, _≤_, _<_}
 use native.Mathlib.Omega.{arith}
@@ -13,23 +13,20 @@ use Rattle.wire.specs.Wire.{fieldAt}
 use Rattle.wire.specs.WireLaws.{field-end, field-past, field-short, field-whole}
 use Rattle.wire.specs.declared.FieldRead.{FieldRead}
 use Rattle.schema.specs.declared.number.TableId.the-variants.{Attributes, Classes}
-use Rattle.rows_format.specs.declared.format.Format.{Format}
-use Rattle.rows_format.specs.Formats.{columnsOf}
 use Rattle.rows_read.specs.declared.read.RowRead.{RowRead}
 use Rattle.rows_read.specs.ObjectClass.{readRow}
-use Rattle.rows_read.specs.Stopping.{FieldCut, FieldStands, ValueStops}
+use Rattle.rows_read.specs.StoppingLaws.{value-stops}
+use Rattle.rows_read.specs.Stopping.{FieldCut, FieldStands}
 use Rattle.change_read.specs.declared.read.Change.{Change}
 use Rattle.change_read.specs.declared.read.Change.the-variants.{Add, SetRange, Rename, Deactivate, Reactivate, AddEntry, RemoveEntry}
 use Rattle.change_read.specs.declared.read.Tagged.{Tagged}
 use Rattle.change_read.specs.declared.read.Tagged.the-variants.{Known, Unknown}
 use Rattle.change_read.specs.declared.read.ChangeRead.{ChangeRead}
 use Rattle.change_read.specs.declared.read.ChangeRead.the-variants.{Read, Bad}
-use Rattle.change_read.specs.Reading.{ChangeOut, changeOf, fieldOut, formatOf, readChange, readValue, scratch, taggedOut, wholeRead}
+use Rattle.change_read.specs.Reading.{changeOf, fieldOut, formatOf, readChange, readValue, scratch, taggedOut, wholeRead}
 use Rattle.change_read.specs.Stopping.{CarriedStops, ChangeStands, ChangeStops, changeTag}
 use Rattle.wire.specs.declared.FieldRead.the-variants as fields
 use Rattle.rows_read.specs.declared.read.RowRead.the-variants as rows
-use Rattle.rows_read.specs.Stopping as values
-use Rattle.change_read.specs.Stopping as changes
 
 -- ---- fields
 
@@ -39,8 +36,8 @@ field-stands {s} {end} {at} {tag} {stop} f =
     ∙ ap₂ (λ (t p : ℕ). fields.Field t (at + 3) p) (f .tagged) (sym (f .ends))
 
 field-cut : {s : List ℕ} {end at : ℕ} → FieldCut s end at → fieldAt s at end ≡ fields.Bad at
-field-cut {s} {end} {at} (values.header l k) = sym (field-short s at end l k)
-field-cut {s} {end} {at} (values.value l k) = sym (field-past s at end (bigEndian 2 (at + 1) s) refl l k)
+field-cut {s} {end} {at} (FieldCut.header l k) = sym (field-short s at end l k)
+field-cut {s} {end} {at} (FieldCut.value l k) = sym (field-past s at end (bigEndian 2 (at + 1) s) refl l k)
 
 -- ---- tags: the one of a change is known as its
 
@@ -92,8 +89,7 @@ kind tag = go (changeOf tag) refl
     go (Known change) e = aChange change (known-named tag change e)
     go Unknown e = none e (other e)
 
-module _ (value-stops : (format : Format) (s : List ℕ) (end start : ℕ) (row : List ℕ) → start ≤ end → end ≤ length s → (answer : RowRead)
-    → (readRow format s start end row .answer ≡ answer) ↔ ValueStops (columnsOf format) s end start answer) (s : List ℕ) where
+module _ (s : List ℕ) where
   -- ---- from the statement to the answer
 
   by-field : {f : FieldRead} → fieldAt s 0 (length s) ≡ f → readChange s .answer ≡ fieldOut f s .answer
@@ -109,7 +105,7 @@ module _ (value-stops : (format : Format) (s : List ℕ) (end start : ℕ) (row 
     carried = readRow (formatOf change) s 3 stop scratch .answer
 
     carried-stops : (answer : RowRead) → (carried ≡ answer) ↔ CarriedStops s change stop answer
-    carried-stops answer = value-stops (formatOf change) s stop 3 scratch (omega (arith, f .ends)) (f .within) answer
+    carried-stops answer = value-stops (formatOf change) s stop 3 scratch (omega (arith, f .ends)) answer
 
     by-value : (answer : RowRead) → CarriedStops s change stop answer → readChange s .answer ≡ wholeRead change s stop answer
     unfolding taggedOut readValue
@@ -117,16 +113,16 @@ module _ (value-stops : (format : Format) (s : List ℕ) (end start : ℕ) (row 
 
   stops-read : {answer : ChangeRead} → ChangeStops s answer → readChange s .answer ≡ answer
   unfolding fieldOut taggedOut wholeRead
-  stops-read (changes.read {change} f c) = by-value change f rows.Read c ∙ rw (says-true (says-eq (length s) (length s)) refl)
-  stops-read (changes.empty e) = by-field (sym (field-end s 0 (length s) (sym e)))
-  stops-read (changes.cut f) = by-field (field-cut f)
-  stops-read (changes.unknown {tag} f d) = go (kind tag)
+  stops-read (ChangeStops.read {change} f c) = by-value change f rows.Read c ∙ rw (says-true (says-eq (length s) (length s)) refl)
+  stops-read (ChangeStops.empty e) = by-field (sym (field-end s 0 (length s) (sym e)))
+  stops-read (ChangeStops.cut f) = by-field (field-cut f)
+  stops-read (ChangeStops.unknown {tag} f d) = go (kind tag)
     where
       go : Kind tag → readChange s .answer ≡ Bad 0
       go (aChange change e) = absurd (d change e)
       go (none e q) = by-tag f Unknown e
-  stops-read (changes.inside change {at = at} f c) = by-value change f (rows.Bad at) c
-  stops-read (changes.leftover change {stop} f c l) =
+  stops-read (ChangeStops.inside change {at = at} f c) = by-value change f (rows.Bad at) c
+  stops-read (ChangeStops.leftover change {stop} f c l) =
       by-value change f rows.Read c ∙ rw (says-false (says-eq stop (length s)) (λ e. omega arith))
 
   -- ---- from the answer to the statement: one of the cases is there
@@ -138,17 +134,17 @@ module _ (value-stops : (format : Format) (s : List ℕ) (end start : ℕ) (row 
   value-here change {stop} f = go (carried change f) (carried-stops change f _ .0 refl)
     where
       go : (answer : RowRead) → CarriedStops s change stop answer → Stopping
-      go (rows.Bad at) c = (Bad at, changes.inside change f c)
+      go (rows.Bad at) c = (Bad at, ChangeStops.inside change f c)
       go rows.Read c =
-          ⊎-elim (λ e. (Read change, changes.read (rw (e .1) at f) (rw (e .1) at c)))
-          (λ d. (let w = f .within in (Bad stop, changes.leftover change f c (omega (arith, d .1, w))))) (says-split (says-eq stop (length s)))
+          ⊎-elim (λ e. (Read change, ChangeStops.read (rw (e .1) at f) (rw (e .1) at c)))
+          (λ d. (let w = f .within in (Bad stop, ChangeStops.leftover change f c (omega (arith, d .1, w))))) (says-split (says-eq stop (length s)))
 
   field-here : {tag stop : ℕ} → Kind tag → FieldStands s (length s) 0 tag stop → Stopping
   field-here {tag} {stop} (aChange change e) f = value-here change (subst (λ (b : ℕ). FieldStands s (length s) 0 b stop) e f)
-  field-here (none e d) f = (Bad 0, changes.unknown f d)
+  field-here (none e d) f = (Bad 0, ChangeStops.unknown f d)
 
   stopping : Stopping
-  stopping = ⊎-elim (λ e. (Bad 0, changes.empty (e .1))) (λ d. first (omega (arith, d .1))) (says-split (says-eq (length s) 0))
+  stopping = ⊎-elim (λ e. (Bad 0, ChangeStops.empty (e .1))) (λ d. first (omega (arith, d .1))) (says-split (says-eq (length s) 0))
     where
       stop : ℕ
       stop = 3 + bigEndian 2 1 s
@@ -157,11 +153,11 @@ module _ (value-stops : (format : Format) (s : List ℕ) (end start : ℕ) (row 
       whole k =
           ⊎-elim
           (λ q. field-here {tag = getD s 0 0} {stop = stop} (kind (getD s 0 0)) (record { tagged = refl; header = k; ends = refl; within = q .1 }))
-          (λ q. (Bad 0, changes.cut (values.value k (omega (arith, q .1)))))
+          (λ q. (Bad 0, ChangeStops.cut (FieldCut.value k (omega (arith, q .1)))))
           (says-split (says-le stop (length s)))
 
       first : 0 < length s → Stopping
-      first l = ⊎-elim (λ e. whole (e .1)) (λ e. (Bad 0, changes.cut (values.header l (omega (arith, e .1))))) (says-split (says-le 3 (length s)))
+      first l = ⊎-elim (λ e. whole (e .1)) (λ e. (Bad 0, ChangeStops.cut (FieldCut.header l (omega (arith, e .1))))) (says-split (says-le 3 (length s)))
 
   pub change-stops : (answer : ChangeRead) → (readChange s .answer ≡ answer) ↔ ChangeStops s answer
   change-stops answer = (λ e. subst (ChangeStops s) (sym (stops-read (stopping .1)) ∙ e) (stopping .1), stops-read)

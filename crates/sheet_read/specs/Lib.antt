@@ -4,5 +4,5 @@ pub mod Stopping
 pub mod Held
 pub mod ReadingLaws
 pub mod TurnLaws
-pub mod ComesLaws
+pub mod AcceptedLaws
 pub mod StoppingLaws

@@ -3,7 +3,7 @@
 -- to the definition that the code is proved against.
 use mathlib.Core.List.{List}
 use mathlib.Core.Path.{_≡_}
-use Prim.Native.Nat.{ℕ, suc, _+_, _≤_, _<_}
+use Prim.Native.Nat.{ℕ, suc, _+_, _<_}
 use lib.ListN.{getD, length}
 use Rattle.schema.specs.declared.number.TableId.{TableId}
 use Rattle.schema.specs.declared.number.TableId.the-variants.{Attributes, Classes}
@@ -13,6 +13,7 @@ use Rattle.rows_read.specs.declared.read.RowRead.{RowRead}
 use Rattle.rows_read.specs.Stopping.{FieldCut, FieldStands, ValueStops}
 use Rattle.sheet_read.specs.declared.read.SheetRead.{SheetRead}
 use Rattle.sheet_read.specs.declared.read.SheetRead.the-variants.{Read, Bad, Full}
+use Rattle.sheet_read.specs.Reading.{Rows, noRows, plus, rowOut}
 use Rattle.rows_read.specs.declared.read.RowRead.the-variants as row
 
 -- "attribute rows 20, class rows 30"
@@ -51,6 +52,13 @@ pub data AcceptedTo (s : List ℕ) : (headings attributes classes at : ℕ) → 
   heading : {stop : ℕ} → Stands s 0 0x01 stop → HeadingValue s 0 stop → AcceptedTo s 1 0 0 stop
   attribute : {h a at stop : ℕ} → AcceptedTo s h a 0 at → a < most Attributes → RowStands Attributes s at stop → AcceptedTo s h (suc a) 0 stop
   class : {h a c at stop : ℕ} → AcceptedTo s h a c at → c < most Classes → RowStands Classes s at stop → AcceptedTo s h a (suc c) stop
+
+-- the rows that these fields give, in the order in which they stand
+unfoldable pub rowsGiven : {s : List ℕ} {h a c at : ℕ} → AcceptedTo s h a c at → Rows
+rowsGiven none = noRows
+rowsGiven (heading f v) = noRows
+rowsGiven {s} (attribute {at = at} {stop = stop} p few r) = plus Attributes (rowOut Attributes s (at + 3) stop .row) (rowsGiven p)
+rowsGiven {s} (class {at = at} {stop = stop} p few r) = plus Classes (rowOut Classes s (at + 3) stop .row) (rowsGiven p)
 
 -- the rows before fill the table, "and the tag of one more stands there"
 pub record NoRoom (t : TableId) (s : List ℕ) (attributes classes at : ℕ) : Type 0 where

@@ -15,21 +15,18 @@ use Rattle.schema.specs.declared.number.TableId.{TableId}
 use Rattle.schema.specs.declared.number.TableId.the-variants.{Attributes, Classes}
 use Rattle.schema.specs.Numbers.{limit}
 use Rattle.rows_format.specs.declared.format.Format.{Format}
-use Rattle.rows_format.specs.Formats.{columnsOf}
 use Rattle.rows_read.specs.declared.read.RowRead.{RowRead}
-use Rattle.rows_read.specs.ObjectClass.{readRow}
 use Rattle.rows_read.specs.Reading.{out}
-use Rattle.rows_read.specs.Stopping.{FieldCut, FieldStands, ValueStops}
+use Rattle.rows_read.specs.StoppingLaws.{value-stops}
+use Rattle.rows_read.specs.Stopping.{FieldCut, FieldStands}
 use Rattle.sheet_read.specs.declared.read.Phase.{Phase}
 use Rattle.sheet_read.specs.declared.read.Phase.the-variants.{Start, InRows}
 use Rattle.sheet_read.specs.declared.read.SheetTag.the-variants.{Heading, Row, Unknown}
 use Rattle.sheet_read.specs.Reading.{Rows, headingOpen, isHeading, noRows, plus, position, rowOut, rowsIn, rowsOpen, sheetTag}
-use Rattle.sheet_read.specs.Stopping.{AcceptedTo, HeadingValue, RowStands, RowStops, Stands, most, rowTag, rowsOf}
+use Rattle.sheet_read.specs.Stopping.{AcceptedTo, HeadingValue, RowStands, RowStops, Stands, most, rowTag, rowsGiven, rowsOf}
 use Rattle.sheet_read.specs.TurnLaws.{heading-turn, row-turn, stands-on, stands-start}
 use Rattle.wire.specs.declared.FieldRead.the-variants as fields
 use Rattle.rows_read.specs.declared.read.RowRead.the-variants as row
-use Rattle.rows_read.specs.Stopping as values
-use Rattle.sheet_read.specs.Stopping as sheets
 use Rattle.sheet_read.specs.TurnLaws as turns
 
 -- ---- fields
@@ -40,8 +37,8 @@ field-stands {s} {end} {at} {tag} {stop} f =
     ∙ ap₂ (λ (t p : ℕ). fields.Field t (at + 3) p) (f .tagged) (sym (f .ends))
 
 pub field-cut : {s : List ℕ} {end at : ℕ} → FieldCut s end at → fieldAt s at end ≡ fields.Bad at
-field-cut {s} {end} {at} (values.header l k) = sym (field-short s at end l k)
-field-cut {s} {end} {at} (values.value l k) = sym (field-past s at end (bigEndian 2 (at + 1) s) refl l k)
+field-cut {s} {end} {at} (FieldCut.header l k) = sym (field-short s at end l k)
+field-cut {s} {end} {at} (FieldCut.value l k) = sym (field-past s at end (bigEndian 2 (at + 1) s) refl l k)
 
 -- ---- tags
 
@@ -144,20 +141,18 @@ says-heading s at stop l = says-iff (says-and (says-eq (stop - (at + 3)) 1) (say
 
 -- ---- reading comes to a place
 
-pub record Comes (s : List ℕ) (h a c at : ℕ) : Type 0 where
+pub record Comes (s : List ℕ) (h a c at : ℕ) (x : Rows) : Type 0 where
   pub phase : Phase
   pub missing : Bool
-  pub rows : Rows
-  pub stands : turns.Stands s at phase missing rows
-  pub state : State h a c phase missing rows
+  pub stands : turns.Stands s at phase missing x
+  pub state : State h a c phase missing x
 
-module _ (value-stops : (format : Format) (s : List ℕ) (end start : ℕ) (row : List ℕ) → start ≤ end → end ≤ length s → (answer : RowRead)
-    → (readRow format s start end row .answer ≡ answer) ↔ ValueStops (columnsOf format) s end start answer) (s : List ℕ) where
+module _ (s : List ℕ) where
   pub row-stops : (t : TableId) {at stop : ℕ} → Stands s at (rowTag t) stop → (answer : RowRead)
       → (rowOut t s (at + 3) stop .answer ≡ answer) ↔ RowStops t s at stop answer
-  row-stops t {at} {stop} f answer = value-stops (Format.Row t) s stop (at + 3) _ (omega (arith, f .ends)) (f .within) answer
+  row-stops t {at} {stop} f answer = value-stops (Format.Row t) s stop (at + 3) _ (omega (arith, f .ends)) answer
 
-  heading-comes : {stop : ℕ} → Stands s 0 0x01 stop → HeadingValue s 0 stop → Comes s 1 0 0 stop
+  heading-comes : {stop : ℕ} → Stands s 0 0x01 stop → HeadingValue s 0 stop → Comes s 1 0 0 stop noRows
   heading-comes {stop} f v =
       let l : 0 < length s = omega (arith, f .header) in
       let turn = heading-turn s 0 Start true noRows 0x01 3 stop (field-stands f) (heading-tag refl) (start-state .first .passes refl)
@@ -165,45 +160,44 @@ module _ (value-stops : (format : Format) (s : List ℕ) (end start : ℕ) (row 
       record {
         phase = InRows Attributes;
         missing = false;
-        rows = noRows;
         stands = stands-on (stands-start s) l _ turn stop _ _ refl;
         state = heading-state start-state refl refl;
       }
 
-  module _ {h a c at : ℕ} (o : Comes s h a c at) {stop : ℕ} where
+  module _ {h a c at : ℕ} {x : Rows} (o : Comes s h a c at x) {stop : ℕ} where
     row-comes : (t : TableId) → RowStands t s at stop → rowsOpen (o .phase) t ≡ true → rowsOf t a c < most t
-        → turns.Stands s stop (InRows t) (o .missing) (plus t (rowOut t s (at + 3) stop .row) (o .rows))
+        → turns.Stands s stop (InRows t) (o .missing) (plus t (rowOut t s (at + 3) stop .row) x)
     row-comes t r free few =
         let f = r .stands in
         let l : at < length s = omega (arith, f .header) in
         let read : rowOut t s (at + 3) stop .answer ≡ row.Read = row-stops t f row.Read .1 (r .reads) in
-        let turn = row-turn s at (o .phase) (o .missing) (o .rows) (rowTag t) (at + 3) stop (field-stands f) t (rowOut t s (at + 3) stop .row)
+        let turn = row-turn s at (o .phase) (o .missing) x (rowTag t) (at + 3) stop (field-stands f) t (rowOut t s (at + 3) stop .row)
         (row-tag t refl) free (omega (arith, o .state .held t, most-limit t))
         (ap (λ (y : RowRead). out y (rowOut t s (at + 3) stop .row)) read) in
         stands-on (o .stands) l _ turn stop _ _ refl
 
-    attribute-comes : c ≡ 0 → a < most Attributes → RowStands Attributes s at stop → Comes s h (suc a) 0 stop
+    attribute-comes : c ≡ 0 → a < most Attributes → RowStands Attributes s at stop
+        → Comes s h (suc a) 0 stop (plus Attributes (rowOut Attributes s (at + 3) stop .row) x)
     unfolding rowsOf
     attribute-comes q few r = record {
       phase = InRows Attributes;
       missing = o .missing;
-      rows = plus Attributes (rowOut Attributes s (at + 3) stop .row) (o .rows);
       stands = row-comes Attributes r (o .state .early .passes q) few;
       state = attribute-state (o .state) _ q;
     }
 
-    class-comes : c < most Classes → RowStands Classes s at stop → Comes s h a (suc c) stop
+    class-comes : c < most Classes → RowStands Classes s at stop → Comes s h a (suc c) stop (plus Classes (rowOut Classes s (at + 3) stop .row) x)
     unfolding rowsOf
     class-comes few r = record {
       phase = InRows Classes;
       missing = o .missing;
-      rows = plus Classes (rowOut Classes s (at + 3) stop .row) (o .rows);
       stands = row-comes Classes r (classes-open (o .phase)) few;
       state = class-state (o .state) _;
     }
 
-  pub comes : {h a c at : ℕ} → AcceptedTo s h a c at → Comes s h a c at
-  comes sheets.none = record { phase = Start; missing = true; rows = noRows; stands = stands-start s; state = start-state }
-  comes (sheets.heading f v) = heading-comes f v
-  comes (sheets.attribute p few r) = attribute-comes (comes p) refl few r
-  comes (sheets.class p few r) = class-comes (comes p) few r
+  pub comes : {h a c at : ℕ} (p : AcceptedTo s h a c at) → Comes s h a c at (rowsGiven p)
+  unfolding rowsGiven
+  comes AcceptedTo.none = record { phase = Start; missing = true; stands = stands-start s; state = start-state }
+  comes (AcceptedTo.heading f v) = heading-comes f v
+  comes (AcceptedTo.attribute p few r) = attribute-comes (comes p) refl few r
+  comes (AcceptedTo.class p few r) = class-comes (comes p) few r
