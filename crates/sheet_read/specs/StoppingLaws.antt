@@ -22,12 +22,13 @@ use Rattle.sheet_read.specs.declared.read.SheetTag.{SheetTag}
 use Rattle.sheet_read.specs.declared.read.SheetTag.the-variants.{Heading, Row, Unknown}
 use Rattle.sheet_read.specs.declared.read.Turn.{Turn}
 use Rattle.sheet_read.specs.declared.read.Turn.the-variants.{Stop}
-use Rattle.sheet_read.specs.Reading.{Rows, SheetOut, Step, fieldStep, headingOpen, isHeading, readSheet, roomAt, roomStep, rowOut, rowTurn, rowsOpen, sheetTag, rowsIn}
-use Rattle.sheet_read.specs.Reading.{takeField, takeHeading, takeTableRow, takeTagged}
-use Rattle.sheet_read.specs.Stopping.{AcceptedTo, HeadingValue, NoRoom, RowStands, RowStops, SheetStops, Stands, Unacceptable, most, rowTag, rowsGiven, rowsOf}
+use Rattle.sheet_read.specs.Reading.{Rows, SheetOut, Step, fieldStep, headingOpen, isHeading, readSheet, roomAt, roomStep, rowOut}
+use Rattle.sheet_read.specs.Reading.{rowTurn, rowsIn, rowsOpen, sheetTag, takeField, takeHeading, takeTableRow, takeTagged}
+use Rattle.sheet_read.specs.Stopping.{AcceptedTo, HeadingValue, NoRoom, RowStands, RowStops, SheetStops, Stands, Unacceptable, most, rowTag}
+use Rattle.sheet_read.specs.Stopping.{rowsGiven, rowsOf}
 use Rattle.sheet_read.specs.TurnLaws.{stands-end, stands-stop, tagged-is}
-use Rattle.sheet_read.specs.AcceptedLaws.{Comes, Kind, aHeading, aRow, classes-open, comes, field-cut, field-stands, heading-tag, kind, most-limit, neither}
-use Rattle.sheet_read.specs.AcceptedLaws.{row-stops, row-tag, says-heading, unknown-tag}
+use Rattle.sheet_read.specs.AcceptedLaws.{Comes, Kind, aHeading, aRow, classes-open, comes, field-cut, field-stands, heading-tag, kind, neither}
+use Rattle.sheet_read.specs.AcceptedLaws.{most-limit, row-stops, row-tag, says-heading, unknown-tag}
 use Rattle.rows_read.specs.declared.read.RowRead.the-variants as row
 use Rattle.sheet_read.specs.declared.read.Room.{Room}
 use Rattle.sheet_read.specs.declared.read.Room.the-variants as room
@@ -217,12 +218,14 @@ module _ (s : List ℕ) where
           class-here f = row-here Classes f (λ place r. refuse (Unacceptable.inClass f r)) (λ r. rest _ _ _ _ (on f) (AcceptedTo.class p (fits Classes f) r))
 
           heading-here : Stands s at 0x01 stop → Stopping
-          heading-here f = ⊎-elim (λ e. first (nothing-yet p (e .1))) (λ d. refuse (Unacceptable.lateHeading f (omega (arith, d .1)))) (says-split (says-eq (h + a + c) 0))
+          heading-here f =
+              ⊎-elim (λ e. first (nothing-yet p (e .1))) (λ d. refuse (Unacceptable.lateHeading f (omega (arith, d .1))))
+              (says-split (says-eq (h + a + c) 0))
             where
               first : at ≡ 0 → Stopping
               first e =
-                  ⊎-elim
-                  (λ v. rest _ _ _ _ (on f) (AcceptedTo.heading (subst (λ (n : ℕ). Stands s n 0x01 stop) e f) (subst (λ (n : ℕ). HeadingValue s n stop) e (v .1))))
+                  let g : Stands s 0 0x01 stop = subst (λ (n : ℕ). Stands s n 0x01 stop) e f in
+                  ⊎-elim (λ v. rest _ _ _ _ (on f) (AcceptedTo.heading g (subst (λ (n : ℕ). HeadingValue s n stop) e (v .1))))
                   (λ d. refuse (Unacceptable.wrongHeading f (d .1)))
                   (says-split (says-heading s at stop (omega (arith, f .ends))))
 
