@@ -7,3 +7,4 @@ pub mod ChangeLaws
 pub mod AdditionLaws
 pub mod WrittenLaws
 pub mod CarriedLaws
+pub mod StoppingLaws

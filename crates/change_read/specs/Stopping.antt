@@ -1,5 +1,7 @@
--- Where reading a change stops, and why, said of the fields that stand in it and not by how it is read. Document 01: "A change is one field"; "leftover
--- bytes by their start". `change-stops` (StoppingLaws) joins it to the definition that the code is proved against.
+-- Where reading a change stops, and why, said of the fields that stand in it and not by how it is read. Document 01: "A change is one field"; "Number 4
+-- tells the first field that cannot be accepted (the innermost; out of order counts) by its tag's offset; a missing field, where the rest of its value is
+-- sound, by the end of that value; leftover bytes by their start." `change-stops` (StoppingLaws) joins it to the definition that the code is proved
+-- against, and so also says that it is one thing only.
 use mathlib.Core.List.{List}
 use mathlib.Core.Path.{_≡_}
 use Prim.Native.Nat.{ℕ, _<_}
@@ -37,7 +39,8 @@ ChangeStands s change stop = FieldStands s (length s) 0 (changeTag change) stop
 abbrev pub CarriedStops : List ℕ → Change → ℕ → RowRead → Type 0
 CarriedStops s change stop = ValueStops (columnsOf (formatOf change)) s stop 3
 
--- it is read; it is missing, or cut, or has no tag of a change (R24); a field in its value is refused or missing; bytes are left over
+-- its field is the whole string, and its value is read; it is missing, or cut, or has no tag of a change: its own place, 0 (R24); its value tells the
+-- place; or its value is read, and bytes are left over behind it: their start
 pub data ChangeStops (s : List ℕ) : ChangeRead → Type 0 where
   read : {change : Change} → ChangeStands s change (length s) → CarriedStops s change (length s) rows.Read → ChangeStops s (Read change)
   empty : length s ≡ 0 → ChangeStops s (Bad 0)

@@ -4,3 +4,5 @@ pub mod Stopping
 pub mod Held
 pub mod ReadingLaws
 pub mod TurnLaws
+pub mod AcceptedLaws
+pub mod StoppingLaws

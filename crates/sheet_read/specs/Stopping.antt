@@ -1,9 +1,10 @@
 -- Where reading a sheet stops, and why, said of the fields that stand in it and not by how it is read. Document 01: "Sheet: field 01 holding 01, attribute
--- rows 20, class rows 30"; "6 no free row; at load, told at the row's tag, before any 4 there, with table and limit". `sheet-stops` (StoppingLaws) joins it
--- to the definition that the code is proved against.
+-- rows 20, class rows 30"; "Number 4 tells the first field that cannot be accepted (the innermost; out of order counts) by its tag's offset; a missing
+-- field, where the rest of its value is sound, by the end of that value"; "6 no free row; at load, told at the row's tag, before any 4 there, with table
+-- and limit". `sheet-stops` (StoppingLaws) joins it to the definition that the code is proved against, and so also says that it is one thing only.
 use mathlib.Core.List.{List}
 use mathlib.Core.Path.{_≡_}
-use Prim.Native.Nat.{ℕ, suc, _+_, _≤_, _<_}
+use Prim.Native.Nat.{ℕ, suc, _+_, _<_}
 use lib.ListN.{getD, length}
 use Rattle.schema.specs.declared.number.TableId.{TableId}
 use Rattle.schema.specs.declared.number.TableId.the-variants.{Attributes, Classes}
@@ -13,6 +14,7 @@ use Rattle.rows_read.specs.declared.read.RowRead.{RowRead}
 use Rattle.rows_read.specs.Stopping.{FieldCut, FieldStands, ValueStops}
 use Rattle.sheet_read.specs.declared.read.SheetRead.{SheetRead}
 use Rattle.sheet_read.specs.declared.read.SheetRead.the-variants.{Read, Bad, Full}
+use Rattle.sheet_read.specs.Reading.{Rows, noRows, plus, rowOut}
 use Rattle.rows_read.specs.declared.read.RowRead.the-variants as row
 
 -- "attribute rows 20, class rows 30"
@@ -36,6 +38,7 @@ unfoldable pub most : TableId → ℕ
 most Attributes = 256
 most Classes = 128
 
+-- how many rows of a table there are, of so many attribute rows and class rows
 unfoldable pub rowsOf : TableId → ℕ → ℕ → ℕ
 rowsOf Attributes attributes classes = attributes
 rowsOf Classes attributes classes = classes
@@ -52,14 +55,22 @@ pub data AcceptedTo (s : List ℕ) : (headings attributes classes at : ℕ) → 
   attribute : {h a at stop : ℕ} → AcceptedTo s h a 0 at → a < most Attributes → RowStands Attributes s at stop → AcceptedTo s h (suc a) 0 stop
   class : {h a c at stop : ℕ} → AcceptedTo s h a c at → c < most Classes → RowStands Classes s at stop → AcceptedTo s h a (suc c) stop
 
--- the rows before fill the table, "and the tag of one more stands there"
+-- the rows that these fields give, in the order in which they stand
+unfoldable pub rowsGiven : {s : List ℕ} {h a c at : ℕ} → AcceptedTo s h a c at → Rows
+rowsGiven none = noRows
+rowsGiven (heading f v) = noRows
+rowsGiven {s} (attribute {at = at} {stop = stop} p few r) = plus Attributes (rowOut Attributes s (at + 3) stop .row) (rowsGiven p)
+rowsGiven {s} (class {at = at} {stop = stop} p few r) = plus Classes (rowOut Classes s (at + 3) stop .row) (rowsGiven p)
+
+-- the rows before fill their table, and the tag of one more stands there: its byte, whatever comes behind it (R8)
 pub record NoRoom (t : TableId) (s : List ℕ) (attributes classes at : ℕ) : Type 0 where
   pub before : at < length s
   pub tagged : getD s at 0 ≡ rowTag t
   pub filled : rowsOf t attributes classes ≡ most t
 
--- what stands behind h headings, a attribute rows and c class rows cannot be accepted, by the place that is told: a field that is cut; a tag that no field
--- of a sheet has; a heading that is not the first field, or holds something else; an attribute row behind a class row; or the innermost field of a row
+-- what stands behind h headings, a attribute rows and c class rows cannot be accepted, with the place that is told: a field that is cut (R5, R6); a tag
+-- that no field of a sheet has; a heading that is not the first field (R12), or holds something else; an attribute row behind a class row (R4); or a row
+-- of which its own fields tell the place
 pub data Unacceptable (s : List ℕ) (h a c at : ℕ) : ℕ → Type 0 where
   cut : FieldCut s (length s) at → Unacceptable s h a c at at
   unknown : {tag stop : ℕ} → Stands s at tag stop → ¬ (tag ≡ 0x01) → ((t : TableId) → ¬ (tag ≡ rowTag t)) → Unacceptable s h a c at at
@@ -70,7 +81,8 @@ pub data Unacceptable (s : List ℕ) (h a c at : ℕ) : ℕ → Type 0 where
       → Unacceptable s h a c at place
   inClass : {stop place : ℕ} → Stands s at (rowTag Classes) stop → RowStops Classes s at stop (row.Bad place) → Unacceptable s h a c at place
 
--- what reading a sheet comes to
+-- what reading a sheet comes to. It is read: all is accepted, the heading too. All is accepted and the heading is missing: the end of the sheet (R1). There
+-- is no room for one more row. Or there is room, and what stands behind all that is accepted cannot be
 pub data SheetStops (s : List ℕ) : SheetRead → Type 0 where
   read : {a c : ℕ} → AcceptedTo s 1 a c (length s) → SheetStops s Read
   headless : {a c : ℕ} → AcceptedTo s 0 a c (length s) → SheetStops s (Bad (length s))

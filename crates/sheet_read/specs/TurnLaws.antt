@@ -137,7 +137,7 @@ module _ {s : List ℕ} {at : ℕ} {phase : Phase} {missing : Bool} {x : Rows} (
 module _ (s : List ℕ) (at : ℕ) (phase : Phase) (missing : Bool) (x : Rows) (tag start stop : ℕ)
     (there : fieldAt s at (length s) ≡ fields.Field tag start stop) where
   -- where there is room for what the tag announces
-  tagged-is : (which : SheetTag) → sheetTag tag ≡ which → roomAt which x ≡ room.Free → takeField s at phase missing x
+  pub tagged-is : (which : SheetTag) → sheetTag tag ≡ which → roomAt which x ≡ room.Free → takeField s at phase missing x
       ≡ takeTagged which s at phase missing start stop x
   unfolding takeField roomStep fieldStep
   tagged-is which known free =
