@@ -25,7 +25,7 @@ use Rattle.sheet_read.specs.declared.read.SheetRead.the-variants.{Read}
 use Rattle.sheet_read.specs.declared.read.SheetTag.the-variants.{Heading, Row}
 use Rattle.sheet_read.specs.declared.read.Phase.{Phase}
 use Rattle.sheet_read.specs.declared.read.Phase.the-variants.{InRows}
-use Rattle.sheet_read.specs.Reading.{Rows, plus, schemaFrom, sheetTag, position, headingOpen, rowsOpen, isHeading}
+use Rattle.sheet_read.specs.Reading.{Rows, plus, schemaFrom, sheetTag, position, headingOpen, rowsOpen, isHeading, noRows}
 use Rattle.sheet_read.specs.Reading.{rowOut}
 use Rattle.sheet_read.specs.Reading.{readSheet}
 use Rattle.sheet_write.specs.Writing.{heading, rowTag, rowField, sheetBytes}

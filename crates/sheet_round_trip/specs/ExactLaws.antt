@@ -26,7 +26,7 @@ use Rattle.rows_read.specs.ObjectClass.{objectClassWidth}
 use Rattle.rows_read.specs.WellFormed.{standsExactly}
 use Rattle.rows_read.specs.Stopping.{valueAt}
 use Rattle.sheet_round_trip.specs.Exact.{HasObjectClass, HasObjectSyntax, ExactRow}
-use Rattle.sheet_round_trip.specs.FieldLaws.{Found, valueAt, valueIn, field-column, column-field}
+use Rattle.sheet_round_trip.specs.FieldLaws.{Found, valueIn, field-column, column-field}
 
 module _ (s : List ℕ) (start end : ℕ) (raw : List ℕ) (from : start ≤ end) (within : end ≤ length s) (fits : attributeWidth ≤ length raw)
     (formed : wellFormedBy (columnsOf (Row Attributes)) raw ≡ true) (is : writeBy (columnsOf (Row Attributes)) raw ≡ part start (end - start) s) where

@@ -1,20 +1,42 @@
 -- No sheet that is read or written is longer than 410,756 bytes: the heading, 256 attribute rows of at most 224 bytes and 128 class rows of at most 2761.
 -- A row has at most one field for each column of its table, and a field at most its header and the longest value that its column's cell can hold.
-use mathlib.Core.Bool.{Bool, true, false, true≢false}
-use mathlib.Core.List.{List, [], _∷_}
-use mathlib.Core.Path.{_≡_}
-use Prim.Native.Nat.{ℕ, _+_, _-_, _≤_}
+use mathlib.Core.Bool.{Bool, true, false, cond, true≢false}
+use mathlib.Core.List.{List, [], _∷_, _++_}
+use mathlib.Core.Logic.{_⊎_, inl, inr}
+use mathlib.Core.Path.{_≡_, refl, sym, ap, _∙_}
+use Prim.Native.Nat.{ℕ, zero, suc, _+_, _-_, _*_, _≤_}
 use native.Mathlib.Omega.{arith}
-use lib.ListN.{length, length-append}
-use Rattle.wire.specs.WireLaws.{field-is}
+use lib.ListN.{length, getD, drop, length-append, length-drop, length-take}
+use Rattle.prelude.specs.Concat.{concatBelow}
+use Rattle.prelude.specs.Part.{part, zeros, Bytes}
+use Rattle.prelude.specs.PartLaws.{part-length, part-short, zeros-length}
+use Rattle.prelude.specs.BigEndianLaws.{bytes-length}
+use Rattle.prelude.specs.SaysLaws.{says-and, says-eq, true-or-false}
+use Rattle.sets.specs.Sets.{membersFrom}
+use Rattle.wire.specs.Wire.{fieldAt}
+use Rattle.wire.specs.WireLaws.{field-is, field-length}
 use Rattle.schema.specs.declared.number.TableId.{TableId}
 use Rattle.schema.specs.declared.number.TableId.the-variants.{Attributes, Classes}
+use Rattle.schema.specs.Numbers.{limit}
+use Rattle.schema.specs.Layout.{rowWidth}
+use Rattle.schema.specs.Store.{Schema, Table}
+use Rattle.rows_format.specs.declared.column.Column.{Column}
+use Rattle.rows_format.specs.declared.column.Encoding.{Encoding}
+use Rattle.rows_format.specs.declared.column.Encoding.the-variants.{Plain, Number, Counted, Arcs, Entries}
+use Rattle.rows_format.specs.declared.format.Format.{Format}
+use Rattle.rows_format.specs.Encodings.{room, stored}
+use Rattle.rows_format.specs.EntriesLaws.{entry-length, members-few}
+use Rattle.rows_format.specs.Columns.{mark, columnWidth, cellAt, hasValue, valueOf, fieldOf, writeBy}
+use Rattle.rows_format.specs.ColumnsLaws.{field-none, field-some}
+use Rattle.rows_format.specs.Formats.{attributeColumns, classColumns, columnsOf, commonColumns, formatWidth, ownColumns}
+use Rattle.rows_read.specs.Reading.{out, readBy}
+use Rattle.rows_read.specs.RoundTripLaws.{fields-back, row-read}
 use Rattle.sheet_read.specs.declared.read.Phase.{Phase}
-use Rattle.sheet_read.specs.declared.read.Phase.the-variants.{InRows}
+use Rattle.sheet_read.specs.declared.read.Phase.the-variants.{Start, InRows}
 use Rattle.sheet_read.specs.declared.read.SheetRead.the-variants.{Read}
-use Rattle.sheet_read.specs.Reading.{Rows, headingOpen, plus, position, readSheet, rowOut}
+use Rattle.sheet_read.specs.Reading.{Rows, headingOpen, isHeading, noRows, plus, position, readSheet, rowOut}
 use Rattle.sheet_read.specs.ReadingLaws.{sheet-sound}
-use Rattle.sheet_write.specs.Writing.{heading}
+use Rattle.sheet_write.specs.Writing.{heading, rowField, rowFields, rowTag, sheetBytes}
 use Rattle.sheet_round_trip.specs.WalkLaws.{Goes, accepted-ends}
 use Rattle.wire.specs.declared.FieldRead.the-variants as fields
 use Rattle.rows_read.specs.declared.read.RowRead.the-variants as row
