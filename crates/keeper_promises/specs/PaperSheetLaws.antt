@@ -2,7 +2,7 @@
 use mathlib.Core.Bool.{true}
 use mathlib.Core.List.{List}
 use mathlib.Core.Path.{_≡_, ap, refl, _∙_}
-use Prim.Native.Nat.{ℕ, _<_, _≤_}
+use Prim.Native.Nat.{ℕ, _+_, _<_, _≤_}
 use native.Mathlib.Decide.{decLt}
 use native.Mathlib.Omega.{arith}
 use lib.Dec.{ltb}
@@ -27,7 +27,6 @@ use Rattle.rows_format.specs.Encodings.{accepts, image, passes, room}
 use Rattle.rows_format.specs.Formats.{classColumns, columnsOf, commonColumns, ownColumns}
 use Rattle.rows_read.specs.ObjectClass.{finish, finished, finishedRow, readRow}
 use Rattle.rows_read.specs.Reading.{out, readBy, rowOf, turnOf, tookOf}
-use Rattle.rows_read.specs.WellFormed.{standsExactly}
 use Rattle.sheet_read.specs.Reading.{ended, fieldStep, headingOpen, isHeading, position, readFrom, roomAt, roomStep, rowTurn, rowsOpen, rowsWith}
 use Rattle.sheet_read.specs.Reading.{sheetTag, stopped, takeField, takeHeading, takeTableRow, takeTagged, readSheet, schemaFrom}
 use Rattle.sheet_read.specs.declared.read.SheetRead.the-variants.{Read}
@@ -44,10 +43,11 @@ use Rattle.rules.specs.JudgeLaws.{judged-zero}
 use Rattle.rules.specs.MeetsLaws.{meets}
 use Rattle.rules.specs.Rules.{barred, entryDead, attributeNotLive, classNotLive}
 use Rattle.rules.specs.declared.row.Added.the-variants.{Nothing}
-use Rattle.sheet_round_trip.specs.Exact.{endOf, exactField, exactTagged, placeOf, rawRow, exactSheet}
-use Rattle.sheet_round_trip.specs.ExactLaws.{says-exact}
+use Rattle.rows_read.specs.Stopping.{FieldStands}
+use Rattle.sheet_round_trip.specs.Exact.{ExactSheet, FieldsStand, none, more}
+use Rattle.sheet_round_trip.specs.FieldLaws.{fields-forward}
 use Rattle.keeper.specs.Load.{load}
-use Rattle.keeper.specs.Write.{sheetOf, write, written}
+use Rattle.keeper.specs.Write.{write, written}
 use Rattle.keeper_promises.specs.PaperSheet.{PaperSheet, paperSheet}
 use Rattle.keeper_promises.specs.PaperTables.{hexBytes, hexDigit, text}
 use Rattle.keeper_promises.specs.Promises.{Acceptable, InOrder}
@@ -96,33 +96,57 @@ accepted = record {
   rules = meets Nothing (schemaFrom (readSheet paperSheet .rows)) .0 (judged-zero Nothing (schemaFrom (readSheet paperSheet .rows)) .0 judges);
 }
 
-is-exact : exactSheet paperSheet ≡ true
-unfolding fields.onward exactSheet exactField placeOf endOf rawRow exactTagged standsExactly sheetTag paperSheet hexBytes hexDigit text readBy turnOf
-    tookOf rowOf fieldAt takes possible required cellOf lead mark columnWidth room accepts passes image isZero splice columnsOf ownColumns
-    commonColumns classColumns allBelow part zeros padded bigEndian bigEndianBytes
-is-exact = refl
+-- it has two fields, 01 and 30, and no attribute row
+first-ends : bigEndian 2 1 paperSheet ≡ 1
+unfolding bigEndian paperSheet hexBytes hexDigit text
+first-ends = refl
+
+second-ends : bigEndian 2 5 paperSheet ≡ 60
+unfolding bigEndian paperSheet hexBytes hexDigit text
+second-ends = refl
+
+tags : (getD paperSheet 0 0 ≡ 1) × (getD paperSheet 4 0 ≡ 48)
+unfolding paperSheet hexBytes hexDigit text
+tags = (refl, refl)
+
+module _ (at stop : ℕ) where
+  abbrev Attribute : Type 0
+  Attribute = FieldStands paperSheet (length paperSheet) at 32 stop
+
+  abbrev From : ℕ → Type 0
+  From from = FieldsStand paperSheet (length paperSheet) from at
+
+  no-third : (from : ℕ) → from ≡ 67 → From from → Attribute → ⊥
+  no-third from e b f = omega (arith, fields-forward b, f .header, long)
+
+  no-second : (from : ℕ) → from ≡ 4 → From from → Attribute → ⊥
+  no-second from e none f = omega (arith, f .tagged, ap (λ (n : ℕ). getD paperSheet n 0) e, tags .1)
+  no-second from e (more {stop = z} g b) f =
+      no-third z (g .ends ∙ ap (λ (n : ℕ). n + 3 + bigEndian 2 (n + 1) paperSheet) e ∙ ap (λ (n : ℕ). 7 + n) second-ends) b f
+
+  no-first : (from : ℕ) → from ≡ 0 → From from → Attribute → ⊥
+  no-first from e none f = omega (arith, f .tagged, ap (λ (n : ℕ). getD paperSheet n 0) e, tags .0)
+  no-first from e (more {stop = z} g b) f =
+      no-second z (g .ends ∙ ap (λ (n : ℕ). n + 3 + bigEndian 2 (n + 1) paperSheet) e ∙ ap (λ (n : ℕ). 3 + n) first-ends) b f
+
+exact : ExactSheet paperSheet
+exact at stop h = absurd (no-first at stop 0 refl (h .before) (h .field))
 
 -- ---- loaded and written
-
-loaded : (s : Stores) → LongEnough s → sheetOf (load paperSheet s .left) ≡ paperSheet
-loaded s l = demand2 .load-write paperSheet s bytes l accepted (says-exact paperSheet .holds is-exact)
 
 order : (s : Stores) → LongEnough s → InOrder (load paperSheet s .left)
 order s l = demand2 .load-order paperSheet s bytes l accepted
 
 writes : (s : Stores) (out : List ℕ) → LongEnough s → 67 ≤ length out
     → write (load paperSheet s .left) out ≡ written (done 67) (splice 0 paperSheet out)
-writes s out l room =
-    let n : length (sheetOf (load paperSheet s .left)) ≡ 67 = ap length (loaded s l) ∙ long in
-    demand2 .write-done (load paperSheet s .left) out (order s l .long) (order s l .shape) (omega arith)
-    ∙ rw (n, loaded s l)
+writes s out l room = rw long at (demand2 .load-writes paperSheet s out bytes l accepted exact (omega (arith, long)))
 
 pub paper-sheet : PaperSheet
 paper-sheet = record {
   bytes = bytes;
   long = long;
   accepted = accepted;
-  exact = says-exact paperSheet .holds is-exact;
+  exact = exact;
   loads = λ s l. ap (λ (x : Result). x .answer) (demand2 .load-done paperSheet s l accepted);
   order = order;
   writes = writes;

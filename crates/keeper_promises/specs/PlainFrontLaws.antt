@@ -34,6 +34,8 @@ use Rattle.change_read.specs.ChangeLaws.{Reads, change-bytes}
 use Rattle.schema.specs.Layout.{storeLength, closureLength}
 use Rattle.keeper.specs.Answering.{InShape, firstAnswer, refusedIf}
 use Rattle.prelude.specs.Part.{Bytes, part}
+use Rattle.keeper_promises.specs.BytesLaws.{closure-rows-bytes}
+use Rattle.prelude.specs.BytesLaws.{splice-bytes}
 use Rattle.keeper_promises.specs.Promises.{Alike, OfBytes, SamePast, moved}
 use lib.ListN.{drop, length}
 use Prim.Native.Nat.{ℕ, _≤_}
@@ -70,8 +72,8 @@ alike-with Classes new other a b h p q e = record {
 }
 
 bytes-with : (t : TableId) (new : List ℕ) (s : Stores) → OfBytes s → Bytes new → OfBytes (withStore t new s)
-bytes-with Attributes new s b n = record { attributes = n; classes = b .classes }
-bytes-with Classes new s b n = record { attributes = b .attributes; classes = n }
+bytes-with Attributes new s b n = record { attributes = n; classes = b .classes; closure = b .closure }
+bytes-with Classes new s b n = record { attributes = b .attributes; classes = n; closure = b .closure }
 
 table-alike : (t : TableId) (a b : Stores) → Alike a b → part 0 (storeLength t) (tableStore t a) ≡ part 0 (storeLength t) (tableStore t b)
 table-alike Attributes a b h = h .attributes
@@ -147,7 +149,11 @@ refreshed-alike a b i h = record {
 
 refreshed-bytes : (s : Stores) → OfBytes s → OfBytes (refreshed s)
 unfolding refreshed
-refreshed-bytes s b = record { attributes = b .attributes; classes = b .classes }
+refreshed-bytes s b = record {
+  attributes = b .attributes;
+  classes = b .classes;
+  closure = splice-bytes 0 (closureRows (schemaOf s .classes)) (s .closure) (closure-rows-bytes (schemaOf s .classes)) (b .closure);
+}
 
 -- ---- the call
 

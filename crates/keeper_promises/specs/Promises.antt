@@ -98,10 +98,11 @@ pub record SamePast (s t : Stores) : Type 0 where
   pub classes : drop (storeLength Classes) (s .classes) ≡ drop (storeLength Classes) (t .classes)
   pub closure : drop closureLength (s .closure) ≡ drop closureLength (t .closure)
 
--- the tables' stores hold bytes, as all memory does
+-- the three stores hold bytes, as all memory does
 pub record OfBytes (s : Stores) : Type 0 where
   pub attributes : Bytes (s .attributes)
   pub classes : Bytes (s .classes)
+  pub closure : Bytes (s .closure)
 
 -- the bytes of some stores, put into others that have their lengths. What stands past the lengths stays
 unfoldable pub moved : Stores → Stores → Stores
@@ -143,6 +144,7 @@ pub record Demand1 : Type 0 where
   pub quick-alike : (x : List ℕ) (s t : Stores) → Bytes x → Alike s t
       → (quickChange x s .answer ≡ quickChange x t .answer) × Alike (quickChange x s .left) (quickChange x t .left)
   -- stores of bytes stay such
+  pub load-bytes : (sheet : List ℕ) (s : Stores) → Bytes sheet → OfBytes s → OfBytes (load sheet s .left)
   pub plain-bytes : (x : List ℕ) (s : Stores) → Bytes x → OfBytes s → OfBytes (plainChange x s .left)
   pub quick-bytes : (x : List ℕ) (s : Stores) → Bytes x → OfBytes s → OfBytes (quickChange x s .left)
   -- "Refused .. writes .. alter nothing"
@@ -225,6 +227,9 @@ pub record Demand2 : Type 0 where
       → write s out ≡ written (done (length (sheetOf s))) (splice 0 (sheetOf s) out)
   pub write-needs : (s : Stores) (out : List ℕ) → LongEnough s → Shape s → length out < length (sheetOf s) → write s out
       ≡ written (shortOutput (length (sheetOf s))) out
+  -- no sheet is longer than the heading and the longest rows of both tables: 4 + 256 * 224 + 128 * 2761 bytes
+  pub load-longest : (sheet : List ℕ) → Bytes sheet → readSheet sheet .answer ≡ Read → length sheet ≤ 410756
+  pub write-longest : (s : Stores) → Shape s → length (sheetOf s) ≤ 410756
   -- depth: the steps of the chain up to row 0, and 18 where there is none over earlier classes
   pub depth-one : (s : Stores) (c : ℕ) → SomeShort s → depth s c ≡ refused refusal.shortStore
   pub depth-two : (s : Stores) (c : ℕ) → LongEnough s → ¬ Shape s → depth s c ≡ refused refusal.brokenShape
@@ -246,5 +251,8 @@ pub record Demand2 : Type 0 where
       → length (sheetOf (load sheet s .left)) ≤ length out
       → load (part 0 (write (load sheet s .left) out .answer .place) (write (load sheet s .left) out .output)) t
       ≡ result passed (moved (load sheet s .left) t)
-  -- "sheet, tables, sheet does if accepted and 08 stands exactly where oMSyntax is 127"
+  -- "sheet, tables, sheet does if accepted and 08 stands exactly where oMSyntax is 127": the stores' sheet is the one that was loaded
   pub load-write : (sheet : List ℕ) (s : Stores) → Bytes sheet → LongEnough s → Acceptable sheet → ExactSheet sheet → sheetOf (load sheet s .left) ≡ sheet
+  -- and written into any output with room it is there again, its length is told, and no other byte of the output is altered
+  pub load-writes : (sheet : List ℕ) (s : Stores) (out : List ℕ) → Bytes sheet → LongEnough s → Acceptable sheet → ExactSheet sheet
+      → length sheet ≤ length out → write (load sheet s .left) out ≡ written (done (length sheet)) (splice 0 sheet out)

@@ -2,8 +2,10 @@
 use Rattle.keeper_promises.specs.Demand3.{Demand3}
 use Rattle.keeper_promises.specs.Demand3Laws.{agreement}
 use Rattle.keeper_promises.specs.Promises.{Demand1, Demand2}
+use Rattle.sheet_round_trip.specs.LongestLaws as longest
 use Rattle.keeper_promises.specs.AlikeLaws as alike
 use Rattle.keeper_promises.specs.AloneLaws as apart
+use Rattle.keeper_promises.specs.BytesLaws as bytes
 use Rattle.keeper_promises.specs.CallLaws as calls
 use Rattle.keeper_promises.specs.FrontLaws as front
 use Rattle.keeper_promises.specs.LoadLaws as loads
@@ -20,8 +22,8 @@ pub demand1 : Demand1
 demand1 = record {
   load-one = loads.load-one;
   load-empty = loads.load-empty;
-  load-past = λ sheet s bytes. front.load-past sheet bytes s;
-  load-alone = λ sheet s bytes. front.load-alone sheet bytes s;
+  load-past = λ sheet s b. front.load-past sheet b s;
+  load-alone = λ sheet s b. front.load-alone sheet b s;
   audit-alike = alike.audit-alike;
   depth-alike = alike.depth-alike;
   write-alike = alike.write-alike;
@@ -31,6 +33,7 @@ demand1 = record {
   quick-past = λ x s bytes. quickly.quick-past x bytes s;
   plain-alike = λ x s t bytes. plainly.plain-alike x bytes s t;
   quick-alike = λ x s t bytes h. both.quick-alike x s t h bytes;
+  load-bytes = bytes.load-bytes;
   plain-bytes = λ x s bytes. plainly.plain-bytes x bytes s;
   quick-bytes = λ x s bytes. quickly.quick-bytes x bytes s;
   write-kept = calls.write-kept;
@@ -73,6 +76,8 @@ demand2 = record {
   write-two = calls.write-two;
   write-done = calls.write-done;
   write-needs = calls.write-needs;
+  load-longest = longest.read-longest;
+  write-longest = trips.write-longest;
   depth-one = calls.depth-one;
   depth-two = calls.depth-two;
   depth-five = calls.depth-five;
@@ -82,6 +87,7 @@ demand2 = record {
   plain-write-load = plainly.plain-write-load;
   load-write-load = trips.load-write-load;
   load-write = trips.load-write;
+  load-writes = λ sheet s out b long h exact. trips.load-writes sheet s b long h exact out;
 }
 
 pub demand3 : Demand3

@@ -27,6 +27,7 @@ use Rattle.keeper.specs.Answering.{InShape, firstAnswer, shapeAnswers}
 use Rattle.keeper.specs.AnsweringLaws.{refused-any, shape-passed, zero-iff-pass}
 use Rattle.keeper_change.specs.Quick.{quickAnswer, quickChange, quickMade, quickNumber, quickRead, quickTo}
 use Rattle.keeper_promises.specs.PlainFrontLaws.{made-bytes, made-past, past-reflexive}
+use Rattle.keeper_promises.specs.BytesLaws.{closure-after-bytes}
 use Rattle.keeper_promises.specs.Promises.{OfBytes, SamePast}
 use Rattle.keeper_promises.specs.QuickLaws.{quick-kept, quick-shaped}
 
@@ -116,7 +117,13 @@ module _ (x : List ℕ) (bytes : Bytes x) (s : Stores) where
         }
 
     left-bytes : OfBytes s → OfBytes (quickMade (Read change) r s)
-    left-bytes b = let p = made-bytes change x r bytes (h .reads) s allowed b in record { attributes = p .attributes; classes = p .classes }
+    left-bytes b =
+        let p = made-bytes change x r bytes (h .reads) s allowed b in
+        record {
+          attributes = p .attributes;
+          classes = p .classes;
+          closure = closure-after-bytes (s .closure) (b .closure) change r (schemaAfter change r m .classes) (m .classes .count);
+        }
 
   pub quick-past : SamePast (quickChange x s .left) s
   quick-past = go (ℕ-discrete (quickChange x s .answer .number) 0)

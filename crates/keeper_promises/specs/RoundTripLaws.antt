@@ -9,7 +9,7 @@ use lib.ListN.{length}
 use Rattle.prelude.specs.Part.{Bytes, part, splice}
 use Rattle.prelude.specs.SpliceLaws.{part-splice-same}
 use Rattle.schema.specs.declared.number.TableId.the-variants.{Classes}
-use Rattle.schema.specs.Answers.{passed}
+use Rattle.schema.specs.Answers.{done, passed}
 use Rattle.schema.specs.Layout.{closureLength}
 use Rattle.schema.specs.Store.{LongEnough, Result, Stores, result, schemaOf, stores}
 use Rattle.tables.specs.Same.{SameRows}
@@ -25,13 +25,13 @@ use Rattle.sheet_read.specs.Reading.{Rows, SheetOut, readSheet, schemaFrom, she
 use Rattle.sheet_read.specs.ReadingLaws.{sheet-sound}
 use Rattle.sheet_read.specs.declared.read.SheetRead.the-variants.{Read}
 use Rattle.sheet_round_trip.specs.Exact.{ExactSheet}
-use Rattle.sheet_round_trip.specs.ExactLaws.{says-exact}
+use Rattle.sheet_round_trip.specs.LongestLaws.{written-longest}
 use Rattle.sheet_round_trip.specs.SheetLaws.{bothHeld, both-same, read-written, stores-held, written-read}
 use Rattle.sheet_write.specs.SameLaws.{sheet-same}
 use Rattle.keeper.specs.Load.{filled, load}
 use Rattle.keeper.specs.LoadLaws as loading
-use Rattle.keeper.specs.Write.{Written, sheetOf, write}
-use Rattle.keeper_promises.specs.Promises.{Acceptable, InOrder, OfBytes, moved}
+use Rattle.keeper.specs.Write.{Written, sheetOf, write, written}
+use Rattle.keeper_promises.specs.Promises.{Acceptable, InOrder, OfBytes, Shape, moved}
 use Rattle.keeper_promises.specs.BytesLaws.{load-bytes}
 use Rattle.keeper_promises.specs.CallLaws.{write-done}
 use Rattle.keeper_promises.specs.LoadLaws.{load-done, load-order}
@@ -100,8 +100,20 @@ module _ (sheet : List ℕ) (s : Stores) (bytes : Bytes sheet) (long : LongEnoug
   unfolding filled
   filled-written =
       sheet-same (loading.both-same (readSheet sheet .rows) (sheet-sound sheet bytes) (s .attributes) (s .classes) lent)
-      ∙ read-written sheet bytes (says-exact sheet .passes exact) (h .reads)
+      ∙ read-written sheet bytes exact (h .reads)
 
   -- an accepted sheet in which 08 stands exactly where oMSyntax is 127 is the sheet of the stores that it was loaded into
   pub load-write : sheetOf (load sheet s .left) ≡ sheet
   load-write = ap (λ (x : Result). sheetOf (x .left)) (load-done sheet s long h) ∙ filled-written
+
+  -- and a write gives it back, its length and nothing else
+  pub load-writes : (out : List ℕ) → length sheet ≤ length out → write (load sheet s .left) out ≡ written (done (length sheet)) (splice 0 sheet out)
+  load-writes out room =
+      let order = load-order sheet s bytes long h in
+      write-done (load sheet s .left) out (order .long) (order .shape) (omega (arith, ap length load-write))
+      ∙ ap (λ (x : List ℕ). written (done (length x)) (splice 0 x out)) load-write
+
+-- ---- how long a sheet can be
+
+pub write-longest : (s : Stores) → Shape s → length (sheetOf s) ≤ 410756
+write-longest s h = written-longest (schemaOf s) (h .attributes .few) (h .classes .few)

@@ -17,9 +17,9 @@ use Rattle.schema.specs.declared.number.TableId.the-variants.{Attributes, Class
 use Rattle.schema.specs.Layout.{rowWidth}
 use Rattle.rows_format.specs.declared.format.Format.{Format}
 use Rattle.rows_format.specs.Columns.{writeBy}
-use Rattle.rows_format.specs.Formats.{columnsOf, formatWidth}
-use Rattle.rows_read.specs.Reading.{out, readBy}
-use Rattle.rows_read.specs.RoundTripLaws.{fields-back, row-read, row-read-written}
+use Rattle.rows_format.specs.Formats.{columnsOf}
+use Rattle.rows_read.specs.Reading.{out}
+use Rattle.rows_read.specs.RoundTripLaws.{row-read-written}
 use Rattle.rows_read.specs.WellFormed.{standsExactly}
 use Rattle.sheet_read.specs.declared.read.SheetRead.the-variants.{Read}
 use Rattle.sheet_read.specs.declared.read.SheetTag.the-variants.{Heading, Row}
@@ -31,7 +31,7 @@ use Rattle.sheet_read.specs.Reading.{readSheet}
 use Rattle.sheet_write.specs.Writing.{heading, rowTag, rowField, sheetBytes}
 use Rattle.rows_read.specs.Stopping.{FieldStands}
 use Rattle.sheet_round_trip.specs.Exact.{FieldsStand, none, ExactRow, ExactSheet}
-use Rattle.sheet_round_trip.specs.ExactLaws.{says-exact-row}
+use Rattle.sheet_round_trip.specs.ExactLaws.{says-exact-read}
 use Rattle.sheet_round_trip.specs.FieldLaws.{fields-more, read-stands}
 use Rattle.sheet_round_trip.specs.WalkLaws.{Goes, accepted-ends}
 use Rattle.sheet_round_trip.specs.RowLaws.{sheet-more, bare-sheet}
@@ -143,7 +143,7 @@ module _ (s : List ℕ) (bytes : Bytes s) (exact : ExactSheet s) where
   row-value : (t : TableId) (at tag start stop : ℕ) → fieldAt s at (length s) ≡ fields.Field tag start stop → sheetTag tag ≡ Row t
       → FieldsStand s (length s) 0 at → rowOut t s start stop ≡ out row.Read (rowOut t s start stop .row)
       → writeBy (columnsOf (Format.Row t)) (rowOut t s start stop .row) ≡ part start (stop - start) s
-  unfolding standsExactly formatWidth rowTag
+  unfolding standsExactly rowTag
   row-value Classes at tag start stop f known b read =
       let w = field-is s at (length s) tag start stop f in
       row-read-written Classes s start stop (zeros (rowWidth Classes)) _ bytes (w .within) (omega (arith, zeros-length (rowWidth Classes))) read refl
@@ -151,15 +151,12 @@ module _ (s : List ℕ) (bytes : Bytes s) (exact : ExactSheet s) where
       let w = field-is s at (length s) tag start stop f in
       let blank : List ℕ = zeros (rowWidth Attributes) in
       let fits : rowWidth Attributes ≤ length blank = omega (arith, zeros-length (rowWidth Attributes)) in
-      let raw : List ℕ = readBy s stop (columnsOf (Format.Row Attributes)) start false blank .row in
-      let back = fields-back (Format.Row Attributes) s start stop blank raw bytes (w .within) fits
-      (row-read (Format.Row Attributes) s start stop blank _ read .0) in
       let stands : FieldStands s (length s) at 32 stop =
       subst (λ (n : ℕ). FieldStands s (length s) at n stop) (row-tag Attributes tag known) (read-stands s at (length s) tag start stop f) in
       let row-exact : ExactRow s start stop =
       subst (λ (n : ℕ). ExactRow s n stop) (sym (w .start-is)) (exact at stop (record { before = b; field = stands })) in
       row-read-written Attributes s start stop blank _ bytes (w .within) fits read
-      (says-exact-row s start stop raw (omega (arith, w .start-is, w .stop-is)) (w .within) (omega (arith, back .0)) (back .1 .0) (back .1 .1) .passes row-exact)
+      (says-exact-read s start stop blank _ bytes (omega (arith, w .start-is, w .stop-is)) (w .within) fits read .passes row-exact)
 
   goes : Goes s (Between s)
   goes = record {

@@ -1,5 +1,6 @@
 -- The sheets that the tables give back. Document 01: "sheet, tables, sheet does if accepted and 08 stands exactly where oMSyntax is 127". It is said of the
--- fields that stand in the sheet (`FieldStands`: "one byte tag, two bytes length, value"), and of nothing that a reader makes of them; `says-exact-row` (ExactLaws) joins it to what is read.
+-- fields that stand in the sheet (`FieldStands`: "one byte tag, two bytes length, value"), and of nothing that a reader makes of them;
+-- `says-exact-read` (ExactLaws) joins it to what is read.
 use mathlib.Core.List.{List}
 use mathlib.Core.Logic.{_↔_}
 use mathlib.Core.Path.{_≡_}

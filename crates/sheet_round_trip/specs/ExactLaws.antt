@@ -9,10 +9,10 @@ use native.Mathlib.Omega.{arith}
 use lib.ListN.{length, getD}
 use Rattle.prelude.specs.Says.{Says}
 use Rattle.prelude.specs.SaysLaws.{says-eq, says-false, says-not-test, says-true}
-use Rattle.prelude.specs.Part.{part, isZero}
+use Rattle.prelude.specs.Part.{part, isZero, Bytes}
 use Rattle.prelude.specs.PartLaws.{part-at, part-length, says-zero, zeros-at}
 use Rattle.schema.specs.declared.number.TableId.the-variants.{Attributes}
-use Rattle.schema.specs.Layout.{objectClassLimit, omSyntaxAt, objectClassAt, attributeWidth}
+use Rattle.schema.specs.Layout.{objectClassLimit, omSyntaxAt, objectClassAt, attributeWidth, rowWidth}
 use Rattle.schema.specs.AttributeRow.{omSyntaxOf, objectClassLength}
 use Rattle.rows_format.specs.declared.column.Encoding.the-variants.{Counted}
 use Rattle.rows_format.specs.declared.column.Presence.the-variants.{Optional}
@@ -21,8 +21,11 @@ use Rattle.rows_format.specs.Encodings.{room, stored}
 use Rattle.rows_format.specs.EncodingsLaws.{says-holds}
 use Rattle.rows_format.specs.Columns.{mark, columnWidth, cellAt, hasValue, valueOf, wellFormedCell, wellFormedBy, writeBy}
 use Rattle.rows_format.specs.ColumnsLaws.{formed-at}
-use Rattle.rows_format.specs.Formats.{column, commonColumns, attributeColumns, ownColumns, columnsOf, noColumn}
-use Rattle.rows_read.specs.ObjectClass.{objectClassWidth}
+use Rattle.rows_format.specs.Formats.{column, commonColumns, attributeColumns, ownColumns, columnsOf, formatWidth, noColumn}
+use Rattle.rows_read.specs.declared.read.RowRead.the-variants.{Read}
+use Rattle.rows_read.specs.Reading.{out, readBy}
+use Rattle.rows_read.specs.ObjectClass.{objectClassWidth, readRow}
+use Rattle.rows_read.specs.RoundTripLaws.{fields-back, row-read}
 use Rattle.rows_read.specs.WellFormed.{standsExactly}
 use Rattle.rows_read.specs.Stopping.{valueAt}
 use Rattle.sheet_round_trip.specs.Exact.{HasObjectClass, HasObjectSyntax, ExactRow}
@@ -93,7 +96,7 @@ module _ (s : List ℕ) (start end : ℕ) (raw : List ℕ) (from : start ≤ end
 
   -- ---- both
 
-  pub says-exact-row : Says (standsExactly Attributes raw) (ExactRow s start end)
+  says-exact-row : Says (standsExactly Attributes raw) (ExactRow s start end)
   unfolding standsExactly
   says-exact-row = go (ℕ-discrete (omSyntaxOf raw) 127) (ℕ-discrete (objectClassLength raw) 0)
     where
@@ -106,3 +109,15 @@ module _ (s : List ℕ) (start end : ℕ) (raw : List ℕ) (from : start ≤ end
           (record { holds = λ q. (λ h. absurd (stands-class h z), λ h. absurd (d (stands-object h))); passes = λ h. refl })
       go (no d) (no c) = rw (says-false (says-eq (omSyntaxOf raw) 127) d, says-false (says-eq (objectClassLength raw) 0) c)
           (record { holds = λ q. absurd (false≢true q); passes = λ h. absurd (d (stands-object (h .0 (class-stands c)))) })
+
+-- so of every attribute row that is read: the statement on its bytes holds exactly if the test of its fields as they were read passes
+module _ (s : List ℕ) (start end : ℕ) (row new : List ℕ) (bytes : Bytes s) (from : start ≤ end) (within : end ≤ length s)
+    (fits : rowWidth Attributes ≤ length row) (read : readRow (Row Attributes) s start end row ≡ out Read new) where
+  abbrev fieldsRead : List ℕ
+  fieldsRead = readBy s end (columnsOf (Row Attributes)) start false row .row
+
+  pub says-exact-read : Says (standsExactly Attributes fieldsRead) (ExactRow s start end)
+  unfolding formatWidth
+  says-exact-read =
+      let back = fields-back (Row Attributes) s start end row fieldsRead bytes within fits (row-read (Row Attributes) s start end row new read .0) in
+      says-exact-row s start end fieldsRead from within (omega (arith, back .0)) (back .1 .0) (back .1 .1)

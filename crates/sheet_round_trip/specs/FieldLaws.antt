@@ -39,7 +39,7 @@ read-stands s at end tag start stop e =
     let w = field-is s at end tag start stop e in
     record { tagged = sym (w .tag-is); header = omega (arith, w .stop-is, w .within); ends = w .stop-is; within = w .within }
 
-fields-forward : {s : List ℕ} {end from at : ℕ} → FieldsStand s end from at → from ≤ at
+pub fields-forward : {s : List ℕ} {end from at : ℕ} → FieldsStand s end from at → from ≤ at
 fields-forward none = omega arith
 fields-forward (more f b) = omega (arith, f .ends, fields-forward b)
 

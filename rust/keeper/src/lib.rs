@@ -25,9 +25,10 @@ pub const ATTRIBUTES_LENGTH: usize = 48_386;
 pub const CLASSES_LENGTH: usize = 40_322;
 /// The closure store's length.
 pub const CLOSURE_LENGTH: usize = 10_240;
-/// No sheet that a write writes is longer: 410,756 bytes, the heading and the
-/// longest rows of both tables. This is counted, not proved; a write whose
-/// output is too short says so (number 31).
+/// No sheet that a write writes or a load accepts is longer: 410,756 bytes, the
+/// heading and the longest rows of both tables. This is proved (`write-longest`
+/// and `load-longest` in crates/keeper_promises/specs/Promises.antt). A write
+/// whose output is too short says so (number 31).
 pub const LONGEST_SHEET: usize = 4 + 256 * 224 + 128 * 2761;
 /// So many bytes of stack are enough for every call. This is measured, not
 /// proved: the most was some 36,400 (docs/LAYOUT.md).
