@@ -37,9 +37,9 @@ use Rattle.keeper_change.specs.MadeLaws.{made-same}
 use Rattle.keeper_change.specs.Plain.{plainChange}
 use Rattle.keeper_change.specs.Quick.{quickChange, quickDiffers, quickMade, quickNumber, quickRead, quickTo}
 use Rattle.keeper_promises.specs.OrderLaws.{order-shape}
-use Rattle.keeper_promises.specs.PlainLaws.{left-made, number-is, plain-kept, plain-unreadable, read-answer}
+use Rattle.keeper_promises.specs.PlainLaws.{left-made, number-is, plain-kept, plain-bad, read-answer}
 use Rattle.keeper_promises.specs.Promises.{InOrder}
-use Rattle.keeper_promises.specs.QuickLaws.{quick-kept, quick-shaped, quick-unreadable}
+use Rattle.keeper_promises.specs.QuickLaws.{quick-kept, quick-shaped, quick-bad}
 use Rattle.schema.specs.Refusals as refusal
 
 -- ---- stores in order hold a schema that the laws of the model speak of
@@ -151,5 +151,5 @@ pub quick-plain : (x : List ℕ) (s : Stores) → Bytes x → InOrder s → quic
 quick-plain x s bytes h = go (readChange x .answer) refl
   where
     go : (y : ChangeRead) → readChange x .answer ≡ y → quickChange x s ≡ plainChange x s
-    go (Bad at) e = quick-unreadable x s (h .long) (h .shape) at e ∙ sym (plain-unreadable x s h at e)
+    go (Bad at) e = quick-bad x s (h .long) (h .shape) at e ∙ sym (plain-bad x s h at e)
     go (Read change) e = read-agrees x s bytes h change (readChange x .row) (ap (λ (y : ChangeRead). changeOut y (readChange x .row)) e)

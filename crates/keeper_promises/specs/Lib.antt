@@ -26,6 +26,7 @@ pub mod StepLaws
 pub mod PromisesLaws
 pub mod OrderLaws
 pub mod LoadLaws
+pub mod StoppingLaws
 pub mod CallLaws
 pub mod AlikeLaws
 pub mod FrontLaws

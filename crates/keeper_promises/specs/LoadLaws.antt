@@ -106,14 +106,14 @@ module _ (sheet : List ℕ) where
       told : {x : Answer} → readAnswer out ≡ x → ¬ (x .number ≡ 0) → load sheet s ≡ result x (emptied s)
       told e d = load-rejected sheet s (not-short s h) (λ z. d (sym (number-of e) ∙ z)) ∙ ap (λ (y : Answer). result y (emptied s)) e
 
-      pub load-unreadable : (at : ℕ) → out .answer ≡ Bad at → load sheet s ≡ result (unreadable at) (emptied s)
-      load-unreadable at e = told (by-reading e ∙ sym (read-bad (out .rows) at)) (λ z. omega arith)
+      pub load-bad : (at : ℕ) → out .answer ≡ Bad at → load sheet s ≡ result (unreadable at) (emptied s)
+      load-bad at e = told (by-reading e ∙ sym (read-bad (out .rows) at)) (λ z. omega arith)
 
-      pub load-full : (t : TableId) → out .answer ≡ Full t → load sheet s ≡ result (full t) (emptied s)
-      load-full t e = told (by-reading e ∙ sym (read-full (out .rows) t)) (λ z. omega arith)
+      pub load-no-room : (t : TableId) → out .answer ≡ Full t → load sheet s ≡ result (full t) (emptied s)
+      load-no-room t e = told (by-reading e ∙ sym (read-full (out .rows) t)) (λ z. omega arith)
 
       module _ (e : out .answer ≡ Read) where
-        judged-answer : load sheet s .answer ≡ judged Nothing (schemaFrom (out .rows))
+        pub judged-answer : load sheet s .answer ≡ judged Nothing (schemaFrom (out .rows))
         judged-answer = ⊎-elim (λ q. yes-answer (q .1)) (λ q. ap (λ (x : Result). x .answer) (told (by-judging e) (q .1)))
             (says-split (says-eq (judged Nothing (schemaFrom (out .rows)) .number) 0))
           where

@@ -125,8 +125,8 @@ module _ (x : List ℕ) (s : Stores) where
   unfolding plainChange plainRead plainAnswer
   plain-answer h = orders.order-onward s (sym (order-passes s h)) refl (answerTo read carried m)
 
-  pub plain-unreadable : InOrder s → (at : ℕ) → read ≡ Bad at → plainChange x s ≡ result (unreadable at) s
-  plain-unreadable h at e =
+  pub plain-bad : InOrder s → (at : ℕ) → read ≡ Bad at → plainChange x s ≡ result (unreadable at) s
+  plain-bad h at e =
       let a : plainChange x s .answer ≡ unreadable at = plain-answer h ∙ ap (λ (y : ChangeRead). answerTo y carried m) e ∙ (unfold answerTo in refl) in
       ap₂ result a (plain-kept (λ z. (let q : _≡_ {A = ℕ} 4 0 = ap (λ (y : Answer). y .number) (sym a) ∙ z in omega arith)))
 
@@ -203,7 +203,7 @@ module _ (x : List ℕ) (s : Stores) where
   -- and from a change that reads
   zero-reads : (y : ChangeRead) → read ≡ y → plainChange x s .answer .number ≡ 0 → Accepted x m
   zero-reads (Bad at) e z =
-      let q : _≡_ {A = ℕ} 4 0 = sym (ap (λ (w : Result). w .answer .number) (plain-unreadable (zero-order z) at e)) ∙ z in absurd (omega arith)
+      let q : _≡_ {A = ℕ} 4 0 = sym (ap (λ (w : Result). w .answer .number) (plain-bad (zero-order z) at e)) ∙ z in absurd (omega arith)
   zero-reads (Read change) e z =
       let reads : readChange x ≡ changeOut (Read change) carried = ap (λ (y : ChangeRead). changeOut y carried) e in
       zero-accepted change carried reads (sym (number-is (zero-order z) change carried reads) ∙ z)

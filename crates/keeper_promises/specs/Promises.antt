@@ -12,7 +12,7 @@ use Rattle.wire.specs.Wire.{fieldAt}
 use Rattle.wire.specs.declared.FieldRead.the-variants.{Field}
 use Rattle.schema.specs.declared.number.TableId.{TableId}
 use Rattle.schema.specs.declared.number.TableId.the-variants.{Attributes, Classes}
-use Rattle.schema.specs.Answers.{passed, done, refused, shortOutput, changed, fieldAnswer, numberAnswer}
+use Rattle.schema.specs.Answers.{answer, passed, done, refused, shortOutput, changed, fieldAnswer, numberAnswer}
 use Rattle.schema.specs.Layout.{storeLength, closureLength}
 use Rattle.schema.specs.Numbers.{classLimit, numberRead}
 use Rattle.schema.specs.Store.{LongEnough, Stores, stores, result, schemaOf, closureAt, Schema}
@@ -20,7 +20,9 @@ use Rattle.tables.specs.Filled.{emptyStores}
 use Rattle.graph.specs.Graph.{closureRow}
 use Rattle.graph.specs.declared.depth.Depth.the-variants.{Steps, NotEarlier}
 use Rattle.graph.specs.Depth.{EarlierChain, depthAnswer}
+use Rattle.sheet_read.specs.declared.read.SheetRead.{SheetRead}
 use Rattle.sheet_read.specs.declared.read.SheetRead.the-variants.{Bad, Full, Read}
+use Rattle.sheet_read.specs.Stopping.{SheetStops}
 use Rattle.sheet_read.specs.Reading.{readSheet, schemaFrom, sheetAnswer}
 use Rattle.rules.specs.declared.row.Added.the-variants.{Nothing}
 use Rattle.rules.specs.Rules.{schemaRules}
@@ -37,8 +39,10 @@ use Rattle.keeper.specs.Audit.{audit}
 use Rattle.keeper.specs.Depth.{depth}
 use Rattle.keeper.specs.Write.{sheetOf, write, written}
 use Rattle.change_read.specs.declared.read.Change.{Change}
+use Rattle.change_read.specs.declared.read.ChangeRead.{ChangeRead}
 use Rattle.change_read.specs.declared.read.Tagged.the-variants.{Known}
 use Rattle.change_read.specs.Carried.{targetOf}
+use Rattle.change_read.specs.Stopping.{ChangeStops}
 use Rattle.change_read.specs.Reading.{changeOut, readChange, changeAnswer, changeOf, formatOf, scratch}
 use Rattle.change_model.specs.Conditions.{Condition, DemandDiffers}
 use Rattle.change_model.specs.Model.{addedBy, rowsAfter}
@@ -157,6 +161,10 @@ pub record Demand1 : Type 0 where
 -- `depthAnswer` give the number and values of each of their cases.
 
 pub record Demand2 : Type 0 where
+  -- what `readSheet` and `readChange` come to is what the fields that stand there say (sheet_read/Stopping, change_read/Stopping): `reads` in `Acceptable`
+  -- is `SheetStops sheet Read`, and in `Accepted` it gives `ChangeStops x (Read change)`
+  pub sheet-stops : (sheet : List ℕ) (answer : SheetRead) → (readSheet sheet .answer ≡ answer) ↔ SheetStops sheet answer
+  pub change-stops : (x : List ℕ) (answer : ChangeRead) → (readChange x .answer ≡ answer) ↔ ChangeStops x answer
   -- load: 0 exactly if the stores are long enough, the sheet reads and its rows meet every rule
   pub load-zero : (sheet : List ℕ) (s : Stores) → (load sheet s .answer .number ≡ 0) ↔ (LongEnough s × Acceptable sheet)
   -- then the stores hold exactly the rows of the sheet, and the closure that these give
@@ -164,11 +172,18 @@ pub record Demand2 : Type 0 where
   -- and are in order, and audit says so
   pub load-order : (sheet : List ℕ) (s : Stores) → Bytes sheet → LongEnough s → Acceptable sheet → InOrder (load sheet s .left)
   pub load-audits : (sheet : List ℕ) (s : Stores) → Bytes sheet → LongEnough s → Acceptable sheet → audit (load sheet s .left) ≡ passed
-  -- "4 sheet or change unreadable; place is the byte offset", "6 no free row; at load .. with table and limit"
-  pub load-unreadable : (sheet : List ℕ) (s : Stores) → LongEnough s → (at : ℕ) → readSheet sheet .answer ≡ Bad at → load sheet s
+  -- "4 sheet or change unreadable; place is the byte offset": exactly if the stores are long enough and reading the sheet stops at a field that cannot be
+  -- accepted or is missing, and that place is told
+  pub load-four : (sheet : List ℕ) (s : Stores) → (load sheet s .answer .number ≡ 4) ↔ (LongEnough s × ((at : ℕ) × SheetStops sheet (Bad at)))
+  pub load-unreadable : (sheet : List ℕ) (s : Stores) → LongEnough s → (at : ℕ) → SheetStops sheet (Bad at) → load sheet s
       ≡ result (sheetAnswer (Bad at)) (emptied s)
-  pub load-full : (sheet : List ℕ) (s : Stores) → LongEnough s → (t : TableId) → readSheet sheet .answer ≡ Full t → load sheet s
+  -- "6 no free row; at load, told at the row's tag, before any 4 there, with table and limit": exactly if the rows before fill a table and the tag of one
+  -- more stands there; then the answer is 6 1 256 or 6 2 128
+  pub load-six : (sheet : List ℕ) (s : Stores) → (load sheet s .answer .number ≡ 6) ↔ (LongEnough s × ((t : TableId) × SheetStops sheet (Full t)))
+  pub load-full : (sheet : List ℕ) (s : Stores) → LongEnough s → (t : TableId) → SheetStops sheet (Full t) → load sheet s
       ≡ result (sheetAnswer (Full t)) (emptied s)
+  pub load-limit : (sheet : List ℕ) (s : Stores) → load sheet s .answer .number ≡ 6
+      → (load sheet s .answer ≡ answer 6 1 256) ⊎ (load sheet s .answer ≡ answer 6 2 128)
   -- the sheet reads, and some row breaks a rule: the first that is broken, "the table and lowest row that break the rule found, attributes first"
   pub load-rule : (sheet : List ℕ) (s : Stores) → LongEnough s → readSheet sheet .answer ≡ Read → ¬ Meets Nothing (schemaFrom (readSheet sheet .rows))
       → FirstBroken (schemaFrom (readSheet sheet .rows)) (schemaRules Nothing) (load sheet s .answer)
@@ -188,7 +203,9 @@ pub record Demand2 : Type 0 where
   pub plain-one : (x : List ℕ) (s : Stores) → SomeShort s → plainChange x s ≡ result (refused refusal.shortStore) s
   pub plain-two : (x : List ℕ) (s : Stores) → LongEnough s → ¬ Shape s → plainChange x s ≡ result (refused refusal.brokenShape) s
   pub plain-three : (x : List ℕ) (s : Stores) → LongEnough s → Shape s → ¬ InOrder s → plainChange x s ≡ result (refused refusal.notInOrder) s
-  pub plain-unreadable : (x : List ℕ) (s : Stores) → InOrder s → (at : ℕ) → readChange x .answer ≡ changes.Bad at
+  -- 4 exactly if reading the change stops
+  pub plain-four : (x : List ℕ) (s : Stores) → (plainChange x s .answer .number ≡ 4) ↔ (InOrder s × ((at : ℕ) × ChangeStops x (changes.Bad at)))
+  pub plain-unreadable : (x : List ℕ) (s : Stores) → InOrder s → (at : ℕ) → ChangeStops x (changes.Bad at)
       → plainChange x s ≡ result (changeAnswer (changes.Bad at)) s
   -- a change is one field, which may be missing or cut
   pub plain-field : (x : List ℕ) (s : Stores) → InOrder s → ¬ (fieldAnswer (length x) (fieldAt x 0 (length x)) .number ≡ 0)
@@ -209,7 +226,10 @@ pub record Demand2 : Type 0 where
   -- quick change, on any stores, in order or not: 1, 2, and 4 with its place
   pub quick-one : (x : List ℕ) (s : Stores) → SomeShort s → quickChange x s ≡ result (refused refusal.shortStore) s
   pub quick-two : (x : List ℕ) (s : Stores) → LongEnough s → ¬ Shape s → quickChange x s ≡ result (refused refusal.brokenShape) s
-  pub quick-unreadable : (x : List ℕ) (s : Stores) → LongEnough s → Shape s → (at : ℕ) → readChange x .answer ≡ changes.Bad at
+  -- 4 exactly if reading the change stops
+  pub quick-four : (x : List ℕ) (s : Stores)
+      → (quickChange x s .answer .number ≡ 4) ↔ (LongEnough s × Shape s × ((at : ℕ) × ChangeStops x (changes.Bad at)))
+  pub quick-unreadable : (x : List ℕ) (s : Stores) → LongEnough s → Shape s → (at : ℕ) → ChangeStops x (changes.Bad at)
       → quickChange x s ≡ result (changeAnswer (changes.Bad at)) s
   -- audit: 0 exactly if the stores are in order, and then no table and no place is named
   pub audit-zero : (s : Stores) → (audit s .number ≡ 0) ↔ InOrder s

@@ -1,4 +1,6 @@
 -- The promises, kept: each demand, with no assumption left.
+use Rattle.sheet_read.specs.StoppingLaws.{sheet-stops}
+use Rattle.change_read.specs.StoppingLaws.{change-stops}
 use Rattle.keeper_promises.specs.Demand3.{Demand3}
 use Rattle.keeper_promises.specs.Demand3Laws.{agreement}
 use Rattle.keeper_promises.specs.Promises.{Demand1, Demand2}
@@ -17,6 +19,7 @@ use Rattle.keeper_promises.specs.QuickFrontLaws as quickly
 use Rattle.keeper_promises.specs.QuickLaws as quick
 use Rattle.keeper_promises.specs.ReadingLaws as reading
 use Rattle.keeper_promises.specs.RoundTripLaws as trips
+use Rattle.keeper_promises.specs.StoppingLaws as stopping
 
 pub demand1 : Demand1
 demand1 = record {
@@ -41,12 +44,17 @@ demand1 = record {
 
 pub demand2 : Demand2
 demand2 = record {
+  sheet-stops = sheet-stops;
+  change-stops = change-stops;
   load-zero = loads.load-zero;
   load-done = loads.load-done;
   load-order = loads.load-order;
   load-audits = loads.load-audits;
-  load-unreadable = loads.load-unreadable;
-  load-full = loads.load-full;
+  load-four = stopping.load-four;
+  load-unreadable = stopping.load-unreadable;
+  load-six = stopping.load-six;
+  load-full = stopping.load-full;
+  load-limit = stopping.load-limit;
   load-rule = loads.load-rule;
   load-least = loads.load-least;
   plain-zero = plain.plain-zero;
@@ -56,7 +64,8 @@ demand2 = record {
   plain-one = plain.plain-one;
   plain-two = plain.plain-two;
   plain-three = plain.plain-three;
-  plain-unreadable = plain.plain-unreadable;
+  plain-four = stopping.plain-four;
+  plain-unreadable = stopping.plain-unreadable;
   plain-field = reading.plain-field;
   plain-value = reading.plain-value;
   plain-target = reading.plain-target;
@@ -64,7 +73,8 @@ demand2 = record {
   plain-least = plain.plain-least;
   quick-one = quick.quick-one;
   quick-two = quick.quick-two;
-  quick-unreadable = quick.quick-unreadable;
+  quick-four = stopping.quick-four;
+  quick-unreadable = stopping.quick-unreadable;
   audit-zero = order.audit-zero;
   audit-done = order.audit-done;
   audit-one = order.audit-one;

@@ -56,6 +56,6 @@ module _ (x : List ℕ) (s : Stores) where
   unfolding quickChange quickRead quickAnswer
   quick-shaped i = passed-last (shapeAnswers s) (quickTo read carried s) (passed-shape s i)
 
-  pub quick-unreadable : LongEnough s → Shape s → (at : ℕ) → read ≡ Bad at → quickChange x s ≡ result (unreadable at) s
-  quick-unreadable long shape at e =
+  pub quick-bad : LongEnough s → Shape s → (at : ℕ) → read ≡ Bad at → quickChange x s ≡ result (unreadable at) s
+  quick-bad long shape at e =
       told (unreadable at) (λ z. omega arith) (quick-shaped (has-shape s long shape) ∙ ap (λ (y : ChangeRead). quickTo y carried s) e)

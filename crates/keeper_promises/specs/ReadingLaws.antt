@@ -33,7 +33,7 @@ use Rattle.change_model.specs.Model.{changeNumber}
 use Rattle.change_model.specs.ModelLaws.{answer-refused}
 use Rattle.keeper_change.specs.Plain.{plainChange}
 use Rattle.keeper_promises.specs.Promises.{InOrder, valueRead}
-use Rattle.keeper_promises.specs.PlainLaws.{plain-kept, plain-unreadable, read-answer}
+use Rattle.keeper_promises.specs.PlainLaws.{plain-kept, plain-bad, read-answer}
 use Rattle.schema.specs.Refusals as refusal
 use Rattle.wire.specs.declared.FieldRead.the-variants as fields
 use Rattle.rows_read.specs.declared.read.RowRead.the-variants as rows
@@ -64,8 +64,8 @@ module _ (x : List ℕ) (s : Stores) (h : InOrder s) where
       go : (f : FieldRead) → fieldAt x 0 (length x) ≡ f → ¬ (fieldAnswer (length x) f .number ≡ 0) → plainChange x s ≡ result (fieldAnswer (length x) f) s
       go (fields.Field tag start stop) e d = absurd (d refl)
       go fields.End e d =
-          plain-unreadable x s h 0 (read-field e ∙ (unfold fieldOut in refl)) ∙ ap (λ (n : ℕ). result (unreadable n) s) (end-is x 0 (length x) e)
-      go (fields.Bad at) e d = plain-unreadable x s h at (read-field e ∙ (unfold fieldOut in refl))
+          plain-bad x s h 0 (read-field e ∙ (unfold fieldOut in refl)) ∙ ap (λ (n : ℕ). result (unreadable n) s) (end-is x 0 (length x) e)
+      go (fields.Bad at) e d = plain-bad x s h at (read-field e ∙ (unfold fieldOut in refl))
 
   -- ---- its value
 
@@ -81,7 +81,7 @@ module _ (x : List ℕ) (s : Stores) (h : InOrder s) where
       go : (r : RowRead) → valueRead change x start stop ≡ r → ¬ (rowAnswer r .number ≡ 0) → plainChange x s ≡ result (rowAnswer r) s
       go rows.Read e d = absurd (d refl)
       go (rows.Bad at) e d =
-          plain-unreadable x s h at (read-value tag start stop change field known ∙ ap (wholeRead change x stop) e ∙ (unfold wholeRead in refl))
+          plain-bad x s h at (read-value tag start stop change field known ∙ ap (wholeRead change x stop) e ∙ (unfold wholeRead in refl))
 
   -- ---- its target
 
