@@ -37,7 +37,6 @@ use Rattle.sheet_round_trip.specs.WalkLaws.{Goes, accepted-ends}
 use Rattle.sheet_round_trip.specs.RowLaws.{sheet-more, bare-sheet}
 use Rattle.wire.specs.declared.FieldRead.the-variants as fields
 use Rattle.rows_read.specs.declared.read.RowRead.the-variants as row
-use Rattle.sheet_read.specs.declared.read.Room.the-variants as room
 
 -- ---- what holds between two fields
 

@@ -6,9 +6,9 @@ use mathlib.Core.Path.{_≡_, refl, sym, ap, ap₂, subst, _∙_}
 use Prim.Native.Nat.{ℕ, zero, suc, _+_, _-_, _≤_, _<_}
 use native.Mathlib.Nat.{add-zero}
 use native.Mathlib.Omega.{arith}
-use lib.ListN.{length, getD, drop, take, length-append}
+use lib.ListN.{length, drop, take, length-append}
 use lib.Seq.{length-take-le}
-use Rattle.prelude.specs.SaysLaws.{says-and, says-not, says-eq, says-test, true-or-false}
+use Rattle.prelude.specs.SaysLaws.{true-or-false}
 use Rattle.prelude.specs.BigEndian.{bigEndian}
 use Rattle.prelude.specs.Part.{part, splice}
 use Rattle.prelude.specs.PartLaws.{part-length}
@@ -19,7 +19,7 @@ use Rattle.rows_format.specs.declared.column.Column.{Column}
 use Rattle.rows_format.specs.Columns.{columnWidth, cellAt, hasValue, valueOf, fieldOf, writeBy, laid, Sound}
 use Rattle.rows_format.specs.ColumnsLaws.{laid-cons, field-none, field-some, width-small}
 use Rattle.rows_format.specs.declared.format.Format.{Format}
-use Rattle.rows_format.specs.Formats.{noColumn, columnsOf, formatWidth}
+use Rattle.rows_format.specs.Formats.{columnsOf, formatWidth}
 use Rattle.rows_format.specs.FormatsLaws.{distinct, format-distinct, format-laid}
 use Rattle.rows_format.specs.ShortLaws.{field-bound}
 use Rattle.rows_read.specs.Stopping.{FieldStands, columnAt, valueAt}

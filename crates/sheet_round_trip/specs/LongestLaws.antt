@@ -13,7 +13,6 @@ use Rattle.prelude.specs.PartLaws.{part-length, part-short, zeros-length}
 use Rattle.prelude.specs.BigEndianLaws.{bytes-length}
 use Rattle.prelude.specs.SaysLaws.{says-and, says-eq, true-or-false}
 use Rattle.sets.specs.Sets.{membersFrom}
-use Rattle.wire.specs.Wire.{fieldAt}
 use Rattle.wire.specs.WireLaws.{field-is, field-length}
 use Rattle.schema.specs.declared.number.TableId.{TableId}
 use Rattle.schema.specs.declared.number.TableId.the-variants.{Attributes, Classes}
@@ -32,13 +31,12 @@ use Rattle.rows_format.specs.Formats.{attributeColumns, classColumns, columnsOf
 use Rattle.rows_read.specs.Reading.{out, readBy}
 use Rattle.rows_read.specs.RoundTripLaws.{fields-back, row-read}
 use Rattle.sheet_read.specs.declared.read.Phase.{Phase}
-use Rattle.sheet_read.specs.declared.read.Phase.the-variants.{Start, InRows}
+use Rattle.sheet_read.specs.declared.read.Phase.the-variants.{InRows}
 use Rattle.sheet_read.specs.declared.read.SheetRead.the-variants.{Read}
-use Rattle.sheet_read.specs.Reading.{Rows, headingOpen, isHeading, noRows, plus, position, readSheet, rowOut}
+use Rattle.sheet_read.specs.Reading.{Rows, headingOpen, isHeading, plus, position, readSheet, rowOut}
 use Rattle.sheet_read.specs.ReadingLaws.{sheet-sound}
 use Rattle.sheet_write.specs.Writing.{heading, rowField, rowFields, rowTag, sheetBytes}
 use Rattle.sheet_round_trip.specs.WalkLaws.{Goes, accepted-ends}
-use Rattle.wire.specs.declared.FieldRead.the-variants as fields
 use Rattle.rows_read.specs.declared.read.RowRead.the-variants as row
 
 -- ---- one row
