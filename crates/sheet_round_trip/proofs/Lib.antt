@@ -1,0 +1,2 @@
+-- Rows tested by computation.
+pub mod Vectors
