@@ -21,7 +21,7 @@ use Rattle.rows_format.specs.Encodings.{passes, accepts, image, room}
 use Rattle.rows_format.specs.Columns.{lead, mark, required, possible, columnWidth, takes, cellOf}
 use Rattle.rows_format.specs.Formats.{commonColumns, attributeColumns, columnsOf, ownColumns}
 use Rattle.rows_read.specs.declared.read.RowRead.the-variants.{Read}
-use Rattle.rows_read.specs.Reading.{turnOf, tookOf, rowOf, onward, readBy, out}
+use Rattle.rows_read.specs.Reading.{turnOf, tookOf, rowOf, onward, readBy}
 use Rattle.rows_read.specs.ObjectClass.{finish, readRow}
 use Rattle.rows_read.specs.WellFormed.{standsExactly}
 use Rattle.sheet_round_trip.specs.Exact.{ExactRow}
