@@ -227,9 +227,10 @@ fn play_all(
     }
 }
 
-fn main() {
+// Plays the script that a file holds, on stores of its own.
+fn play_from(file: i32) {
     let mut script = io::large_buffer();
-    let n = io::read_full(libc::STDIN_FILENO, &mut script);
+    let n = io::read_full(file, &mut script);
     let mut attributes = io::large_buffer();
     let mut classes = io::large_buffer();
     let mut closure = io::large_buffer();
@@ -241,4 +242,24 @@ fn main() {
         &mut closure,
         &mut output,
     );
+}
+
+fn play_named(path: &[u8]) {
+    let file = os::open_read(path);
+    if file < 0 {
+        os::fail(path);
+        return;
+    }
+    play_from(file);
+    libc::close(file);
+}
+
+fn main() {
+    play_from(libc::STDIN_FILENO);
+    play_named(b"places.script");
+    play_named(b"rules.script");
+    play_named(b"changes.script");
+    play_named(b"attributes.script");
+    play_named(b"classes.script");
+    play_named(b"quick.script");
 }

@@ -19,7 +19,7 @@ mod values;
 
 use record::Record;
 
-/// The scripts' names. All but `quick` hold only what the Rattle player plays.
+/// The scripts' names, in the order in which the gate plays them.
 pub const NAMES: [&str; 6] = [
     "places",
     "rules",
@@ -37,7 +37,7 @@ pub const SHEETS: [(&str, &str); 4] = [
         "no name oid must may\n0 c0 2.48.0 2 2\n1 c1 2.4294967295.0 2 4\n",
     ),
     ("none", "no name oid must may\n"),
-    ("refused", "refused 25 1 2\n"),
+    ("range", "refused 25 1 2\n"),
     ("unreadable", "refused 4 0 4\n"),
 ];
 
@@ -46,7 +46,7 @@ pub fn listed(name: &str) -> Option<Vec<u8>> {
     match name {
         "edge" => Some(listing::edge()),
         "none" => Some(rows::sheet(&[])),
-        "refused" => Some(listing::refused()),
+        "range" => Some(listing::range()),
         "unreadable" => Some(listing::unreadable()),
         _ => None,
     }
