@@ -20,11 +20,12 @@ mod values;
 use record::Record;
 
 /// The scripts' names, in the order in which the gate plays them.
-pub const NAMES: [&str; 6] = [
+pub const NAMES: [&str; 7] = [
     "places",
     "rules",
     "changes",
     "attributes",
+    "overfull",
     "classes",
     "quick",
 ];
@@ -68,6 +69,7 @@ pub fn script(name: &str) -> Result<Vec<u8>, String> {
             stores::examples(&mut record);
         }
         "attributes" => limits::attributes(&mut record),
+        "overfull" => limits::overfull(&mut record),
         "classes" => limits::classes(&mut record),
         "quick" => quick::examples(&mut record),
         _ => return Err(format!("no script {name}")),
