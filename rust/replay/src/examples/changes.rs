@@ -275,6 +275,10 @@ fn came_back(record: &mut Record) {
     record.plain(&alter(0x48, 13, &[]), (0, 2, 13));
     record.plain(&alter(0x48, 14, &[]), (0, 2, 14));
     record.refused(&alter(0x48, 10, &[]), 17);
+    // Another linkID, though it is larger, needs no forward link.
+    record.plain(&alter(0x47, 6, &[]), (0, 1, 6));
+    record.plain(&alter(0x45, 5, &[]), (0, 1, 5));
+    record.plain(&alter(0x45, 4, &[]), (0, 1, 4));
 }
 
 /// Rules that a change of a row breaks.
