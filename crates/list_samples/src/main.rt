@@ -1,4 +1,5 @@
-// Lists the samples of the repository, as `list` lists its standard input: a forest owners' schema, a sheet that is refused, and one that is too long.
+// Lists the samples of the repository, as `list` lists its standard input: a forest owners' schema, a sheet that is refused, and one that is too long; then
+// the longest that is listed, one of no rows, and two whose refusals have a table and a place that differ.
 use libc::STDOUT_FILENO;
 use list_text::list::SHEET_LIMIT;
 use list_text::list::TEXT_LENGTH;
@@ -23,4 +24,8 @@ fn main() {
     show(b"forest.sheet");
     show(b"refused.sheet");
     show(b"long.sheet");
+    show(b"edge.sheet");
+    show(b"none.sheet");
+    show(b"range.sheet");
+    show(b"unreadable.sheet");
 }

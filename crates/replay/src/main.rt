@@ -1,6 +1,6 @@
-// Plays a replay script from standard input: loads, plain and quick changes, audits, writes, depths, pokes and resizes. Each step prints a line. The
-// script, every store and every output has at most 64 KiB, since there is no heap; a step that is cut, unknown or asks for more ends the play, with no
-// line of its own.
+// Plays replay scripts, from standard input and from files: loads, plain and quick changes, audits, writes, depths, pokes and resizes. Each step prints a
+// line. A script, every store and every output has at most 64 KiB, since there is no heap; a step that is cut, unknown or asks for more ends the script,
+// with no line of its own.
 mod hash;
 mod play;
 mod step;
@@ -227,9 +227,10 @@ fn play_all(
     }
 }
 
-fn main() {
+// Plays the script that a file holds, on stores of its own.
+fn play_from(file: i32) {
     let mut script = io::large_buffer();
-    let n = io::read_full(libc::STDIN_FILENO, &mut script);
+    let n = io::read_full(file, &mut script);
     let mut attributes = io::large_buffer();
     let mut classes = io::large_buffer();
     let mut closure = io::large_buffer();
@@ -241,4 +242,27 @@ fn main() {
         &mut closure,
         &mut output,
     );
+}
+
+// Opens a file and plays its script.
+fn play_named(path: &[u8]) {
+    let file = os::open_read(path);
+    if file < 0 {
+        os::fail(path);
+        return;
+    }
+    play_from(file);
+    libc::close(file);
+}
+
+// A script made at random, then those made by hand from document 01.
+fn main() {
+    play_from(libc::STDIN_FILENO);
+    play_named(b"places.script");
+    play_named(b"rules.script");
+    play_named(b"changes.script");
+    play_named(b"attributes.script");
+    play_named(b"overfull.script");
+    play_named(b"classes.script");
+    play_named(b"quick.script");
 }

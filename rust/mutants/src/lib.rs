@@ -1,6 +1,6 @@
-//! How good the stored scripts are: the list has edits that make the reference
+//! How good the gate's scripts are: the list has edits that make the reference
 //! wrong, each against a sentence of document 01; each is made in a copy, and
-//! the scripts that the gate plays must see it.
+//! what the gate plays must see it.
 
 mod edit;
 mod scratch;

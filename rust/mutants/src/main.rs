@@ -1,5 +1,5 @@
-//! Makes each edit of the list in a copy of the reference, plays the stored
-//! scripts, and tells which edits are seen: `mutants [TEXT]`, with a text only
+//! Makes each edit of the list in a copy of the reference, plays what the gate
+//! plays, and tells which edits are seen: `mutants [TEXT]`, with a text only
 //! those whose sentence or file has it. Fails where one survives or cannot be
 //! built.
 
@@ -42,25 +42,19 @@ fn seen_by(scratch: &Scratch, scripts: &[Script], edit: &Edit) -> Result<String,
     Ok(NOBODY.to_string())
 }
 
-/// With the right reference every output must be the stored one.
-fn check(scratch: &Scratch, scripts: &[Script]) -> Result<(), Box<dyn Error>> {
-    if let Built::Nothing(why) = scratch.build()? {
-        return Err(why.into());
+/// What the gate plays, with what players of the right reference write.
+fn right(rust: &Path, scratch: &Scratch) -> Result<Vec<Script>, Box<dyn Error>> {
+    match scratch.build()? {
+        Built::Players => scripts(&rust.join(".."), scratch),
+        Built::Nothing(why) => Err(why.into()),
     }
-    for script in scripts {
-        if script.sees(scratch)? {
-            return Err(format!("{}: not the reference's output", script.name).into());
-        }
-    }
-    Ok(())
 }
 
 fn tally(chosen: &str) -> Result<Tally, Box<dyn Error>> {
     let rust = Path::new(env!("CARGO_MANIFEST_DIR")).join("..");
     let edits = edits(&fs::read_to_string(rust.join("mutants/list"))?)?;
-    let scripts = scripts(&rust.join(".."))?;
     let scratch = Scratch::new(&rust)?;
-    check(&scratch, &scripts)?;
+    let scripts = right(&rust, &scratch)?;
     let mut tally = Tally::new();
     for edit in edits {
         if edit.sentence.contains(chosen) || edit.file.contains(chosen) {

@@ -1,80 +1,79 @@
-//! The stored scripts and listed sheets, each with the output that a right
-//! player gives.
+//! What the gate plays: the scripts and sheets of its two programs, each with
+//! the output that a right player gives.
 
 use crate::scratch::Scratch;
+use std::error::Error;
 use std::fs::{self, File};
 use std::io;
-use std::path::{Path, PathBuf};
+use std::path::Path;
 use std::process::{Child, Command, Stdio};
 use std::time::{Duration, Instant};
 
 /// A player that takes longer than this has gone astray, on a busy machine too.
 const PATIENCE: Duration = Duration::from_secs(60);
 
-/// Inputs of a program, one after the other, and all that it must write.
+/// A script, or a sheet to be listed.
 pub struct Script {
-    /// What reports call it.
+    /// Its file's name.
     pub name: String,
-    program: &'static str,
-    inputs: Vec<Vec<u8>>,
+    player: &'static str,
+    input: Vec<u8>,
     output: Vec<u8>,
 }
 
-/// The gate's own script and samples first, then those of rust/replay/scripts.
-pub fn scripts(top: &Path) -> io::Result<Vec<Script>> {
-    let samples = ["forest", "refused", "long"].iter();
-    let samples = samples.map(|name| fs::read(top.join(format!("samples/{name}.sheet"))));
-    let mut scripts = vec![
-        Script {
-            name: "crates/replay".to_string(),
-            program: "replay-reference",
-            inputs: vec![fs::read(top.join("crates/replay/stdin"))?],
-            output: fs::read(top.join("crates/replay/stdout"))?,
-        },
-        Script {
-            name: "crates/list_samples".to_string(),
-            program: "list-reference",
-            inputs: samples.collect::<io::Result<_>>()?,
-            output: fs::read(top.join("crates/list_samples/stdout"))?,
-        },
-    ];
-    let mut stored: Vec<PathBuf> = fs::read_dir(top.join("rust/replay/scripts"))?
-        .map(|entry| entry.map(|entry| entry.path()))
-        .collect::<io::Result<_>>()?;
-    stored.sort();
-    for input in stored {
-        scripts.extend(further(input)?);
+/// All that the gate plays, in its order: the standard input of the player and
+/// the files that it opens, and the sheets that the listing of the samples
+/// opens. The players that are built must be right ones: what they write must be
+/// what is stored.
+pub fn scripts(top: &Path, scratch: &Scratch) -> Result<Vec<Script>, Box<dyn Error>> {
+    let (replay, samples) = (top.join("crates/replay"), top.join("crates/list_samples"));
+    let mut scripts = Vec::new();
+    for (folder, player, first) in [
+        (replay, "replay-reference", Some("stdin".to_string())),
+        (samples, "list-reference", None),
+    ] {
+        let text = fs::read_to_string(folder.join("src/main.rt"))?;
+        let mut written = Vec::new();
+        for name in first.into_iter().chain(opened(&text)) {
+            let script = Script::played(&folder.join(&name), player, scratch)?;
+            written.extend_from_slice(&script.output);
+            scripts.push(script);
+        }
+        if written != fs::read(folder.join("stdout"))? {
+            return Err(format!("{}: not the reference's output", folder.display()).into());
+        }
     }
     Ok(scripts)
 }
 
-/// A stored script or sheet; none for an output, which stands beside its input.
-fn further(input: PathBuf) -> io::Result<Option<Script>> {
-    let program = match input.extension().and_then(|extension| extension.to_str()) {
-        Some("script") => "replay-reference",
-        Some("sheet") => "list-reference",
-        _ => return Ok(None),
-    };
-    let name = input.file_name().unwrap_or_default();
-    Ok(Some(Script {
-        name: name.to_string_lossy().into_owned(),
-        program,
-        inputs: vec![fs::read(&input)?],
-        output: fs::read(input.with_extension("txt"))?,
-    }))
+/// The files that a program's text names, in their order: `b"places.script"`.
+fn opened(text: &str) -> impl Iterator<Item = String> {
+    let behind = text.split("(b\"").skip(1);
+    behind.filter_map(|rest| Some(format!("data/{}", rest.split_once('"')?.0)))
 }
 
 impl Script {
-    /// Whether the scratch's program gives another output than the right one.
+    /// The script in a file, with what the scratch's player writes.
+    fn played(
+        file: &Path,
+        player: &'static str,
+        scratch: &Scratch,
+    ) -> Result<Script, Box<dyn Error>> {
+        let name = file.file_name().unwrap_or_default().to_string_lossy();
+        let input = fs::read(file)?;
+        let output = play(&scratch.program(player), &input)?;
+        Ok(Script {
+            output: output.ok_or_else(|| format!("{name}: not played"))?,
+            name: name.into_owned(),
+            player,
+            input,
+        })
+    }
+
+    /// Whether the scratch's player gives another output than the right one.
     pub fn sees(&self, scratch: &Scratch) -> io::Result<bool> {
-        let mut written = Vec::new();
-        for input in &self.inputs {
-            let Some(output) = play(&scratch.program(self.program), input)? else {
-                return Ok(true);
-            };
-            written.extend(output);
-        }
-        Ok(written != self.output)
+        let written = play(&scratch.program(self.player), &self.input)?;
+        Ok(written.as_ref() != Some(&self.output))
     }
 }
 

@@ -53,6 +53,8 @@ impl fmt::Display for Unplayable {
     }
 }
 
+impl std::error::Error for Unplayable {}
+
 impl Step {
     /// The step's bytes.
     pub fn bytes(&self) -> Vec<u8> {

@@ -4,14 +4,27 @@
 use replay::examples::{NAMES, SHEETS, listed, script};
 use replay::{Player, SMALL, Step, steps};
 use std::collections::BTreeSet;
+use std::fs;
+
+const CRATES: &str = concat!(env!("CARGO_MANIFEST_DIR"), "/../../crates");
 
 fn stored(name: &str) -> Vec<u8> {
-    let folder = concat!(env!("CARGO_MANIFEST_DIR"), "/scripts");
-    std::fs::read(format!("{folder}/{name}")).unwrap_or_default()
+    fs::read(format!("{CRATES}/replay/data/{name}.script")).unwrap_or_default()
 }
 
-fn output(name: &str) -> String {
-    String::from_utf8_lossy(&stored(&format!("{name}.txt"))).into_owned()
+/// What the gate holds a program to.
+fn output(program: &str) -> String {
+    fs::read_to_string(format!("{CRATES}/{program}/stdout")).unwrap_or_default()
+}
+
+/// The line that the reference gives for each step.
+fn lines(script: &[u8]) -> String {
+    let mut player = Player::default();
+    let lines = steps(script).map(|step| match step {
+        Ok(step) => player.play(&step) + "\n",
+        Err(unplayable) => unplayable.to_string(),
+    });
+    lines.collect()
 }
 
 #[test]
@@ -19,31 +32,25 @@ fn the_stored_scripts_are_those_made() {
     for name in NAMES {
         let made = script(name);
         assert!(made.as_ref().is_ok_and(|made| made.len() <= SMALL as usize));
-        assert!(made == Ok(stored(&format!("{name}.script"))), "{name}");
+        assert!(made == Ok(stored(name)), "{name}");
     }
     assert!(script("another").is_err());
 }
 
+/// The gate's player plays its standard input, then these scripts.
 #[test]
-fn the_stored_outputs_are_what_the_reference_plays() {
-    for name in NAMES {
-        let mut player = Player::default();
-        let script = stored(&format!("{name}.script"));
-        let lines = steps(&script).map(|step| match step {
-            Ok(step) => player.play(&step) + "\n",
-            Err(unplayable) => unplayable.to_string(),
-        });
-        assert!(lines.collect::<String>() == output(name), "{name}");
-    }
+fn the_stored_output_is_what_the_reference_plays() {
+    let first = fs::read(format!("{CRATES}/replay/stdin")).unwrap_or_default();
+    let rest = NAMES.map(|name| lines(&stored(name))).concat();
+    assert!(lines(&first) + &rest == output("replay"));
 }
 
-/// "no output and no store is longer" than 64 KiB, and no quick changes.
+/// "no output and no store is longer" than 64 KiB.
 #[test]
-fn the_rattle_player_can_play_all_but_quick() {
-    for name in NAMES.into_iter().filter(|name| *name != "quick") {
-        for step in steps(&stored(&format!("{name}.script"))) {
+fn the_rattle_player_can_play_all() {
+    for name in NAMES {
+        for step in steps(&stored(name)) {
             let playable = step.is_ok_and(|step| match step {
-                Step::Quick(_) => false,
                 Step::Write(length) | Step::Resize { length, .. } => length <= SMALL,
                 _ => true,
             });
@@ -56,11 +63,13 @@ fn the_rattle_player_can_play_all_but_quick() {
 fn the_sheets_are_listed_as_the_paper_says() {
     for (name, text) in SHEETS {
         let sheet = listed(name).unwrap_or_default();
-        assert!(sheet == stored(&format!("{name}.sheet")), "{name}");
+        let file = format!("{CRATES}/list_samples/data/{name}.sheet");
+        assert!(sheet == fs::read(file).unwrap_or_default(), "{name}");
         let listing = reference::listing(&sheet);
         assert_eq!(String::from_utf8_lossy(&listing), text);
-        assert_eq!(output(name), text);
     }
+    let texts = SHEETS.map(|(_, text)| text).concat();
+    assert!(output("list_samples").ends_with(&texts));
 }
 
 #[test]
@@ -71,9 +80,9 @@ fn one_byte_more_is_too_long() {
     assert_eq!(reference::listing(&longest), b"too long\n");
 }
 
-/// The numbers that a call gives in the outputs.
+/// The numbers that a call gives in these scripts.
 fn met(call: &str) -> BTreeSet<u64> {
-    let outputs = NAMES.map(output).concat();
+    let outputs = NAMES.map(|name| lines(&stored(name))).concat();
     let lines = outputs.lines().map(|line| line.split(' '));
     let calls = lines.filter_map(|mut words| (words.next() == Some(call)).then_some(words));
     calls

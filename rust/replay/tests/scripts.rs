@@ -147,23 +147,19 @@ fn numbers<'a>(lines: &'a str, name: &str) -> BTreeSet<&'a str> {
     named.collect()
 }
 
-/// The script that the Rattle player plays in the gate, and the output that it
-/// is held to, which this reference made.
+/// The script made at random that the Rattle player plays in the gate.
 #[test]
-fn the_stored_output_is_what_the_reference_plays() {
-    let folder = concat!(env!("CARGO_MANIFEST_DIR"), "/../../crates/replay");
-    let script = std::fs::read(format!("{folder}/stdin")).unwrap_or_default();
-    let stored = std::fs::read_to_string(format!("{folder}/stdout")).unwrap_or_default();
-    let mut player = Player::default();
-    let lines = steps(&script).map(|step| match step {
-        Ok(step) => player.play(&step) + "\n",
-        Err(unplayable) => unplayable.to_string(),
-    });
+fn the_stored_script_meets_most_numbers() {
+    let file = concat!(env!("CARGO_MANIFEST_DIR"), "/../../crates/replay/stdin");
+    let script = std::fs::read(file).unwrap_or_default();
     assert!(script.len() <= replay::SMALL as usize);
-    assert_eq!(lines.collect::<String>(), stored);
-    assert!(stored.lines().count() > 200);
+    let mut player = Player::default();
+    let played = steps(&script).map(|step| step.map(|step| player.play(&step) + "\n"));
+    let lines = played.collect::<Result<String, Unplayable>>();
+    let lines = lines.unwrap_or_default();
+    assert!(lines.lines().count() > 200);
     for name in ["plain", "quick"] {
-        let met = numbers(&stored, name);
+        let met = numbers(&lines, name);
         assert!(met.contains("0") && met.len() > 25);
     }
 }

@@ -44,6 +44,10 @@ fn unreadable(record: &mut Record) {
         unread(record, &[&whole[..], more].concat(), 8);
     }
     unread(record, &[&alter(0x46, 18, &[])[..], &[0x20]].concat(), 8);
+    // What is wrong inside comes first; a missing field ends where they begin.
+    let short = field(0x45, &field(0x20, &[8]));
+    unread(record, &[&short[..], &[0]].concat(), 3);
+    unread(record, &[&alter(0x43, 8, &[])[..], &[0]].concat(), 8);
 }
 
 /// Target, ends, name, list and entry: missing, late, doubled, of another length.
@@ -271,11 +275,16 @@ fn came_back(record: &mut Record) {
     record.plain(&alter(0x48, 13, &[]), (0, 2, 13));
     record.plain(&alter(0x48, 14, &[]), (0, 2, 14));
     record.refused(&alter(0x48, 10, &[]), 17);
+    // Another linkID, though it is larger, needs no forward link.
+    record.plain(&alter(0x47, 6, &[]), (0, 1, 6));
+    record.plain(&alter(0x45, 5, &[]), (0, 1, 5));
+    record.plain(&alter(0x45, 4, &[]), (0, 1, 4));
 }
 
 /// Rules that a change of a row breaks.
 fn rules(record: &mut Record) {
     record.refused(&rename(0x43, 8, b""), 12);
+    record.refused(&rename(0x44, 18, b""), 12);
     record.refused(&rename(0x44, 18, b"-"), 12);
     record.refused(&rename(0x43, 8, b"C7"), 13);
     record.refused(&rename(0x44, 18, b"A3"), 13);

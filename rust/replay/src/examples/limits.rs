@@ -58,6 +58,23 @@ fn attributes_refused(record: &mut Record) {
     record.load(&late, (6, 1, 256));
 }
 
+/// The same with a heading: sound, cut to its tag, cut in its value, out of
+/// order behind a class row, and with a length past the end.
+pub fn overfull(record: &mut Record) {
+    let full = [&HEADING[..], &bare(ATTRIBUTE, 256)].concat();
+    let (sound, class) = (Row::bare(ATTRIBUTE).bytes(), Row::bare(CLASS).bytes());
+    let late = [&class[..], &sound].concat();
+    for more in [
+        &sound[..],
+        &[ATTRIBUTE],
+        &sound[..9],
+        &late,
+        &[ATTRIBUTE, 255, 255],
+    ] {
+        record.load(&[&full[..], more].concat(), (6, 1, 256));
+    }
+}
+
 /// A table of 128 classes.
 pub fn classes(record: &mut Record) {
     classes_added(record);

@@ -33,7 +33,7 @@ pub fn edge() -> Vec<u8> {
 }
 
 /// A sheet refused by a rule, whose table and row differ.
-pub fn refused() -> Vec<u8> {
+pub fn range() -> Vec<u8> {
     let attribute = Row::attribute;
     sheet(&[attribute(0), attribute(1), attribute(2).range(5, 5)])
 }

@@ -19,12 +19,13 @@ mod values;
 
 use record::Record;
 
-/// The scripts' names. All but `quick` hold only what the Rattle player plays.
-pub const NAMES: [&str; 6] = [
+/// The scripts' names, in the order in which the gate plays them.
+pub const NAMES: [&str; 7] = [
     "places",
     "rules",
     "changes",
     "attributes",
+    "overfull",
     "classes",
     "quick",
 ];
@@ -37,7 +38,7 @@ pub const SHEETS: [(&str, &str); 4] = [
         "no name oid must may\n0 c0 2.48.0 2 2\n1 c1 2.4294967295.0 2 4\n",
     ),
     ("none", "no name oid must may\n"),
-    ("refused", "refused 25 1 2\n"),
+    ("range", "refused 25 1 2\n"),
     ("unreadable", "refused 4 0 4\n"),
 ];
 
@@ -46,7 +47,7 @@ pub fn listed(name: &str) -> Option<Vec<u8>> {
     match name {
         "edge" => Some(listing::edge()),
         "none" => Some(rows::sheet(&[])),
-        "refused" => Some(listing::refused()),
+        "range" => Some(listing::range()),
         "unreadable" => Some(listing::unreadable()),
         _ => None,
     }
@@ -68,6 +69,7 @@ pub fn script(name: &str) -> Result<Vec<u8>, String> {
             stores::examples(&mut record);
         }
         "attributes" => limits::attributes(&mut record),
+        "overfull" => limits::overfull(&mut record),
         "classes" => limits::classes(&mut record),
         "quick" => quick::examples(&mut record),
         _ => return Err(format!("no script {name}")),

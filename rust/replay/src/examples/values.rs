@@ -1,7 +1,7 @@
 //! Rules 24 to 29, which bind attribute rows alone.
 
 use super::record::Record;
-use super::rows::Row;
+use super::rows::{Row, sheet};
 
 /// All of them.
 pub fn examples(record: &mut Record) {
@@ -192,10 +192,10 @@ fn dropped_object_classes(record: &mut Record) {
         record.rows(&[object(12).with(0x08, value)], (26, 1, 0));
     }
     record.rows(&[object(1).with(0x08, &[7; 16])], (27, 1, 0));
-    record.load(
-        &super::rows::sheet(&[plain.clone().with(0x08, &[7; 17])]),
-        (4, 0, 4 + plain.length()),
-    );
+    for value in [&[7; 17][..], &[]] {
+        let rows = [plain.clone().with(0x08, value)];
+        record.load(&sheet(&rows), (4, 0, 4 + plain.length()));
+    }
 }
 
 /// Of two odd linkIDs that are the same 28 tells, since it is smaller than 29.
