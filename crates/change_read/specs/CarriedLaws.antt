@@ -42,7 +42,9 @@ use Rattle.change_read.specs.Reading.{changeOf, formatOf, scratch}
 use Rattle.change_read.specs.ChangeLaws.{Reads, Fields, change-bytes, change-fields, change-length, change-parts}
 use Rattle.change_read.specs.ChangeLaws.{change-whole, change-written, format-fits-row, scratch-length}
 use Rattle.change_read.specs.AdditionLaws.{row-added}
-use Rattle.change_read.specs.Written.{WellFormedChange, changeBytes, changeTag}
+use Rattle.change_read.specs.Stopping.{changeTag}
+use Rattle.change_read.specs.TagLaws.{known-named}
+use Rattle.change_read.specs.Written.{WellFormedChange, changeBytes}
 use Rattle.change_read.specs.WrittenLaws.{change-back, zeros-behind}
 
 -- ---- reading leaves what stands behind the cells
@@ -132,31 +134,6 @@ active-formed row rest e f =
     (formed-both _ _ row (b .0)
     (formed-both _ _ row (c .0) (formed-both _ _ row (d .0) (formed-both neverDefunct rest row (unmarked row e (g .0)) (g .1)))))
 
--- ---- the tag of a change that was read
-
-tag-step : (tag k : ℕ) (c change : Change) (rest : Tagged) → changeTag c ≡ k → (rest ≡ Known change → tag ≡ changeTag change)
-    → cond (eqb tag k) (Known c) rest ≡ Known change → tag ≡ changeTag change
-tag-step tag k c change rest own else q = go (eqb tag k) refl q
-  where
-    go : (b : Bool) → eqb tag k ≡ b → cond b (Known c) rest ≡ Known change → tag ≡ changeTag change
-    go true p x = let same : c ≡ change = cc in says-eq tag k .holds p ∙ sym own ∙ ap changeTag same
-    go false p x = else x
-
-tag-is : (tag : ℕ) (change : Change) → changeOf tag ≡ Known change → tag ≡ changeTag change
-unfolding changeOf changeTag
-tag-is tag change =
-    tag-step tag 64 (Add Attributes) change _ refl
-    (tag-step tag 65 (Add Classes) change _ refl
-    (tag-step tag 66 SetRange change _ refl
-    (tag-step tag 67 (Rename Attributes) change _ refl
-    (tag-step tag 68 (Rename Classes) change _ refl
-    (tag-step tag 69 (Deactivate Attributes) change _ refl
-    (tag-step tag 70 (Deactivate Classes) change _ refl
-    (tag-step tag 71 (Reactivate Attributes) change _ refl
-    (tag-step tag 72 (Reactivate Classes) change _ refl
-    (tag-step tag 73 AddEntry change _ refl
-    (tag-step tag 74 RemoveEntry change Unknown refl (λ q. (let no : _≡_ {A = ℕ} 0 1 = cc in absurd (omega arith)))))))))))))
-
 -- ---- what a change carries
 
 module _ (s new : List ℕ) (bytes : Bytes s) where
@@ -225,7 +202,7 @@ module _ (s new : List ℕ) (bytes : Bytes s) where
     unfolding changeBytes
     same-bytes same =
         change-written s change new bytes e (formatOf change) refl same
-        ∙ ap (λ (tag : ℕ). fieldBytes tag (writeBy (columnsOf (formatOf change)) new)) (tag-is (getD s 0 0) change (change-whole s change new bytes e .0))
+        ∙ ap (λ (tag : ℕ). fieldBytes tag (writeBy (columnsOf (formatOf change)) new)) (known-named (getD s 0 0) change (change-whole s change new bytes e .0))
 
   pub change-exact : (change : Change) → Reads s change new → ¬ (change ≡ Add Attributes) → s ≡ changeBytes change new
   unfolding formatOf finished finishedRow

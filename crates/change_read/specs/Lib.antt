@@ -7,4 +7,5 @@ pub mod ChangeLaws
 pub mod AdditionLaws
 pub mod WrittenLaws
 pub mod CarriedLaws
+pub mod TagLaws
 pub mod StoppingLaws

@@ -14,21 +14,7 @@ use Rattle.rows_read.specs.ObjectClass.{finished}
 use Rattle.change_read.specs.declared.read.Change.{Change}
 use Rattle.change_read.specs.declared.read.Change.the-variants.{Add, SetRange, Rename, Deactivate, Reactivate, AddEntry, RemoveEntry}
 use Rattle.change_read.specs.Reading.{formatOf}
-
--- "40, 41 add attribute, class (value as a row, no 05); 42 range; 43, 44 name of attribute, class; 45, 46 deactivate; 47, 48 reactivate; 49, 4A list
--- addition, removal", with the paper's hex beside each tag
-unfoldable pub changeTag : Change → ℕ
-changeTag (Add Attributes) = 64  -- 40
-changeTag (Add Classes) = 65  -- 41
-changeTag SetRange = 66  -- 42
-changeTag (Rename Attributes) = 67  -- 43
-changeTag (Rename Classes) = 68  -- 44
-changeTag (Deactivate Attributes) = 69  -- 45
-changeTag (Deactivate Classes) = 70  -- 46
-changeTag (Reactivate Attributes) = 71  -- 47
-changeTag (Reactivate Classes) = 72  -- 48
-changeTag AddEntry = 73  -- 49
-changeTag RemoveEntry = 74  -- 4A
+use Rattle.change_read.specs.Stopping.{changeTag}
 
 -- one field: what the change carries, by the columns of its format
 unfoldable pub changeBytes : Change → List ℕ → List ℕ

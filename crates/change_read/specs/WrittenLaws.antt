@@ -25,24 +25,11 @@ use Rattle.change_read.specs.declared.read.Tagged.the-variants.{Known}
 use Rattle.change_read.specs.declared.read.ChangeRead.the-variants.{Read}
 use Rattle.change_read.specs.Reading.{changeOf, formatOf, scratch, wholeRead, readValue, taggedOut, fieldOut, readChange}
 use Rattle.change_read.specs.ChangeLaws.{Reads, format-fits-row, scratch-length}
-use Rattle.change_read.specs.Written.{changeTag, changeBytes, WellFormedChange}
+use Rattle.change_read.specs.Stopping.{changeTag}
+use Rattle.change_read.specs.TagLaws.{tag-known}
+use Rattle.change_read.specs.Written.{changeBytes, WellFormedChange}
 use Rattle.wire.specs.declared.FieldRead.the-variants as fields
 use Rattle.rows_read.specs.declared.read.RowRead.the-variants as rows
-
--- each tag stands for its change
-tag-known : (change : Change) → changeOf (changeTag change) ≡ Known change
-unfolding changeOf changeTag
-tag-known (Add Attributes) = refl
-tag-known (Add Classes) = refl
-tag-known SetRange = refl
-tag-known (Rename Attributes) = refl
-tag-known (Rename Classes) = refl
-tag-known (Deactivate Attributes) = refl
-tag-known (Deactivate Classes) = refl
-tag-known (Reactivate Attributes) = refl
-tag-known (Reactivate Classes) = refl
-tag-known AddEntry = refl
-tag-known RemoveEntry = refl
 
 pub zeros-behind : (n m : ℕ) → n ≤ m → drop n (zeros m) ≡ zeros (m - n)
 zeros-behind n m l =

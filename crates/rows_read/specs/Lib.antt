@@ -5,6 +5,7 @@ pub mod Unfit
 pub mod UnfitLaws
 pub mod Stopping
 pub mod OneStopLaws
+pub mod PlaceLaws
 pub mod StoppingLaws
 pub mod ObjectClass
 pub mod ObjectClassLaws

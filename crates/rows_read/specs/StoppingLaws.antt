@@ -32,6 +32,7 @@ use Rattle.rows_read.specs.Reading.{Out, readBy, turnOf}
 use Rattle.rows_read.specs.declared.field.Turn.the-variants.{Passed, Refused}
 use Rattle.rows_read.specs.ReadingLaws.{turn-end, turn-bad, turn-other, turn-taken, turn-refused, stepped-refused, stepped-passed, stepped-taken}
 use Rattle.rows_read.specs.ReadingLaws.{read-next, read-stop, read-leftover, read-missing, read-whole}
+use Rattle.rows_read.specs.PlaceLaws.{Place, ends, is-cut, stands, place}
 use Rattle.rows_read.specs.OneStopLaws.{one-stop}
 use Rattle.rows_read.specs.ObjectClass.{readRow, finish}
 use Rattle.rows_read.specs.Stopping.{FieldStands, FieldCut, columnAt, valueAt, ColumnStands, After, AcceptedTo, Unacceptable, Needed, ValueStops}
@@ -42,21 +43,7 @@ use Rattle.rows_read.specs.declared.read.RowRead.{RowRead}
 use Rattle.rows_read.specs.declared.read.RowRead.the-variants.{Read, Bad}
 use Rattle.wire.specs.declared.FieldRead.the-variants as fields
 
--- ---- what stands at a place
-
-data Place (s : List ℕ) (end at : ℕ) : Type 0 where
-  ends : at ≡ end → fieldAt s at end ≡ fields.End → Place s end at
-  is-cut : FieldCut s end at → fieldAt s at end ≡ fields.Bad at → Place s end at
-  stands : {tag stop : ℕ} → FieldStands s end at tag stop → fieldAt s at end ≡ fields.Field tag (at + 3) stop → Place s end at
-
-place : (s : List ℕ) (end at : ℕ) → at ≤ end → Place s end at
-place s end at l = go (ℕ-discrete at end) (decLe (at + 3) end) (decLe (valueEnd s at) end)
-  where
-    go : Dec (at ≡ end) → Dec (at + 3 ≤ end) → Dec (valueEnd s at ≤ end) → Place s end at
-    go (yes e) h v = ends e (sym (field-end s at end e))
-    go (no d) (no h) v = is-cut (FieldCut.header (omega (arith, d)) (omega (arith, h))) (sym (field-short s at end (omega (arith, d)) (omega (arith, h))))
-    go (no d) (yes h) (no v) = is-cut (FieldCut.value h (omega (arith, v))) (sym (field-past s at end _ refl h (omega (arith, v))))
-    go (no d) (yes h) (yes v) = stands (record { tagged = refl; header = h; ends = refl; within = v }) (sym (field-whole s at end _ refl v))
+-- ---- columns
 
 -- the column of a tag, if there is one
 column-of : (cs : List Column) (tag : ℕ) → Some (length cs) (λ j. columnAt cs j .tag ≡ tag) ⊎ ((j : ℕ) → j < length cs → ¬ (columnAt cs j .tag ≡ tag))

@@ -18,6 +18,7 @@ use Rattle.rows_format.specs.declared.format.Format.{Format}
 use Rattle.rows_read.specs.declared.read.RowRead.{RowRead}
 use Rattle.rows_read.specs.Reading.{out}
 use Rattle.rows_read.specs.StoppingLaws.{value-stops}
+use Rattle.rows_read.specs.PlaceLaws.{field-stands}
 use Rattle.rows_read.specs.Stopping.{FieldCut, FieldStands}
 use Rattle.sheet_read.specs.declared.read.Phase.{Phase}
 use Rattle.sheet_read.specs.declared.read.Phase.the-variants.{Start, InRows}
@@ -28,17 +29,6 @@ use Rattle.sheet_read.specs.TurnLaws.{heading-turn, row-turn, stands-on,
 use Rattle.wire.specs.declared.FieldRead.the-variants as fields
 use Rattle.rows_read.specs.declared.read.RowRead.the-variants as row
 use Rattle.sheet_read.specs.TurnLaws as turns
-
--- ---- fields
-
-pub field-stands : {s : List ℕ} {end at tag stop : ℕ} → FieldStands s end at tag stop → fieldAt s at end ≡ fields.Field tag (at + 3) stop
-field-stands {s} {end} {at} {tag} {stop} f =
-    sym (field-whole s at end (bigEndian 2 (at + 1) s) refl (omega (arith, f .ends, f .within)))
-    ∙ ap₂ (λ (t p : ℕ). fields.Field t (at + 3) p) (f .tagged) (sym (f .ends))
-
-pub field-cut : {s : List ℕ} {end at : ℕ} → FieldCut s end at → fieldAt s at end ≡ fields.Bad at
-field-cut {s} {end} {at} (FieldCut.header l k) = sym (field-short s at end l k)
-field-cut {s} {end} {at} (FieldCut.value l k) = sym (field-past s at end (bigEndian 2 (at + 1) s) refl l k)
 
 -- ---- tags
 

@@ -14,6 +14,7 @@ use Rattle.wire.specs.declared.FieldRead.{FieldRead}
 use Rattle.schema.specs.declared.number.TableId.{TableId}
 use Rattle.schema.specs.declared.number.TableId.the-variants.{Attributes, Classes}
 use Rattle.schema.specs.Numbers.{limit}
+use Rattle.rows_read.specs.PlaceLaws.{field-cut, field-stands}
 use Rattle.rows_read.specs.declared.read.RowRead.{RowRead}
 use Rattle.rows_read.specs.Stopping.{FieldCut}
 use Rattle.sheet_read.specs.declared.read.SheetRead.{SheetRead}
@@ -27,7 +28,7 @@ use Rattle.sheet_read.specs.Reading.{rowTurn, rowsIn, rowsOpen, sheetTag
 use Rattle.sheet_read.specs.Stopping.{AcceptedTo, HeadingValue, NoRoom, RowStands, RowStops, SheetStops, Stands, Unacceptable, most, rowTag}
 use Rattle.sheet_read.specs.Stopping.{rowsGiven, rowsOf}
 use Rattle.sheet_read.specs.TurnLaws.{stands-end, stands-stop, tagged-is}
-use Rattle.sheet_read.specs.AcceptedLaws.{Comes, Kind, aHeading, aRow, classes-open, comes, field-cut, field-stands, heading-tag, kind, neither}
+use Rattle.sheet_read.specs.AcceptedLaws.{Comes, Kind, aHeading, aRow, classes-open, comes, heading-tag, kind, neither}
 use Rattle.sheet_read.specs.AcceptedLaws.{most-limit, row-stops, row-tag, says-heading, unknown-tag}
 use Rattle.rows_read.specs.declared.read.RowRead.the-variants as row
 use Rattle.sheet_read.specs.declared.read.Room.{Room}

@@ -28,7 +28,8 @@ use Rattle.sheet_read.specs.declared.read.Phase.the-variants.{InRows}
 use Rattle.sheet_read.specs.Reading.{Rows, plus, schemaFrom, sheetTag, position, headingOpen, rowsOpen, isHeading, noRows}
 use Rattle.sheet_read.specs.Reading.{rowOut}
 use Rattle.sheet_read.specs.Reading.{readSheet}
-use Rattle.sheet_write.specs.Writing.{heading, rowTag, rowField, sheetBytes}
+use Rattle.sheet_read.specs.Stopping.{rowTag}
+use Rattle.sheet_write.specs.Writing.{heading, rowField, sheetBytes}
 use Rattle.rows_read.specs.Stopping.{FieldStands}
 use Rattle.sheet_round_trip.specs.Exact.{FieldsStand, none, ExactRow, ExactSheet}
 use Rattle.sheet_round_trip.specs.ExactLaws.{says-exact-read}

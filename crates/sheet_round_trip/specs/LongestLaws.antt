@@ -35,7 +35,8 @@ use Rattle.sheet_read.specs.declared.read.Phase.the-variants.{InRows}
 use Rattle.sheet_read.specs.declared.read.SheetRead.the-variants.{Read}
 use Rattle.sheet_read.specs.Reading.{Rows, headingOpen, isHeading, plus, position, readSheet, rowOut}
 use Rattle.sheet_read.specs.ReadingLaws.{sheet-sound}
-use Rattle.sheet_write.specs.Writing.{heading, rowField, rowFields, rowTag, sheetBytes}
+use Rattle.sheet_read.specs.Stopping.{rowTag}
+use Rattle.sheet_write.specs.Writing.{heading, rowField, rowFields, sheetBytes}
 use Rattle.sheet_round_trip.specs.WalkLaws.{Goes, accepted-ends}
 use Rattle.rows_read.specs.declared.read.RowRead.the-variants as row
 

@@ -22,6 +22,7 @@ use Rattle.rows_format.specs.ShortLaws.{written-short}
 use Rattle.rows_read.specs.Reading.{out}
 use Rattle.rows_read.specs.WellFormed.{wellFormed}
 use Rattle.rows_read.specs.RoundTripLaws.{written-row-read}
+use Rattle.sheet_read.specs.AcceptedLaws.{row-tag}
 use Rattle.sheet_read.specs.declared.read.Phase.{Phase}
 use Rattle.sheet_read.specs.declared.read.Phase.the-variants.{Start, InRows}
 use Rattle.sheet_read.specs.declared.read.SheetRead.the-variants.{Read}
@@ -30,7 +31,8 @@ use Rattle.sheet_read.specs.Reading.{Rows, rows, noRows, rowsIn, plus, schemaFr
 use Rattle.sheet_read.specs.Reading.{sheetOut, readSheet}
 use Rattle.sheet_read.specs.ReadingLaws.{AllRows, Sound}
 use Rattle.sheet_read.specs.TurnLaws.{Stands, stands-start, stands-end, stands-on, heading-turn, row-turn}
-use Rattle.sheet_write.specs.Writing.{heading, rowTag, rowField, sheetBytes}
+use Rattle.sheet_read.specs.Stopping.{rowTag}
+use Rattle.sheet_write.specs.Writing.{heading, rowField, sheetBytes}
 use Rattle.sheet_round_trip.specs.RowLaws.{written, sheet-of, plusAll, all-attributes, all-classes}
 use Rattle.wire.specs.declared.FieldRead.the-variants as fields
 use Rattle.rows_read.specs.declared.read.RowRead.the-variants as row
@@ -63,11 +65,6 @@ module _ (t : TableId) (new p q : List ℕ) where
       let apart : p ++ ((head ++ value) ++ q) ≡ (p ++ head) ++ (value ++ q) = simp append-assoc in
       rw (apart, ← before) (written-row-read t (p ++ head) q new (zeros (rowWidth t)) bytes wide (zeros-length (rowWidth t)) formed)
 
-tag-known : (t : TableId) → sheetTag (rowTag t) ≡ Row t
-unfolding sheetTag rowTag
-tag-known Attributes = refl
-tag-known Classes = refl
-
 -- ---- all rows of a table
 
 -- reading has come to a place, where rows of a table may come next
@@ -97,7 +94,7 @@ rows-come t s (r ∷ list) p q x e h wide formed bytes few =
     (field-there t r p rest) in
     let read : rowOut t s (length p + 3) (length p + 3 + length (value t r p rest))
     ≡ out row.Read r = rw apart (row-there t r p rest (wide .0) (formed .0) (bytes .0)) in
-    let turn = row-turn s (length p) (h .phase) false x (rowTag t) _ _ found t r (tag-known t) (h .free) (omega arith) read in
+    let turn = row-turn s (length p) (h .phase) false x (rowTag t) _ _ found t r (row-tag t refl) (h .free) (omega arith) read in
     let here : length p < length s = omega (
       arith,
       ap length apart,

@@ -24,7 +24,8 @@ use Rattle.rows_format.specs.Formats.{columnsOf, formatWidth}
 use Rattle.rows_format.specs.ShortLaws.{written-short}
 use Rattle.rows_read.specs.WellFormedLaws.{formed-parts}
 use Rattle.rows_write.proofs.Writing.{field-put}
-use Rattle.sheet_write.specs.Writing.{heading, rowTag, rowField, rowFields, sheetBytes, WritableRow, Writable}
+use Rattle.sheet_read.specs.Stopping.{rowTag}
+use Rattle.sheet_write.specs.Writing.{heading, rowField, rowFields, sheetBytes, WritableRow, Writable}
 
 -- ---- one row
 

@@ -4,6 +4,7 @@ use mathlib.Core.List.{List, [], _∷_, _++_}
 use mathlib.Core.Path.{_≡_}
 use Prim.Native.Nat.{ℕ, _≤_, _<_}
 use lib.ListN.{length}
+use Rattle.sheet_read.specs.Stopping.{rowTag}
 use Rattle.prelude.specs.Concat.{concatBelow}
 use Rattle.wire.specs.Wire.{fieldBytes}
 use Rattle.schema.specs.declared.number.TableId.{TableId}
@@ -21,11 +22,6 @@ use Rattle.rows_read.specs.WellFormed.{wellFormed}
 -- "field 01 holding 01"
 unfoldable pub heading : List ℕ
 heading = fieldBytes 1 (1 ∷ [])
-
--- "attribute rows 20, class rows 30", the tags in decimal here
-unfoldable pub rowTag : TableId → ℕ
-rowTag Attributes = 32
-rowTag Classes = 48
 
 -- the field of one row
 unfoldable pub rowField : TableId → List ℕ → List ℕ

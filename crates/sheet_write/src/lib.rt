@@ -19,7 +19,8 @@ ghost use Rattle.prelude.specs.Part.{splice};
 ghost use Rattle.prelude.specs.Written.{WrittenAt};
 ghost use Rattle.schema.specs.declared.number.TableId.the-variants.{Attributes, Classes};
 ghost use Rattle.schema.specs.Store.{tableIn, schemaIn};
-ghost use Rattle.sheet_write.specs.Writing.{heading, rowTag, rowField, rowFields, sheetBytes, WritableRow, Writable};
+ghost use Rattle.sheet_read.specs.Stopping.{rowTag};
+ghost use Rattle.sheet_write.specs.Writing.{heading, rowField, rowFields, sheetBytes, WritableRow, Writable};
 
 // The tag of a table's rows.
 fn row_tag(table: TableId) -> u8

@@ -1,5 +1,5 @@
 use borrow.Author.Needs.{needs}
-use Rattle.sheet_write.specs.Writing.{rowTag}
+use Rattle.sheet_read.specs.Stopping.{rowTag}
 use Rattle.sheet_write.proofs.row_tag.Statement.{statement}
 use Rattle.sheet_write.proofs.row_tag.Tie as tie
 
