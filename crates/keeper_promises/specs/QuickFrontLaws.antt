@@ -7,7 +7,7 @@ use native.Mathlib.Omega.{arith}
 use Rattle.closure_change.specs.KeptLaws.{after-past}
 use Rattle.prelude.specs.FirstLaws.{append-first}
 use Rattle.prelude.specs.Part.{Bytes}
-use Rattle.prelude.specs.SaysLaws.{says-eq, says-false, says-true}
+use Rattle.prelude.specs.SaysLaws.{says-eq, says-true}
 use Rattle.schema.specs.Answers.{passed}
 use Rattle.schema.specs.Numbers.{classLimit}
 use Rattle.schema.specs.Store.{Schema, Stores, schemaOf}
@@ -22,7 +22,7 @@ use Rattle.change_read.specs.declared.read.ChangeRead.the-variants.{Bad, Read}
 use Rattle.change_rows.specs.Rows.{schemaAfter}
 use Rattle.change_asked.specs.Asked.{askedCases, firstAsked}
 use Rattle.change_asked.specs.AskedLaws.{asked-room}
-use Rattle.change_model.specs.Model.{answerBy}
+use Rattle.change_model.specs.ModelLaws.{answer-number}
 use Rattle.keeper.specs.Answering.{InShape, firstAnswer, shapeAnswers}
 use Rattle.keeper.specs.AnsweringLaws.{refused-any, shape-passed, zero-iff-pass}
 use Rattle.keeper_change.specs.Quick.{quickAnswer, quickChange, quickMade, quickNumber, quickRead, quickTo}
@@ -40,15 +40,6 @@ quick-asked change r m k z = go (ℕ-discrete (firstAsked change r m) 0)
     go : Dec (firstAsked change r m ≡ 0) → firstAsked change r m ≡ 0
     go (yes e) = e
     go (no d) = absurd (d (sym (append-first (askedCases change r m) _ d) ∙ z))
-
--- an answer of 0 is that of the number 0
-answer-zero : (change : Change) (r : List ℕ) (m : Schema) (n : ℕ) → answerBy change r m n .number ≡ 0 → n ≡ 0
-unfolding answerBy
-answer-zero change r m n z = go (ℕ-discrete n 0)
-  where
-    go : Dec (n ≡ 0) → n ≡ 0
-    go (yes e) = e
-    go (no d) = rw (says-false (says-eq n 0) d) at z
 
 module _ (x : List ℕ) (bytes : Bytes x) (s : Stores) where
   abbrev m : Schema
@@ -95,7 +86,7 @@ module _ (x : List ℕ) (bytes : Bytes x) (s : Stores) where
   made z change e = record {
     reads = ap (λ (w : ChangeRead). changeOut w r) e;
     shape = done-shape z;
-    number = answer-zero change r m (quickNumber change r m (s .closure)) (told-number z (Read change) e);
+    number = sym (answer-number change r m (quickNumber change r m (s .closure))) ∙ told-number z (Read change) e;
     left = left-made z ∙ ap (λ (w : ChangeRead). quickMade w r s) e;
   }
 
