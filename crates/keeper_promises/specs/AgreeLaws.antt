@@ -12,7 +12,7 @@ use Rattle.prelude.specs.Part.{Bytes, splice}
 use Rattle.prelude.specs.SaysLaws.{says-eq, says-true}
 use Rattle.schema.specs.Layout.{rowWidth}
 use Rattle.schema.specs.Numbers.{limit}
-use Rattle.schema.specs.Store.{Schema, Stores, result, schemaOf, stores, table, tableStore, withStore}
+use Rattle.schema.specs.Store.{Schema, Stores, result, schemaOf, stores, table, tableStore}
 use Rattle.schema.specs.StoreLaws.{table-row-length}
 use Rattle.schema.specs.declared.answer.Answer.{Answer}
 use Rattle.schema.specs.declared.number.TableId.{TableId}
@@ -32,6 +32,7 @@ use Rattle.change_model.specs.Sound.{Passed, Sound, rowNumber}
 use Rattle.change_model.specs.AgreeLaws.{closure-refreshed, number-agrees}
 use Rattle.change_model.specs.Model.{answerBy, answerTo, changeNumber, changedCases}
 use Rattle.change_model.specs.ModelLaws.{asked-zero}
+use Rattle.keeper_change.specs.DoneLaws.{closure-stays}
 use Rattle.keeper_change.specs.Made.{refreshed, rowsMade}
 use Rattle.keeper_change.specs.MadeLaws.{made-same}
 use Rattle.keeper_change.specs.Plain.{plainChange}
@@ -61,11 +62,6 @@ order-sound s h r wide = record {
   long = h .long .closure;
   fresh = h .fresh;
 }
-
--- a table's store replaced, the closure is as it was
-closure-stays : (t : TableId) (new : List ℕ) (s : Stores) → withStore t new s .closure ≡ s .closure
-closure-stays Attributes new s = refl
-closure-stays Classes new s = refl
 
 -- where numbers 5 to 30 say nothing, the rules of the changed row do not either
 row-zero : (change : Change) (r : List ℕ) (m : Schema) (closure : List ℕ) → firstAsked change r m ≡ 0 → quickNumber change r m closure ≡ 0
