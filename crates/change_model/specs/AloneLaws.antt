@@ -19,18 +19,19 @@ use Rattle.rules.specs.Judge.{AllKept, brokenCases}
 use Rattle.change_model.specs.EditedLaws.{Deactivates, edited-fixed, edited-state}
 use Rattle.change_rows.specs.Rows.{tableFor, isAddition, schemaAfter, numberFor, tableAfter, editedRow}
 use Rattle.schema.specs.Row.{isDefunct}
-use Rattle.change_model.specs.ConditionsLaws.{says-needed}
-use Rattle.prelude.specs.SaysLaws.{says-fails, says-false, says-eq, true-or-false}
+use Rattle.change_model.specs.ConditionsLaws.{needed-among}
+use Rattle.change_model.specs.Conditions.{DeactivatedNeeded}
+use Rattle.prelude.specs.FirstLaws.{none-among}
+use Rattle.prelude.specs.SaysLaws.{says-false, says-eq, true-or-false}
 use Rattle.schema.specs.Numbers.{limit}
 use Rattle.change_model.specs.Conditions.{Needed}
-use Rattle.change_asked.specs.Asked.{firstAsked, stillNeeded}
+use Rattle.change_asked.specs.Asked.{firstAsked}
 use Rattle.rules.specs.RowChange.{Unneeded, Fixed, RowChange}
 use Rattle.schema.specs.Layout.{classWidth, rowWidth}
 use mathlib.Core.Bool.{false, true, true≢false}
 use Rattle.tables.specs.Changed.{ChangedAt}
 use mathlib.Core.Path.{_≡_, sym, _∙_, refl}
 use lib.ListN.{length}
-use Rattle.change_asked.specs.Needed.{needed}
 use mathlib.Core.List.{List, []}
 use Prim.Native.Nat.{ℕ, _≤_, _<_, _%_}
 use Rattle.schema.specs.Store.{Schema, Table, table, withTable, plusRow, withRow}
@@ -41,13 +42,13 @@ use Rattle.rules_attribute.specs.Links.{isBackLink}
 -- ---- number 11
 
 -- a row that is not needed
-unneeded : (m : Schema) (t : TableId) (k : ℕ) → needed m t k ≡ false → Unneeded m t k
+unneeded : (m : Schema) (t : TableId) (k : ℕ) → ¬ (Needed m t k) → Unneeded m t k
 unfolding isBackLink
-unneeded m t k e = record {
+unneeded m t k free = record {
   classes = λ j l d active. says-false (says-names t (m .classes .row j) k)
-      (λ named. no (inl (record { at = j; below = l; is = record { other = d; active = λ q. true≢false (sym q ∙ active); named = named } })));
+      (λ named. free (inl (record { at = j; below = l; is = record { other = d; active = λ q. true≢false (sym q ∙ active); named = named } })));
   links = λ q j l active back. says-false (says-forward (m .attributes .row j) (m .attributes .row k))
-      (λ f. no (inr (
+      (λ f. free (inr (
         q,
         record {
           at = j;
@@ -56,9 +57,6 @@ unneeded m t k e = record {
         },
       )));
 }
-  where
-    no : ¬ (Needed m t k)
-    no = says-fails (says-needed m t k) e
 
 -- ---- one table replaced
 
@@ -89,9 +87,9 @@ module _ (change : Change) (r : List ℕ) (m : Schema) (carried : length r ≡ c
 
   -- number 11 has passed
   still-unneeded : Deactivates change → Unneeded m of (targetOf r)
-  still-unneeded d = go change d (asked-none change r m asked .1 .1 .1 .1 .1 .1 .0)
+  still-unneeded d = go change d (λ h. none-among (asked-none change r m asked) (needed-among change r m h))
     where
-      go : (x : Change) → Deactivates x → stillNeeded x (targetOf r) m ≡ false → Unneeded m (tableFor x) (targetOf r)
+      go : (x : Change) → Deactivates x → ¬ (DeactivatedNeeded x (targetOf r) m) → Unneeded m (tableFor x) (targetOf r)
       go (Add t) d e = absurd d
       go SetRange d e = absurd d
       go (Rename t) d e = absurd d

@@ -176,6 +176,10 @@ module _ (change : Change) (r : List ℕ) (m : Schema) where
   among-condition a = ⊎-elim asked-condition result-condition (among-append (askedCases change r m) (resultCases change r m) a)
 
   -- and a number whose condition holds is among them
+  pub needed-among : DeactivatedNeeded change (targetOf r) m → Among refusal.stillNeeded (askedCases change r m)
+  needed-among d =
+      Among.there (Among.there (Among.there (Among.there (Among.there (Among.there (Among.here (says-still change (targetOf r) m .passes d) refl))))))
+
   pub condition-among : {x : ℕ} → Condition change r m x → Among x (changeCases change r m)
   condition-among (Condition.noSuchRow a l) = Among.here (says-absent change r m .passes (a, l)) refl
   condition-among (Condition.noFreeRow a l) = Among.there (Among.here (says-full change m .passes (a, l)) refl)
@@ -185,8 +189,7 @@ module _ (change : Change) (r : List ℕ) (m : Schema) where
       Among.there (Among.there (Among.there (Among.there (Among.here (says-added change r .passes (a, b)) refl))))
   condition-among (Condition.entryConflict c) =
       Among.there (Among.there (Among.there (Among.there (Among.there (Among.here (says-conflict change r old .passes c) refl)))))
-  condition-among (Condition.stillNeeded d) =
-      Among.there (Among.there (Among.there (Among.there (Among.there (Among.there (Among.here (says-still change (targetOf r) m .passes d) refl))))))
+  condition-among (Condition.stillNeeded d) = among-left (resultCases change r m) (needed-among d)
   condition-among (Condition.rule name unmet) =
       among-right (askedCases change r m) (among-left _ (unmet-among (addedBy change r (m .classes .count)) result name unmet))
   condition-among (Condition.mandatoryDiffers d) =

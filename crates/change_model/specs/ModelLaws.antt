@@ -14,7 +14,6 @@ use Rattle.prelude.specs.First.{firstOf}
 use Rattle.prelude.specs.SaysLaws.{says-eq, says-false, says-true}
 use Rattle.change_asked.specs.Asked.{askedCases, firstAsked}
 use Rattle.change_rows.specs.Rows.{numberFor, tableFor}
-use Rattle.schema.specs.Refusals as refusal
 
 -- ---- the number of the model, in two steps
 
@@ -26,6 +25,14 @@ module _ (change : Change) (r : List ℕ) (m : Schema) where
   pub number-judged : firstAsked change r m ≡ 0 → changeNumber change r m ≡ firstOf (resultCases change r m)
   unfolding changeNumber firstAsked
   number-judged z = append-second (askedCases change r m) (resultCases change r m) (omega arith) z
+
+  pub answer-number : (n : ℕ) → answerBy change r m n .number ≡ n
+  unfolding answerBy
+  answer-number n = go (ℕ-discrete n 0)
+    where
+      go : Dec (n ≡ 0) → answerBy change r m n .number ≡ n
+      go (yes z) = rw (says-true (says-eq n 0) z) (sym z)
+      go (no d) = rw (says-false (says-eq n 0) d)
 
   pub answer-refused : ¬ (changeNumber change r m ≡ 0) → answerTo (Read change) r m ≡ refused (changeNumber change r m)
   unfolding answerTo answerBy

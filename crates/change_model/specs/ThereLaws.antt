@@ -23,14 +23,14 @@ use Rattle.change_asked.specs.Asked.{firstAsked}
 use Rattle.change_asked.specs.AskedLaws.{asked-room}
 use Rattle.change_rows.specs.Lists.{listTable}
 use Rattle.change_rows.specs.Rows.{numberFor, schemaAfter, tableAfter}
-use Rattle.prelude.specs.First.{NoneHolds, firstOf}
+use Rattle.prelude.specs.First.{firstOf}
 use Rattle.prelude.specs.FirstLaws.{zero-iff-none}
 use Rattle.prelude.specs.SaysLaws.{neither, says-and, says-eq, says-fails, says-false, says-not, says-or}
 use Rattle.rules.specs.declared.row.Added.{Added}
 use Rattle.rules.specs.declared.row.Added.the-variants.{Entry, Nothing}
-use Rattle.rules.specs.Rules.{attributeNotLive, barred, classNotLive, entryDead, rowCases, schemaRules}
-use Rattle.rules.specs.RulesLaws.{class-nothing}
-use Rattle.rules.specs.Judge.{AllKept}
+use Rattle.rules.specs.Rules.{attributeNotLive, barred, breaks, classNotLive, entryDead, numbered, rowCases, schemaRules}
+use Rattle.rules.specs.RulesLaws.{class-nothing, each-numbered}
+use Rattle.rules.specs.Judge.{AllKept, Kept}
 use Rattle.rules_class.specs.Live.{NotLive, SuperclassEarly, classWrong, notLive}
 use Rattle.rules_class.specs.LiveLaws.{says-class-wrong, says-not-live}
 use Rattle.rules_class.specs.StayLaws.{named-there}
@@ -40,12 +40,15 @@ use Rattle.tables.specs.Named.{Lists}
 use Rattle.tables.specs.declared.named.ClassList.the-variants.{Auxiliaries}
 use Rattle.graph.specs.Graph.{inherits}
 use Rattle.change_model.specs.Sound.{rowNumber}
+use Rattle.schema.specs.Refusals as refusal
 
 -- ---- an entry
 
-none-broken : (added : Added) (n : Schema) (t : TableId) (k : ℕ) → firstOf (rowCases (schemaRules added) n t k) ≡ 0
-    → NoneHolds (rowCases (schemaRules added) n t k)
-none-broken added n t k z = zero-iff-none (rowCases (schemaRules added) n t k) (omega arith) .0 z
+-- a row of which no rule tells anything breaks none, by its number
+not-broken : (added : Added) (n : Schema) (t : TableId) (k : ℕ) → firstOf (rowCases (schemaRules added) n t k) ≡ 0 → (number : ℕ)
+    → breaks added n number t k ≡ false
+not-broken added n t k z number =
+    each-numbered (λ r. r .breaks n t k ≡ false) (schemaRules added) (zero-iff-none (rowCases (schemaRules added) n t k) (omega arith) .0 z) number refl
 
 -- it is live, so it has a row
 not-dead : (a : ClassNumber) (of : TableId) (x : ℕ) (t : Table) (row : List ℕ) → entryDead (Entry a of x) of t row (a .0) ≡ false → x < t .count
@@ -59,12 +62,13 @@ not-dead a of x t row e = go (decLt x (t .count))
 
 entry-has-row : (a : ClassNumber) (of : TableId) (x : ℕ) (n : Schema) → firstOf (rowCases (schemaRules (Entry a of x)) n Classes (a .0)) ≡ 0
     → x < table of n .count
-unfolding attributeNotLive classNotLive
+unfolding attributeNotLive classNotLive numbered
 entry-has-row a Attributes x n z =
     not-dead a Attributes x (n .attributes) (n .classes .row (a .0))
-    (neither (notLive Attributes (n .attributes) (n .classes .row (a .0))) _ (none-broken (Entry a Attributes x) n Classes (a .0) z .1 .1 .1 .1 .1 .0) .1)
+    (neither (notLive Attributes (n .attributes) (n .classes .row (a .0))) _
+    (not-broken (Entry a Attributes x) n Classes (a .0) z refusal.attributeNotLive) .1)
 entry-has-row a Classes x n z =
-    let broken = neither (classWrong (n .classes) (a .0)) _ (none-broken (Entry a Classes x) n Classes (a .0) z .1 .1 .1 .1 .1 .1 .0) in
+    let broken = neither (classWrong (n .classes) (a .0)) _ (not-broken (Entry a Classes x) n Classes (a .0) z refusal.classNotLive) in
     not-dead a Classes x (n .classes) (n .classes .row (a .0)) (neither (barred (Entry a Classes x) (n .classes) (a .0)) _ (broken .1) .1)
 
 -- the tables have as many rows as before
@@ -98,7 +102,8 @@ module _ (m : Schema) (kept : AllKept Nothing m) (room : m .classes .count < cla
 
   -- rule 18 of class x
   sound : ¬ (NotLive Classes c (c .row x) ⊎ ¬ (SuperclassEarly x (c .row x)))
-  sound = says-fails (says-class-wrong c x) (sym (class-nothing c x) ∙ kept .1 .1 .1 .1 .1 .1 .0 Classes x l)
+  unfolding numbered
+  sound = says-fails (says-class-wrong c x) (sym (class-nothing c x) ∙ each-numbered (Kept m) (schemaRules Nothing) kept refusal.classNotLive (λ t j q. refl) Classes x l)
 
   not-superclass : ¬ (superclassOf (c .row x) ≡ c .count)
   not-superclass e = sound (inr (λ early. ⊎-elim (λ q. omega (arith, q .1)) (λ q. omega arith) early))

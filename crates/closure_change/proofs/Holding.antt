@@ -4,20 +4,20 @@ use mathlib.Core.List.{List, _++_}
 use mathlib.Core.Path.{_≡_, ap, ap₂, sym, _∙_}
 use Prim.Native.Nat.{ℕ, _+_, _*_, _-_, _≤_, _<_}
 use native.Mathlib.Omega.{arith}
-use lib.Dec.{ltb}
 use lib.ListN.{length, drop, take}
 use Rattle.prelude.specs.Concat.{concatBelow}
 use Rattle.prelude.specs.ConcatLaws.{concat-none, concat-more, concat-length}
 use Rattle.prelude.specs.LentLaws.{lent-back}
 use Rattle.prelude.specs.Part.{part, splice}
-use Rattle.prelude.specs.PartLaws.{row-fits, row-length, part-length}
-use Rattle.prelude.specs.SaysLaws.{says-lt, says-false, says-true, choose}
+use Rattle.prelude.specs.PartLaws.{row-fits, part-length}
+use Rattle.prelude.specs.SaysLaws.{says-lt, says-false, says-true}
 use Rattle.prelude.specs.SpliceLaws.{part-splice-after, splice-append, splice-length, splice-part}
 use Rattle.sets.specs.Sets.{member, union}
 use Rattle.sets.specs.SetsLaws.{union-length}
 use Rattle.schema.specs.Layout.{attributeSet, closureLength, closureWidth, demandedAt, reachedAt, classSet}
 use Rattle.schema.specs.Numbers.{classLimit}
 use Rattle.schema.specs.Store.{closureAt}
+use Rattle.closure_change.specs.KeptLaws.{kept-length, where-length}
 use Rattle.closure_change.specs.Kept.{holds, rowWhere, eachHolding}
 
 -- ---- the test
@@ -36,11 +36,8 @@ module _ (closure : List ℕ) (long : closureLength ≤ length closure) (c : ℕ
   pub row-there : 0 + closureWidth * c + closureWidth ≤ length closure
   row-there = row-fits 0 closureWidth classLimit c (length closure) (omega arith) l
 
-  pub row-long : length (closureAt closure c) ≡ closureWidth
-  row-long = row-length 0 closureWidth classLimit c closure (omega arith) l
-
   pub demanded-long : length (part demandedAt attributeSet (closureAt closure c)) ≡ attributeSet
-  demanded-long = part-length demandedAt attributeSet (closureAt closure c) (omega (arith, row-long))
+  demanded-long = part-length demandedAt attributeSet (closureAt closure c) (omega (arith, kept-length closure long c l))
 
   -- the part of the store at c was lent on, and came back as another row
   pub row-back : (at end : ℕ) (back new : List ℕ) → at ≡ closureWidth * c → end ≡ at + closureWidth → length new ≡ closureWidth → back ≡ new
@@ -71,10 +68,6 @@ module _ (closure : List ℕ) (long : closureLength ≤ length closure) (c : ℕ
         ∙ ap (λ (i : ℕ). splice i (closureAt closure c) closure) e
         ∙ ap (λ (b : Bool). splice (closureWidth * c) (cond b (f c (closureAt closure c)) (closureAt closure c)) closure) (sym h)
 
-    where-long : length (f c (closureAt closure c)) ≡ closureWidth → length (rowWhere n k f closure c) ≡ closureWidth
-    unfolding rowWhere
-    where-long w = choose (λ (row : List ℕ). length row ≡ closureWidth) (holds n k c (closureAt closure c)) (λ e. w) (λ e. row-long)
-
 -- ---- all rows
 
 -- the first c rows are done
@@ -85,7 +78,7 @@ module _ (n k : ℕ) (f : ℕ → List ℕ → List ℕ) (o : List ℕ) (long : 
     (wide : (c : ℕ) (row : List ℕ) → length row ≡ closureWidth → length (f c row) ≡ closureWidth) where
   rows-long : (c : ℕ) → c ≤ classLimit → length (concatBelow c (rowWhere n k f o)) ≡ closureWidth * c
   rows-long c l = concat-length (rowWhere n k f o) closureWidth c
-      (λ i h. where-long o long i (omega arith) n k f (wide i (closureAt o i) (row-long o long i (omega arith))))
+      (λ i h. where-length o long n k f (λ d m. wide d (closureAt o d) (kept-length o long d m)) i (omega arith))
 
   rows-fit : (c : ℕ) → c ≤ classLimit → 0 + length (concatBelow c (rowWhere n k f o)) ≤ length o
   rows-fit c l = omega (arith, rows-long c l)

@@ -37,7 +37,7 @@ module _ (closure : List ℕ) (long : closureLength ≤ length closure) where
     abbrev rows : List ℕ
     rows = concatBelow classLimit (rowWhere n k f closure)
 
-    where-length : (c : ℕ) → c < classLimit → length (rowWhere n k f closure c) ≡ closureWidth
+    pub where-length : (c : ℕ) → c < classLimit → length (rowWhere n k f closure c) ≡ closureWidth
     unfolding rowWhere
     where-length c l = choose (λ (x : List ℕ). length x ≡ closureWidth) (holds n k c (closureAt closure c)) (λ q. wide c l) (λ q. kept-length c l)
 

@@ -32,6 +32,11 @@ use Rattle.keeper_change.specs.Made.{rowsMade, refreshed}
 use Rattle.change_rows.specs.Rows.{schemaAfter, tableFor}
 use Rattle.change_rows.specs.Stores.{storeAfter}
 
+-- a table's store replaced, the closure is as it was
+pub closure-stays : (t : TableId) (new : List ℕ) (s : Stores) → withStore t new s .closure ≡ s .closure
+closure-stays Attributes new s = refl
+closure-stays Classes new s = refl
+
 module _ (change : Change) (x r : List ℕ) (s : Stores) (bytes : Bytes x) (reads : Reads x change r) (shape : InShape s)
     (zero : changeNumber change r (schemaOf s) ≡ 0) where
   asked : firstAsked change r (schemaOf s) ≡ 0
@@ -45,16 +50,12 @@ module _ (change : Change) (x r : List ℕ) (s : Stores) (bytes : Bytes x) (read
   unfolding refreshed
   done-same = made-same change x r s bytes reads shape asked
 
-  closure-stays : made .closure ≡ s .closure
+  made-closure : made .closure ≡ s .closure
   unfolding rowsMade
-  closure-stays = kept (tableFor change)
-    where
-      kept : (t : TableId) → withStore t (storeAfter change r (tableStore (tableFor change) s)) s .closure ≡ s .closure
-      kept Attributes = refl
-      kept Classes = refl
+  made-closure = closure-stays (tableFor change) (storeAfter change r (tableStore (tableFor change) s)) s
 
   closure-room : closureLength ≤ length (made .closure)
-  closure-room = omega (arith, ap length closure-stays, shape .long .closure)
+  closure-room = omega (arith, ap length made-closure, shape .long .closure)
 
   pub done-shape : InShape (refreshed made)
   unfolding refreshed

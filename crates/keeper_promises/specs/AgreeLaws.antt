@@ -1,18 +1,15 @@
 -- On stores in order, a quick change is the plain one: the same answer, and the same stores in every byte.
 use mathlib.Core.Bool.{Bool, cond}
-use mathlib.Core.List.{List, [], _++_, _∷_}
+use mathlib.Core.List.{List}
 use mathlib.Core.Path.{_∙_, _≡_, ap, ap₂, refl, sym}
 use Prim.Native.Nat.{_<_, _≤_, ℕ}
 use native.Mathlib.Decide.{ℕ-discrete}
-use native.Mathlib.Omega.{arith}
 use lib.ListN.{length}
-use Rattle.prelude.specs.First.{Case, _when_, firstOf}
-use Rattle.prelude.specs.FirstLaws.{append-first, append-second}
 use Rattle.prelude.specs.Part.{Bytes, splice}
 use Rattle.prelude.specs.SaysLaws.{says-eq, says-true}
 use Rattle.schema.specs.Layout.{rowWidth}
 use Rattle.schema.specs.Numbers.{limit}
-use Rattle.schema.specs.Store.{Schema, Stores, result, schemaOf, stores, table, tableStore, withStore}
+use Rattle.schema.specs.Store.{Schema, Stores, result, schemaOf, stores, table, tableStore}
 use Rattle.schema.specs.StoreLaws.{table-row-length}
 use Rattle.schema.specs.declared.answer.Answer.{Answer}
 use Rattle.schema.specs.declared.number.TableId.{TableId}
@@ -27,18 +24,20 @@ use Rattle.change_read.specs.declared.read.ChangeRead.{ChangeRead}
 use Rattle.change_read.specs.declared.read.ChangeRead.the-variants.{Bad, Read}
 use Rattle.change_rows.specs.Rows.{tableFor}
 use Rattle.change_rows.specs.Stores.{storeAfter}
-use Rattle.change_asked.specs.Asked.{askedCases, firstAsked}
-use Rattle.change_model.specs.Sound.{Passed, Sound, rowNumber}
+use Rattle.change_asked.specs.Asked.{firstAsked}
+use Rattle.change_model.specs.Sound.{Passed, Sound}
 use Rattle.change_model.specs.AgreeLaws.{closure-refreshed, number-agrees}
-use Rattle.change_model.specs.Model.{answerBy, answerTo, changeNumber, changedCases}
+use Rattle.change_model.specs.Model.{answerBy, answerTo, changeNumber}
 use Rattle.change_model.specs.ModelLaws.{asked-zero}
+use Rattle.keeper_change.specs.DoneLaws.{closure-stays}
 use Rattle.keeper_change.specs.Made.{refreshed, rowsMade}
 use Rattle.keeper_change.specs.MadeLaws.{made-same}
 use Rattle.keeper_change.specs.Plain.{plainChange}
-use Rattle.keeper_change.specs.Quick.{quickChange, quickDiffers, quickMade, quickNumber, quickRead, quickTo}
+use Rattle.keeper_change.specs.Quick.{quickChange, quickMade, quickNumber, quickRead, quickTo}
 use Rattle.keeper_promises.specs.OrderLaws.{order-shape}
 use Rattle.keeper_promises.specs.PlainLaws.{left-made, number-is, plain-kept, plain-bad, read-answer}
 use Rattle.keeper_promises.specs.Promises.{InOrder}
+use Rattle.keeper_promises.specs.QuickFrontLaws.{row-zero}
 use Rattle.keeper_promises.specs.QuickLaws.{quick-kept, quick-shaped, quick-bad}
 use Rattle.schema.specs.Refusals as refusal
 
@@ -61,27 +60,6 @@ order-sound s h r wide = record {
   long = h .long .closure;
   fresh = h .fresh;
 }
-
--- a table's store replaced, the closure is as it was
-closure-stays : (t : TableId) (new : List ℕ) (s : Stores) → withStore t new s .closure ≡ s .closure
-closure-stays Attributes new s = refl
-closure-stays Classes new s = refl
-
--- where numbers 5 to 30 say nothing, the rules of the changed row do not either
-row-zero : (change : Change) (r : List ℕ) (m : Schema) (closure : List ℕ) → firstAsked change r m ≡ 0 → quickNumber change r m closure ≡ 0
-    → rowNumber change r m ≡ 0
-unfolding quickNumber firstAsked
-row-zero change r m closure asked zero = go (ℕ-discrete (rowNumber change r m) 0)
-  where
-    thirty : List Case
-    thirty = (refusal.mandatoryDiffers when quickDiffers change r m closure) ∷ []
-
-    result-zero : firstOf (changedCases change r m ++ thirty) ≡ 0
-    result-zero = sym (append-second (askedCases change r m) (changedCases change r m ++ thirty) (omega arith) asked) ∙ zero
-
-    go : Dec (rowNumber change r m ≡ 0) → rowNumber change r m ≡ 0
-    go (yes e) = e
-    go (no d) = absurd (d (sym (append-first (changedCases change r m) thirty d) ∙ result-zero))
 
 -- ---- a change that was read
 
@@ -112,7 +90,7 @@ module _ (x : List ℕ) (s : Stores) (bytes : Bytes x) (h : InOrder s) (change :
     asked = asked-zero change r m number-zero
 
     accepted : Passed change r m (s .closure)
-    accepted = record { sound = sound; asked = asked; passed = row-zero change r m (s .closure) asked (same-number ∙ number-zero) }
+    accepted = record { sound = sound; asked = asked; passed = row-zero change r m (s .closure) (same-number ∙ number-zero) }
 
     quick-made : quickChange x s .left ≡ quickMade (Read change) r s
     unfolding quickChange quickRead

@@ -5,30 +5,24 @@ use mathlib.Core.List.{List, [], _++_, _∷_}
 use mathlib.Core.Logic.{_⊎_, inl, inr}
 use mathlib.Core.Path.{_∙_, _≡_, ap, ap₂, refl, sym}
 use Prim.Native.Nat.{_<_, _≤_, ℕ}
-use native.Mathlib.Decide.{decLt, ℕ-discrete}
+use native.Mathlib.Decide.{ℕ-discrete}
 use native.Mathlib.Omega.{arith}
 use lib.Dec.{eqb}
 use Rattle.prelude.specs.First.{Case, NoneHolds, _when_, firstOf}
-use Rattle.prelude.specs.FirstLaws.{append-first, append-rest, append-second}
+use Rattle.prelude.specs.FirstLaws.{append-first, append-rest, append-second, none-zero}
 use Rattle.prelude.specs.Part.{part, sameBytes}
-use Rattle.prelude.specs.SaysLaws.{neither, says-and, says-eq, says-fails, says-false, says-not, says-split}
+use Rattle.prelude.specs.SaysLaws.{says-fails, says-false, says-split}
 use Rattle.sets.specs.Sets.{subset}
 use Rattle.schema.specs.Answers.{changed, refused}
 use Rattle.schema.specs.Layout.{attributeSet, demandedAt}
 use Rattle.schema.specs.Numbers.{classLimit}
-use Rattle.schema.specs.NumbersLaws.{says-same-table}
-use Rattle.schema.specs.Store.{LongEnough, Result, Schema, Stores, Table, anyShort, closureAt, schemaOf, withRow}
+use Rattle.schema.specs.Store.{LongEnough, Result, Schema, Stores, anyShort, closureAt, schemaOf}
 use Rattle.schema.specs.StoreLaws.{long-enough, says-short}
-use Rattle.schema.specs.declared.number.TableId.{TableId}
 use Rattle.schema.specs.declared.number.TableId.the-variants.{Classes}
-use Rattle.tables.specs.Live.{Live}
-use Rattle.tables.specs.LiveLaws.{says-live}
 use Rattle.tables.specs.Same.{SameRows}
 use Rattle.graph.specs.SameLaws.{demanded-same}
-use Rattle.rules_class.specs.Live.{classWrong}
-use Rattle.rules.specs.Rules.{barred, classNotLive, entryDead, rowCases, schemaRules}
+use Rattle.rules.specs.Rules.{rowCases, schemaRules}
 use Rattle.rules.specs.SameLaws.{row-cases-same}
-use Rattle.rules.specs.declared.row.Added.the-variants.{Entry}
 use Rattle.tables_shape.specs.FrontLaws.{formed-front}
 use Rattle.tables_shape.specs.Shape.{storesFormed}
 use Rattle.tables_shape.specs.ShapeLaws.{says-formed}
@@ -40,11 +34,11 @@ use Rattle.change_read.specs.declared.read.Change.{Change}
 use Rattle.change_read.specs.declared.read.Change.the-variants.{Add, AddEntry, Deactivate, Reactivate, RemoveEntry, Rename, SetRange}
 use Rattle.change_read.specs.declared.read.ChangeRead.{ChangeRead}
 use Rattle.change_read.specs.declared.read.ChangeRead.the-variants.{Bad, Read}
-use Rattle.change_rows.specs.Lists.{listTable}
-use Rattle.change_rows.specs.Rows.{numberFor, schemaAfter, tableAfter, tableFor}
+use Rattle.change_rows.specs.Rows.{numberFor, schemaAfter, tableFor}
 use Rattle.change_asked.specs.Asked.{askedCases, firstAsked}
 use Rattle.change_asked.specs.AskedLaws.{asked-there}
 use Rattle.change_model.specs.Model.{addedBy, answerBy, changedCases}
+use Rattle.change_model.specs.ThereLaws.{entry-class}
 use Rattle.change_model.specs.SameLaws.{after-same, asked-same, row-number-same}
 use Rattle.keeper.specs.Answering.{InShape}
 use Rattle.keeper_change.specs.Quick.{quickChange, quickDiffers, quickNumber, quickTo}
@@ -54,38 +48,6 @@ use Rattle.keeper_promises.specs.Demand3.{AlikeFor, Concerned}
 use Rattle.keeper_promises.specs.Promises.{Shape, SomeShort}
 use Rattle.keeper_promises.specs.QuickLaws.{quick-one, quick-shaped, quick-two}
 use Rattle.schema.specs.Refusals as refusal
-
--- ---- an added entry that names a class: unless 18 holds, that class is there
-
--- the entry that was added to a list of class k, in a list of classes
-entry-below : (t : Table) (row : List ℕ) (k n : ℕ) (of : TableId) → of ≡ Classes → entryDead (Entry (record { 0 = k }) of n) Classes t row k ≡ false
-    → n < t .count
-unfolding entryDead
-entry-below t row k n of e dead = go (decLt n (t .count))
-  where
-    alive : ¬ ((k ≡ k) × ((of ≡ Classes) × ¬ (Live t row n)))
-    alive = says-fails (says-and (says-eq k k) (says-and (says-same-table of Classes) (says-not (says-live t row n)))) dead
-
-    go : Dec (n < t .count) → n < t .count
-    go (yes l) = l
-    go (no d) = absurd (alive (refl, (e, λ live. d (live .0))))
-
-module _ (r : List ℕ) (m : Schema) where
-  abbrev after : Table
-  after = schemaAfter AddEntry r m .classes
-
-  same-count : after .count ≡ m .classes .count
-  unfolding schemaAfter tableAfter withRow
-  same-count = refl
-
-  pub entry-there : listOf r ≡ Auxiliary → NoneHolds (changedCases AddEntry r m) → entryOf r < m .classes .count
-  unfolding classNotLive numberFor
-  entry-there e none =
-      let wrong = none .1 .1 .1 .1 .1 .1 .0 in
-      let added = addedBy AddEntry r (m .classes .count) in
-      let k = targetOf r in
-      let dead : entryDead added Classes after (after .row k) k ≡ false = neither (barred added after k) _ (neither (classWrong after k) _ wrong .1) .1 in
-      omega (arith, same-count, entry-below after (after .row (targetOf r)) (targetOf r) (entryOf r) (listTable (listOf r)) (ap listTable e) dead)
 
 -- ---- the number of a quick change, of rows that are the same and kept sets that may differ
 
@@ -111,7 +73,7 @@ module _ (r : List ℕ) {m n : Schema} (s : SameRows m n) (few : m .classes .cou
       entry Auxiliary e =
           let same = kept refl e in
           rw e (ap₂ (λ (x y : List ℕ). not (subset (part demandedAt attributeSet x) (part demandedAt attributeSet y)))
-          (same .entry (omega (arith, few, entry-there r m e none))) (same .target (omega (arith, few, asked-there AddEntry r m z refl))))
+          (same .entry (omega (arith, few, entry-class r m (none-zero (changedCases AddEntry r m) none) e))) (same .target (omega (arith, few, asked-there AddEntry r m z refl))))
   differs-same RemoveEntry z kept none =
       ap₂ (λ (x y : List ℕ). not (sameBytes x y)) (demanded-same (s Classes) (targetOf r))
       (demanded-same (after-same RemoveEntry r s z Classes) (targetOf r))

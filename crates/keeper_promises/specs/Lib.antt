@@ -13,6 +13,10 @@ pub mod PaperListingLaws
 pub mod Uses
 pub mod UsesGraphLaws
 pub mod UsesLaws
+pub mod QuickSets
+pub mod KeptLaws
+pub mod ThirtyLaws
+pub mod QuickSetsLaws
 pub mod Promises
 pub mod Demand3
 pub mod Demand3Laws

@@ -25,7 +25,7 @@ use Rattle.keeper.specs.Answering.{firstAnswer, shapeAnswers, InShape}
 use Rattle.keeper.specs.Order.{inOrder, orderAnswers}
 use Rattle.change_model.specs.Model.{answerTo, addedBy, changeNumber, rowsAfter}
 use Rattle.change_model.specs.Conditions.{Condition, rule}
-use Rattle.change_model.specs.ModelLaws.{answer-done, answer-refused}
+use Rattle.change_model.specs.ModelLaws.{answer-done, answer-number, answer-refused}
 use Rattle.change_model.specs.ConditionsLaws.{change-condition, change-least, change-zero}
 use Rattle.keeper_change.specs.PlainLaws.{plain-order}
 use Rattle.keeper_change.specs.Plain.{plainAnswer, plainChange, plainRead, plainMade}
@@ -138,11 +138,8 @@ module _ (x : List ℕ) (s : Stores) where
 
     -- its number is the model's
     pub number-is : plainChange x s .answer .number ≡ changeNumber change r m
-    number-is = ap (λ (a : Answer). a .number) read-answer ∙ go (ℕ-discrete (changeNumber change r m) 0)
-      where
-        go : Dec (changeNumber change r m ≡ 0) → answerTo (Read change) r m .number ≡ changeNumber change r m
-        go (yes z) = ap (λ (a : Answer). a .number) (answer-done change r m z) ∙ sym z
-        go (no d) = ap (λ (a : Answer). a .number) (answer-refused change r m d)
+    unfolding answerTo
+    number-is = ap (λ (a : Answer). a .number) read-answer ∙ answer-number change r m (changeNumber change r m)
 
     pub plain-refused : ¬ (plainChange x s .answer .number ≡ 0)
         → Condition change r m (plainChange x s .answer .number) × (plainChange x s .answer ≡ refused (plainChange x s .answer .number))

@@ -1,6 +1,6 @@
 -- A quick change looks at the first bytes of the stores alone, on any stores, in order or not (docs/DECISIONS.md, R36).
 use mathlib.Core.Bool.{_&&_, _||_, cond}
-use mathlib.Core.List.{List, [], _++_, _∷_}
+use mathlib.Core.List.{List}
 use mathlib.Core.Path.{_∙_, _≡_, ap, ap₂, refl, subst₂, sym}
 use Prim.Native.Nat.{_*_, _+_, _<_, _≤_, ℕ}
 use native.Mathlib.Decide.{ℕ-discrete}
@@ -8,12 +8,9 @@ use native.Mathlib.Omega.{arith}
 use lib.Dec.{eqb}
 use lib.ListN.{length}
 use Rattle.closure_change.specs.KeptLaws.{after-length, joined-wide, new-length, rows-length}
-use Rattle.change_model.specs.Model.{changedCases}
 use Rattle.prelude.specs.BelowLaws.{any-cong}
 use Rattle.prelude.specs.Concat.{concatBelow}
 use Rattle.prelude.specs.ConcatLaws.{concat-same}
-use Rattle.prelude.specs.First.{Case, NoneHolds, _when_}
-use Rattle.prelude.specs.FirstLaws.{zero-iff-none}
 use Rattle.prelude.specs.FrontLaws.{front-part}
 use Rattle.prelude.specs.Part.{Bytes, part, splice}
 use Rattle.prelude.specs.SaysLaws.{says-fails}
@@ -41,20 +38,21 @@ use Rattle.change_read.specs.declared.read.Change.{Change}
 use Rattle.change_read.specs.declared.read.Change.the-variants.{Add, AddEntry, Deactivate, Reactivate, RemoveEntry, Rename, SetRange}
 use Rattle.change_read.specs.declared.read.ChangeRead.the-variants.{Read}
 use Rattle.change_rows.specs.Rows.{numberFor, schemaAfter}
-use Rattle.change_asked.specs.Asked.{askedCases, firstAsked}
+use Rattle.change_asked.specs.Asked.{firstAsked}
 use Rattle.change_model.specs.SameLaws.{after-same}
+use Rattle.change_model.specs.ThereLaws.{entry-class}
 use Rattle.closure_change.specs.After.{closureAfter, entryJoined}
 use Rattle.closure_change.specs.Kept.{eachHolding, holds, joinedInto, namedSets, newRow, ownRow, refreshedAt, rowWhere, withNew}
 use Rattle.keeper.specs.AnsweringLaws.{not-short}
-use Rattle.keeper_change.specs.Quick.{quickChange, quickDiffers, quickMade, quickNumber}
+use Rattle.keeper_change.specs.Quick.{quickChange, quickMade, quickNumber}
 use Rattle.keeper_promises.specs.AfterLaws.{after-changed}
 use Rattle.keeper_promises.specs.AlikeLaws.{same-rows}
-use Rattle.keeper_promises.specs.AloneLaws.{entry-there, quick-alone}
+use Rattle.keeper_promises.specs.AloneLaws.{quick-alone}
 use Rattle.keeper_promises.specs.Demand3.{AlikeFor}
 use Rattle.keeper_promises.specs.FrontLaws.{put-front}
 use Rattle.keeper_promises.specs.PlainFrontLaws.{made-alike}
 use Rattle.keeper_promises.specs.Promises.{Alike, SomeShort}
-use Rattle.keeper_promises.specs.QuickFrontLaws.{Made, allowed, done-reads, made, room}
+use Rattle.keeper_promises.specs.QuickFrontLaws.{Made, allowed, done-reads, made, room, row-zero}
 use Rattle.keeper_promises.specs.QuickLaws.{quick-kept}
 use Rattle.schema.specs.Refusals as refusal
 
@@ -134,24 +132,6 @@ module _ (k l : List ℕ) (p : closureLength ≤ length k) (q : closureLength �
 
 -- ---- the call
 
--- none of the conditions of a list holds: none of a part of it does
-none-left : (a b : List Case) → NoneHolds (a ++ b) → NoneHolds a
-none-left [] b h = tt
-none-left (c ∷ a) b h = (h .0, none-left a b (h .1))
-
-none-right : (a b : List Case) → NoneHolds (a ++ b) → NoneHolds b
-none-right [] b h = h
-none-right (c ∷ a) b h = none-right a b (h .1)
-
--- a quick change that is done breaks no rule of its row
-changed-none : (change : Change) (r : List ℕ) (m : Schema) (k : List ℕ) → quickNumber change r m k ≡ 0 → NoneHolds (changedCases change r m)
-unfolding quickNumber
-changed-none change r m k z =
-    let asked = askedCases change r m in
-    let judged = changedCases change r m in
-    let last = (refusal.mandatoryDiffers when quickDiffers change r m k) ∷ [] in
-    none-left judged last (none-right asked (judged ++ last) (zero-iff-none (asked ++ (judged ++ last)) (omega arith) .0 z))
-
 -- the number of an added class lies within the table after it
 added-there : (r : List ℕ) (m : Schema) → firstAsked (Add Classes) r m ≡ 0 → m .classes .count < schemaAfter (Add Classes) r m .classes .count
 unfolding numberFor
@@ -189,7 +169,7 @@ module _ (x : List ℕ) (s t : Stores) (h : Alike s t) where
     entry : change ≡ AddEntry → listOf r ≡ Auxiliary → entryOf r < classLimit
     entry e aux =
         let z : quickNumber AddEntry r (schemaOf s) (s .closure) ≡ 0 = rw e at (a .number) in
-        omega (arith, few, entry-there r (schemaOf s) aux (changed-none AddEntry r (schemaOf s) (s .closure) z))
+        omega (arith, few, entry-class r (schemaOf s) (row-zero AddEntry r (schemaOf s) (s .closure) z) aux)
 
     new : change ≡ Add Classes → (schemaOf s .classes .count < classLimit) × (schemaOf s .classes .count < schemaAfter change r (schemaOf s) .classes .count)
     new e = (room x bytes s change a e, rw e (added-there r (schemaOf s) (rw e at (allowed x bytes s change a .1))))

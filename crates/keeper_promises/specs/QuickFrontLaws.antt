@@ -1,13 +1,14 @@
 -- A quick change touches no byte past the lengths, on any stores, in order or not, and leaves stores of bytes such.
-use mathlib.Core.List.{List}
+use mathlib.Core.List.{List, [], _++_, _∷_}
 use mathlib.Core.Path.{_∙_, _≡_, ap, refl, subst, sym}
 use Prim.Native.Nat.{_<_, ℕ}
 use native.Mathlib.Decide.{ℕ-discrete}
 use native.Mathlib.Omega.{arith}
 use Rattle.closure_change.specs.KeptLaws.{after-past}
-use Rattle.prelude.specs.FirstLaws.{append-first}
+use Rattle.prelude.specs.First.{Case, _when_, firstOf}
+use Rattle.prelude.specs.FirstLaws.{append-first, append-second}
 use Rattle.prelude.specs.Part.{Bytes}
-use Rattle.prelude.specs.SaysLaws.{says-eq, says-false, says-true}
+use Rattle.prelude.specs.SaysLaws.{says-eq, says-true}
 use Rattle.schema.specs.Answers.{passed}
 use Rattle.schema.specs.Numbers.{classLimit}
 use Rattle.schema.specs.Store.{Schema, Stores, schemaOf}
@@ -22,14 +23,17 @@ use Rattle.change_read.specs.declared.read.ChangeRead.the-variants.{Bad, Read}
 use Rattle.change_rows.specs.Rows.{schemaAfter}
 use Rattle.change_asked.specs.Asked.{askedCases, firstAsked}
 use Rattle.change_asked.specs.AskedLaws.{asked-room}
-use Rattle.change_model.specs.Model.{answerBy}
+use Rattle.change_model.specs.Model.{changedCases}
+use Rattle.change_model.specs.ModelLaws.{answer-number}
+use Rattle.change_model.specs.Sound.{rowNumber}
 use Rattle.keeper.specs.Answering.{InShape, firstAnswer, shapeAnswers}
 use Rattle.keeper.specs.AnsweringLaws.{refused-any, shape-passed, zero-iff-pass}
-use Rattle.keeper_change.specs.Quick.{quickAnswer, quickChange, quickMade, quickNumber, quickRead, quickTo}
+use Rattle.keeper_change.specs.Quick.{quickAnswer, quickChange, quickDiffers, quickMade, quickNumber, quickRead, quickTo}
 use Rattle.keeper_promises.specs.PlainFrontLaws.{made-bytes, made-past, past-reflexive}
 use Rattle.keeper_promises.specs.BytesLaws.{closure-after-bytes}
 use Rattle.keeper_promises.specs.Promises.{OfBytes, SamePast}
 use Rattle.keeper_promises.specs.QuickLaws.{quick-kept, quick-shaped}
+use Rattle.schema.specs.Refusals as refusal
 
 -- ---- the call
 
@@ -42,14 +46,20 @@ quick-asked change r m k z = go (ℕ-discrete (firstAsked change r m) 0)
     go (yes e) = e
     go (no d) = absurd (d (sym (append-first (askedCases change r m) _ d) ∙ z))
 
--- an answer of 0 is that of the number 0
-answer-zero : (change : Change) (r : List ℕ) (m : Schema) (n : ℕ) → answerBy change r m n .number ≡ 0 → n ≡ 0
-unfolding answerBy
-answer-zero change r m n z = go (ℕ-discrete n 0)
+-- where numbers 5 to 30 say nothing, the rules of the changed row do not either
+pub row-zero : (change : Change) (r : List ℕ) (m : Schema) (closure : List ℕ) → quickNumber change r m closure ≡ 0 → rowNumber change r m ≡ 0
+unfolding quickNumber firstAsked
+row-zero change r m closure zero = go (ℕ-discrete (rowNumber change r m) 0)
   where
-    go : Dec (n ≡ 0) → n ≡ 0
+    thirty : List Case
+    thirty = (refusal.mandatoryDiffers when quickDiffers change r m closure) ∷ []
+
+    result-zero : firstOf (changedCases change r m ++ thirty) ≡ 0
+    result-zero = sym (append-second (askedCases change r m) (changedCases change r m ++ thirty) (omega arith) (quick-asked change r m closure zero)) ∙ zero
+
+    go : Dec (rowNumber change r m ≡ 0) → rowNumber change r m ≡ 0
     go (yes e) = e
-    go (no d) = rw (says-false (says-eq n 0) d) at z
+    go (no d) = absurd (d (sym (append-first (changedCases change r m) thirty d) ∙ result-zero))
 
 module _ (x : List ℕ) (bytes : Bytes x) (s : Stores) where
   abbrev m : Schema
@@ -96,7 +106,7 @@ module _ (x : List ℕ) (bytes : Bytes x) (s : Stores) where
   made z change e = record {
     reads = ap (λ (w : ChangeRead). changeOut w r) e;
     shape = done-shape z;
-    number = answer-zero change r m (quickNumber change r m (s .closure)) (told-number z (Read change) e);
+    number = sym (answer-number change r m (quickNumber change r m (s .closure))) ∙ told-number z (Read change) e;
     left = left-made z ∙ ap (λ (w : ChangeRead). quickMade w r s) e;
   }
 

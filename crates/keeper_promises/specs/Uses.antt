@@ -45,6 +45,10 @@ pub record OneName (a b : List ℕ) : Type 0 where
 abbrev pub SignedLess : ℕ → ℕ → Type 0
 SignedLess l u = ((0x80000000 ≤ l) × (u < 0x80000000)) ⊎ ((l < u) × ((u < 0x80000000) ⊎ (0x80000000 ≤ l)))
 
+-- a class whose row this is has y for "its superclass" or one of "its auxiliaries"
+abbrev pub Inherits : List ℕ → ℕ → Type 0
+Inherits row y = (superclassOf row ≡ y) ⊎ ((bit (fixedAuxiliaryOf row) y ≡ 1) ⊎ (bit (openAuxiliaryOf row) y ≡ 1))
+
 -- "A class *reaches* itself, its superclass, all its auxiliaries, and what these reach .. Nothing more is reached; numbers without a row are passed over."
 pub data Reached (t : Table) : ℕ → ℕ → Type 0 where
   itself : {c : ℕ} → c < t .count → Reached t c c
@@ -129,12 +133,15 @@ pub record ClassSound (m : Schema) (c : ℕ) (row : List ℕ) : Type 0 where
 
 -- ---- kept sets
 
--- those of class c, as they stand in the closure store
-pub record KeptSound (s : Stores) (c : ℕ) : Type 0 where
-  -- exactly what the class reaches, demands and allows
-  pub reached : (x : ℕ) → x < 128 → (bit (reachedIn (s .closure) c) x ≡ 1) ↔ Reached (schemaOf s .classes) c x
-  pub demanded : (b : ℕ) → b < 256 → (bit (demandedIn (s .closure) c) b ≡ 1) ↔ Demanded (schemaOf s .classes) c b
-  pub allowed : (b : ℕ) → b < 256 → (bit (allowedIn (s .closure) c) b ≡ 1) ↔ Allowed (schemaOf s .classes) c b
+-- those of class c, as they stand in a closure store, have exactly these classes, mandatory and optional attributes for members
+pub record KeptAre (closure : List ℕ) (c : ℕ) (Classes Mandatory Optional : ℕ → Type 0) : Type 0 where
+  pub reached : (d : ℕ) → d < 128 → (bit (reachedIn closure c) d ≡ 1) ↔ Classes d
+  pub demanded : (b : ℕ) → b < 256 → (bit (demandedIn closure c) b ≡ 1) ↔ Mandatory b
+  pub allowed : (b : ℕ) → b < 256 → (bit (allowedIn closure c) b ≡ 1) ↔ Optional b
+
+-- exactly what the class reaches, demands and allows by the rows
+abbrev pub KeptSound : Stores → ℕ → Type 0
+KeptSound s c = KeptAre (s .closure) c (Reached (schemaOf s .classes) c) (Demanded (schemaOf s .classes) c) (Allowed (schemaOf s .classes) c)
 
 -- what a class reaches, demands and allows is there, and active if the class is
 pub record ReachSound (m : Schema) (c : ℕ) : Type 0 where

@@ -9,30 +9,27 @@ use Rattle.prelude.specs.Says.{Says}
 use Rattle.prelude.specs.SaysLaws.{says-eq, says-iff, says-or}
 use Rattle.sets.specs.Sets.{bit, setOf}
 use Rattle.sets.specs.SetsLaws.{member-within, says-member}
-use Rattle.schema.specs.ClassRow.{fixedAuxiliaryOf, fixedOptionalOf, mandatoryOf, openAuxiliaryOf, openOptionalOf, superclassOf}
+use Rattle.schema.specs.ClassRow.{fixedOptionalOf, mandatoryOf, openOptionalOf, superclassOf}
 use Rattle.schema.specs.Layout.{allowedAt, attributeSet, classSet, demandedAt, reachedAt}
-use Rattle.schema.specs.Store.{Stores, Table, allowedIn, demandedIn, reachedIn, schemaOf}
+use Rattle.schema.specs.Store.{Stores, Table, allowedIn, closureAt, demandedIn, reachedIn, schemaOf}
 use Rattle.tables.specs.NamedLaws.{says-lists}
 use Rattle.tables.specs.declared.named.ClassList.the-variants.{Auxiliaries}
 use Rattle.graph.specs.FreshLaws.{allowed-part, demanded-part, reached-part}
-use Rattle.graph.specs.Graph.{Collects, Edge, Reaches, allows, demands, inherits, listsMandatory, listsOptional, reaches}
+use Rattle.graph.specs.Graph.{Collects, Edge, Reaches, allows, closureRow, demands, inherits, listsMandatory, listsOptional, reaches}
 use Rattle.graph.specs.GraphLaws.{says-collects, says-reaches}
 use Rattle.graph.specs.Walk.{Reach, here, step}
 use Rattle.keeper_promises.specs.Promises.{Fresh}
-use Rattle.keeper_promises.specs.Uses.{Demanded, KeptSound, Reached, Allowed, itself, bySuperclass, byFixed, byOpen}
+use Rattle.keeper_promises.specs.Uses.{Demanded, Inherits, KeptAre, KeptSound, Reached, Allowed, itself, bySuperclass, byFixed, byOpen}
 
 -- ---- the graph's relations, by the sets of the rows
 
 module _ (t : Table) where
   -- a class names another as superclass or auxiliary
-  says-inherits : (c y : ℕ) → Says (inherits t c y)
-      ((superclassOf (t .row c) ≡ y) ⊎ ((bit (fixedAuxiliaryOf (t .row c)) y ≡ 1) ⊎ (bit (openAuxiliaryOf (t .row c)) y ≡ 1)))
+  pub says-inherits : (c y : ℕ) → Says (inherits t c y) (Inherits (t .row c) y)
   unfolding inherits
   says-inherits c y = says-or (says-eq (superclassOf (t .row c)) y) (says-lists Auxiliaries (t .row c) y)
 
-  joined : (c y x : ℕ) → c < t .count
-      → (superclassOf (t .row c) ≡ y) ⊎ ((bit (fixedAuxiliaryOf (t .row c)) y ≡ 1) ⊎ (bit (openAuxiliaryOf (t .row c)) y ≡ 1))
-      → Reached t y x → Reached t c x
+  joined : (c y x : ℕ) → c < t .count → Inherits (t .row c) y → Reached t y x → Reached t c x
   joined c y x l (inl e) r = bySuperclass l (subst (λ (n : ℕ). Reached t n x) (sym e) r)
   joined c y x l (inr (inl e)) r = byFixed l e r
   joined c y x l (inr (inr e)) r = byOpen l e r
@@ -41,9 +38,7 @@ module _ (t : Table) where
   walk-reached l here = itself l
   walk-reached {c} {x} l (step {y = y} r w) = joined c y x l (says-inherits c y .holds (r .named)) (walk-reached (r .target) w)
 
-  edge : (c y : ℕ) → c < t .count → y < t .count
-      → (superclassOf (t .row c) ≡ y) ⊎ ((bit (fixedAuxiliaryOf (t .row c)) y ≡ 1) ⊎ (bit (openAuxiliaryOf (t .row c)) y ≡ 1))
-      → Edge (t .count) (inherits t) c y
+  edge : (c y : ℕ) → c < t .count → y < t .count → Inherits (t .row c) y → Edge (t .count) (inherits t) c y
   edge c y l k h = record { source = l; target = k; named = says-inherits c y .passes h }
 
   reached-walk : {c x : ℕ} → Reached t c x → Reaches (t .count) (inherits t) c x
@@ -61,7 +56,7 @@ module _ (t : Table) where
   says-reached : (c x : ℕ) → Says (reaches t c x) (Reached t c x)
   says-reached c x = says-iff (says-reaches (t .count) (inherits t) c x) (λ r. walk-reached (r .present) (r .walk), reached-walk)
 
-  says-demanded : (c b : ℕ) → Says (demands t c b) (Demanded t c b)
+  pub says-demanded : (c b : ℕ) → Says (demands t c b) (Demanded t c b)
   unfolding listsMandatory
   says-demanded c b = says-iff (says-collects (t .count) (inherits t) (listsMandatory t) c b) (to, from)
     where
@@ -109,12 +104,14 @@ in-set v n f x e l says = (
   λ p. ap (λ (w : List ℕ). bit w x) e ∙ says-member (setOf n f) x .holds (member-within n f x l ∙ says .passes p),
 )
 
-pub kept-sound : (s : Stores) → Fresh s → (c : ℕ) → c < 128 → KeptSound s c
-kept-sound s fresh c l = let t = schemaOf s .classes in record {
-  reached = λ x k. in-set (reachedIn (s .closure) c) classSet (reaches t c) x (ap (part reachedAt classSet) (fresh c l) ∙ reached-part t c) k
-      (says-reached t c x);
-  demanded = λ b k. in-set (demandedIn (s .closure) c) attributeSet (demands t c) b (ap (part demandedAt attributeSet) (fresh c l) ∙ demanded-part t c) k
+-- the kept sets of a class that are afresh
+pub row-sound : (t : Table) (closure : List ℕ) (c : ℕ) → closureAt closure c ≡ closureRow t c → KeptAre closure c (Reached t c) (Demanded t c) (Allowed t c)
+row-sound t closure c e = record {
+  reached = λ x k. in-set (reachedIn closure c) classSet (reaches t c) x (ap (part reachedAt classSet) e ∙ reached-part t c) k (says-reached t c x);
+  demanded = λ b k. in-set (demandedIn closure c) attributeSet (demands t c) b (ap (part demandedAt attributeSet) e ∙ demanded-part t c) k
       (says-demanded t c b);
-  allowed = λ b k. in-set (allowedIn (s .closure) c) attributeSet (allows t c) b (ap (part allowedAt attributeSet) (fresh c l) ∙ allowed-part t c) k
-      (says-allowed t c b);
+  allowed = λ b k. in-set (allowedIn closure c) attributeSet (allows t c) b (ap (part allowedAt attributeSet) e ∙ allowed-part t c) k (says-allowed t c b);
 }
+
+pub kept-sound : (s : Stores) → Fresh s → (c : ℕ) → c < 128 → KeptSound s c
+kept-sound s fresh c l = row-sound (schemaOf s .classes) (s .closure) c (fresh c l)

@@ -2,7 +2,7 @@ use mathlib.Core.Path.{_∙_, ap, sym}
 use lib.ListN.{length}
 use Rattle.schema.specs.Store.{tableIn}
 use Rattle.schema.specs.declared.number.TableId.the-variants.{Classes}
-use Rattle.closure_change.proofs.Holding.{row-long}
+use Rattle.closure_change.specs.KeptLaws.{kept-length}
 use Rattle.closure_change.proofs.Joining.{one-named, not-named}
 use borrow.Author.Needs.{needs}
 use Rattle.closure_change.proofs.added.join_named.Statement.{statement}
@@ -17,7 +17,7 @@ closure-row-requires c κs = search needs
 join-requires : tie.Need-join-requires
 join-requires c κs =
     let start = c .before .before .before .before .before .before .before in
-    ap length (c .closure-row .ensures) ∙ row-long (start .args .closure .now) (start .pre .0 .1) (start .args .y .0) (start .pre .1 .1) ∙ sym
+    ap length (c .closure-row .ensures) ∙ kept-length (start .args .closure .now) (start .pre .0 .1) (start .args .y .0) (start .pre .1 .1) ∙ sym
     (start .pre .1 .2)
 
 same-length : tie.Need-same-length

@@ -1,6 +1,7 @@
 use mathlib.Core.Path.{_∙_, ap, ap₂}
 use lib.ListN.{length}
-use Rattle.closure_change.proofs.Holding.{row-long, demanded-long}
+use Rattle.closure_change.proofs.Holding.{demanded-long}
+use Rattle.closure_change.specs.KeptLaws.{kept-length}
 use mathlib.Core.Bool.{not}
 use Rattle.prelude.specs.Part.{part}
 use Rattle.sets.specs.Sets.{subset}
@@ -16,7 +17,7 @@ closure-row-requires c κs = search needs
 part-of-requires : tie.Need-part-of-requires
 part-of-requires c κs =
     let start = c .before .before in
-    rw (c .closure-row .ensures) (omega (arith, row-long (start .args .closure .now) (start .pre .0) (start .args .a .0) (start .pre .1)))
+    rw (c .closure-row .ensures) (omega (arith, kept-length (start .args .closure .now) (start .pre .0) (start .args .a .0) (start .pre .1)))
 
 closure-row-requires-2 : tie.Need-closure-row-requires-2
 closure-row-requires-2 c κs = search needs
@@ -24,7 +25,7 @@ closure-row-requires-2 c κs = search needs
 part-of-requires-2 : tie.Need-part-of-requires-2
 part-of-requires-2 c κs =
     let start = c .before .before .before .before in
-    rw (c .closure-row2 .ensures) (omega (arith, row-long (start .args .closure .now) (start .pre .0) (start .args .k .0) (start .pre .2)))
+    rw (c .closure-row2 .ensures) (omega (arith, kept-length (start .args .closure .now) (start .pre .0) (start .args .k .0) (start .pre .2)))
 
 is-subset-requires : tie.Need-is-subset-requires
 is-subset-requires c κs =

@@ -1,4 +1,5 @@
-use Rattle.closure_change.proofs.Holding.{held-beyond, held-there, row-long}
+use Rattle.closure_change.proofs.Holding.{held-beyond, held-there}
+use Rattle.closure_change.specs.KeptLaws.{kept-length}
 use mathlib.Core.Path.{_∙_, ap}
 use Rattle.prelude.specs.Part.{part}
 use Rattle.sets.specs.Sets.{member}
@@ -19,7 +20,7 @@ closure-row-requires c κs = search needs
 part-of-requires : tie.Need-part-of-requires
 part-of-requires c κs =
     let start = c .before .before .before in
-    rw (c .closure-row .ensures) (omega (arith, row-long (start .args .closure .now) (start .pre .0) (start .args .c) (start .pre .1)))
+    rw (c .closure-row .ensures) (omega (arith, kept-length (start .args .closure .now) (start .pre .0) (start .args .c) (start .pre .1)))
 
 has-requires : tie.Need-has-requires
 has-requires c κs = search needs

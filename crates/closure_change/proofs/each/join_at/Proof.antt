@@ -1,4 +1,5 @@
-use Rattle.closure_change.proofs.Holding.{row-back, row-lent, row-long}
+use Rattle.closure_change.proofs.Holding.{row-back, row-lent}
+use Rattle.closure_change.specs.KeptLaws.{kept-length}
 use mathlib.Core.Path.{_∙_, ap, refl}
 use Rattle.sets.specs.Sets.{union}
 use Rattle.schema.specs.Store.{closureAt}
@@ -33,7 +34,7 @@ returns c =
     let c₁ = c .before .before in
     let start = c₁ .before .before .before .before .before in
     row-back (start .args .closure .now) (start .pre .0) (start .args .c .0) (start .pre .1) _ _ _ (union (closureAt (start .args .closure .now)
-    (start .args .c .0)) (start .args .more .now)) refl refl (union-length _ _ ∙ row-long (start .args .closure .now) (start .pre .0)
+    (start .args .c .0)) (start .args .more .now)) refl refl (union-length _ _ ∙ kept-length (start .args .closure .now) (start .pre .0)
     (start .args .c .0) (start .pre .1)) (c₁ .join .ensures ∙ ap (λ row. union row (start .args .more .now)) (row-lent (start .args .closure .now)
     (start .pre .0) (start .args .c .0) (start .pre .1) _ _ refl refl))
 
