@@ -1,0 +1,23 @@
+//! The schema keeper at the command line: words into the keeper's bytes, and its
+//! answers back into words. What decides is the proved library alone.
+
+pub mod arguments;
+pub mod changes;
+mod columns;
+pub mod commands;
+pub mod failure;
+mod format_page;
+mod guess;
+pub mod input;
+pub mod ldif;
+pub mod numbers;
+mod opened;
+pub mod refusal;
+pub mod rows;
+mod save;
+pub mod sheet;
+pub mod stores;
+pub mod text;
+mod through;
+
+pub use commands::{Io, run};

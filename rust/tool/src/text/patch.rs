@@ -1,0 +1,128 @@
+//! A text rewritten after changes: what is not touched stays as it was written,
+//! comments too.
+
+use super::write::{block, head, lines};
+use crate::rows::{RowId, Schema};
+
+/// The text of the schema after changes, from the text of the one before. Lines
+/// of a row whose word says the same as before stay; others are put in place of
+/// the first line with their word, or behind the row's last line; added rows
+/// come last.
+pub fn patched(text: &str, before: &Schema, after: &Schema) -> String {
+    let mut rows = Rows {
+        before,
+        after,
+        next: [0; 2],
+        row: None,
+    };
+    let mut written = Vec::new();
+    let mut pending: Vec<&str> = Vec::new();
+    let mut seen = Vec::new();
+    for line in text.lines() {
+        let word = first_word(line);
+        if matches!(word, Some("attribute" | "class")) {
+            written.extend(rows.missing(&seen));
+            seen.clear();
+            rows.begin(word == Some("attribute"));
+        }
+        if word.is_some() {
+            written.extend(pending.drain(..).map(str::to_owned));
+            written.extend(rows.line(line, &mut seen));
+        } else {
+            pending.push(line);
+        }
+    }
+    written.extend(rows.missing(&seen));
+    written.extend(pending.drain(..).map(str::to_owned));
+    let ending = if text.contains("\r\n") { "\r\n" } else { "\n" };
+    let added = rows
+        .added()
+        .map(|row| format!("\n{}", block(after, row)).replace('\n', ending));
+    let old: String = written
+        .iter()
+        .map(|line| format!("{line}{ending}"))
+        .collect();
+    old + &added.collect::<String>()
+}
+
+/// The first word of a line, without its comment.
+fn first_word(line: &str) -> Option<&str> {
+    line.split('#').next()?.split_whitespace().next()
+}
+
+/// The rows of a text, one after the other.
+struct Rows<'a> {
+    before: &'a Schema,
+    after: &'a Schema,
+    next: [usize; 2],
+    row: Option<RowId>,
+}
+
+impl Rows<'_> {
+    /// The next row begins, an attribute or a class.
+    fn begin(&mut self, is_attribute: bool) {
+        let next = &mut self.next[usize::from(!is_attribute)];
+        let number = *next;
+        *next += 1;
+        self.row = Some(match is_attribute {
+            true => RowId::attribute(number),
+            false => RowId::class(number),
+        });
+    }
+
+    /// What a row says under a word, before and after; a row's head is under the
+    /// empty word.
+    fn said(&self, word: &str) -> Option<[Option<String>; 2]> {
+        let row = self.row?;
+        let said = |schema: &Schema| match word {
+            "attribute" | "class" => Some(head(schema, row)),
+            _ => lines(schema, row)
+                .into_iter()
+                .find(|line| first_word(line) == Some(word)),
+        };
+        Some([said(self.before), said(self.after)])
+    }
+
+    /// A line as it is to be written, if at all.
+    fn line(&self, line: &str, seen: &mut Vec<String>) -> Option<String> {
+        let word = first_word(line)?;
+        let again = seen.iter().any(|seen| seen == word);
+        seen.push(word.to_owned());
+        match self.said(word) {
+            Some([before, after]) if before != after => {
+                let after = after.filter(|_| !again)?;
+                let indent: String = line
+                    .chars()
+                    .take_while(|letter| letter.is_whitespace())
+                    .collect();
+                let comment = line
+                    .split_once('#')
+                    .map(|(_, comment)| format!("  #{comment}"));
+                Some(indent + &after + &comment.unwrap_or_default())
+            }
+            _ => Some(line.to_owned()),
+        }
+    }
+
+    /// Lines of the row that it did not have before.
+    fn missing(&self, seen: &[String]) -> Vec<String> {
+        let Some(row) = self.row else {
+            return Vec::new();
+        };
+        let before = lines(self.before, row);
+        let is_new = |line: &String| {
+            let word = first_word(line).unwrap_or_default();
+            !before.contains(line) && !seen.iter().any(|seen| seen == word)
+        };
+        let lines = lines(self.after, row).into_iter().filter(is_new);
+        lines.map(|line| format!("  {line}")).collect()
+    }
+
+    /// The rows that the text did not have.
+    fn added(&self) -> impl Iterator<Item = RowId> {
+        let next = self.next;
+        self.after
+            .rows()
+            .filter(move |row| row.number >= next[row.table as usize])
+    }
+}
