@@ -5,6 +5,7 @@ pub mod arguments;
 pub mod changes;
 mod columns;
 pub mod commands;
+mod diff;
 pub mod failure;
 mod format_page;
 mod guess;

@@ -2,7 +2,10 @@
 
 mod change;
 mod check;
+mod diff;
 mod explain;
+mod export;
+mod import;
 mod list;
 mod show;
 mod tree;
@@ -56,6 +59,9 @@ pub const COMMANDS: &[&Command] = &[
     &tree::COMMAND,
     &explain::COMMAND,
     &change::COMMAND,
+    &diff::COMMAND,
+    &import::COMMAND,
+    &export::COMMAND,
 ];
 
 /// Does what a command line asks for and gives the exit code: 0 done, 1 refused,

@@ -50,11 +50,18 @@ impl Record {
 pub fn records(text: &str) -> Result<Vec<Record>, String> {
     let mut records = vec![Record::default()];
     for (line, text) in unfolded(text) {
-        let last = records.last_mut().filter(|_| !text.is_empty());
-        match last {
-            None => records.push(Record::default()),
-            Some(_) if text == "-" => {}
-            Some(record) => record.values.push(value(line, &text)?),
+        let value = match text.as_str() {
+            "" => None,
+            "-" => continue,
+            text => Some(value(line, text)?),
+        };
+        // A new name begins a new record, also where files were put together
+        // without an empty line between them.
+        if value.as_ref().is_none_or(|value| value.name == "dn") {
+            records.push(Record::default());
+        }
+        if let Some(record) = records.last_mut() {
+            record.values.extend(value);
         }
     }
     let is_version =
