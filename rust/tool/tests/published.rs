@@ -27,8 +27,13 @@ fn import(ldif: &[u8], names: &[&str]) -> Ran {
     fed(&words, ldif)
 }
 
-/// Lower ends that equal their upper ends, left out, as the script does it.
+/// Lower ends that equal their upper ends left out, and replica links as octet
+/// strings, as rust/import-published does it.
 fn mended(text: &str) -> String {
+    let text = text.replace(
+        "  syntax 10 127\n  object 2a864886f71401010106\n",
+        "  syntax 10 4\n",
+    );
     let mut lines: Vec<&str> = Vec::new();
     for line in text.lines() {
         let same =
