@@ -2,6 +2,7 @@
 //! told apart by content.
 
 use crate::failure::Failure;
+use crate::rows::printable;
 use std::ffi::OsStr;
 use std::fs::File;
 use std::io::Read;
@@ -60,7 +61,7 @@ impl Given {
             let words = format!("{name}: is longer than {LONGEST} bytes, so it is no schema");
             return Err(Failure::unusable(words));
         }
-        let form = form(&bytes);
+        let (name, form) = (printable(&name), form(&bytes));
         Ok(Given { name, bytes, form })
     }
 

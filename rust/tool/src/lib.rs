@@ -13,6 +13,7 @@ pub mod input;
 pub mod ldif;
 pub mod numbers;
 mod opened;
+mod page;
 pub mod refusal;
 pub mod rows;
 mod save;

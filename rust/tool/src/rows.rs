@@ -289,6 +289,16 @@ pub fn shown(name: &[u8]) -> String {
     name.iter().map(letter).collect()
 }
 
+/// Words as they can be shown on a terminal: what would steer it is written out.
+pub fn printable(words: &str) -> String {
+    let letter = |letter: char| match letter {
+        '\n' => letter.to_string(),
+        _ if letter.is_control() => letter.escape_default().to_string(),
+        _ => letter.to_string(),
+    };
+    words.chars().map(letter).collect()
+}
+
 /// An object identifier as people write it.
 pub fn dotted(arcs: &[u32]) -> String {
     let arcs: Vec<_> = arcs.iter().map(u32::to_string).collect();

@@ -7,7 +7,7 @@ use crate::failure::Failure;
 use crate::input::{Form, Given, LONGEST};
 use crate::opened::{Opened, held, sheet_of, unwritten};
 use crate::refusal::{asked, headline};
-use crate::rows::Schema;
+use crate::rows::{Schema, printable};
 use crate::save::Locked;
 use crate::stores::Stores;
 use crate::text::patched;
@@ -183,11 +183,11 @@ impl Session {
             match self.one(change)? {
                 Ok(line) => {
                     tally.made += 1;
-                    io.say(&format!("done: {line}\n"))?;
+                    io.say(&printable(&format!("done: {line}\n")))?;
                 }
                 Err(line) => {
                     tally.refused += 1;
-                    io.say(&format!("refused {line}\n"))?;
+                    io.say(&printable(&format!("refused {line}\n")))?;
                     if !each {
                         break;
                     }

@@ -6,6 +6,7 @@ use crate::failure::Failure;
 use crate::input::{Form, Given};
 use crate::ldif::import;
 use crate::opened::{held, loaded, unwritten};
+use crate::rows::printable;
 use crate::sheet::encode;
 use crate::text::written;
 
@@ -44,7 +45,7 @@ fn act(arguments: &Arguments, io: &mut Io) -> Result<(), Failure> {
     let import = import(&given.text(), &names).map_err(unusable)?;
     for note in &import.notes {
         // Notes are for people; nothing hangs on them.
-        let _ = writeln!(io.err, "{}: {note}", given.name);
+        let _ = writeln!(io.err, "{}: {}", given.name, printable(note));
     }
     let sheet = encode(&import.schema).map_err(unusable)?;
     let stores = loaded(&given.name, &sheet, Some(&import.lines));

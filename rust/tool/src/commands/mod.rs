@@ -7,12 +7,17 @@ mod explain;
 mod export;
 mod import;
 mod list;
+mod man;
+mod page;
 mod show;
 mod tree;
+
+pub use tree::children;
 
 use crate::arguments::Arguments;
 use crate::failure::Failure;
 use crate::opened::Opened;
+use crate::rows::printable;
 use std::ffi::OsString;
 use std::io::{Read, Write};
 
@@ -62,6 +67,8 @@ pub const COMMANDS: &[&Command] = &[
     &diff::COMMAND,
     &import::COMMAND,
     &export::COMMAND,
+    &page::COMMAND,
+    &man::COMMAND,
 ];
 
 /// Does what a command line asks for and gives the exit code: 0 done, 1 refused,
@@ -74,7 +81,7 @@ pub fn run(words: &[OsString], io: &mut Io) -> u8 {
     let flushed = io.out.flush().is_ok();
     if let Some(words) = failure.words() {
         // Nobody is left to tell where this fails too.
-        let _ = writeln!(io.err, "{}", words.trim_end());
+        let _ = writeln!(io.err, "{}", printable(words.trim_end()));
     }
     if flushed { failure.code() } else { 2 }
 }
