@@ -1,6 +1,7 @@
 //! A name that is nowhere, and the one that may be meant.
 
-use crate::rows::{RowId, Schema, Table, shown};
+use crate::rows::{RowId, Schema, Table};
+use crate::words::shown;
 
 /// That no row of the table has this name, and what may be meant instead.
 pub fn nearest(schema: &Schema, table: Table, name: &str) -> String {

@@ -2,7 +2,7 @@
 //! told apart by content.
 
 use crate::failure::Failure;
-use crate::rows::printable;
+use crate::words::printable;
 use std::ffi::OsStr;
 use std::fs::File;
 use std::io::Read;

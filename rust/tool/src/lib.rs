@@ -21,5 +21,6 @@ pub mod sheet;
 pub mod stores;
 pub mod text;
 mod through;
+mod words;
 
 pub use commands::{Io, run};

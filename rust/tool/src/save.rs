@@ -23,10 +23,11 @@ impl Locked {
         // What a link leads to is replaced, not the link.
         let path = fs::canonicalize(path).map_err(cannot)?;
         loop {
-            let file = File::open(&path).map_err(cannot)?;
-            if !file.metadata().map_err(cannot)?.is_file() {
+            // Looked at before it is opened, which would wait where it is a pipe.
+            if !fs::metadata(&path).map_err(cannot)?.is_file() {
                 return Err(unusable("is no file, so it cannot be replaced".to_owned()));
             }
+            let file = File::open(&path).map_err(cannot)?;
             lock(&file, &name, err)
                 .map_err(|error| unusable(format!("cannot be locked: {error}")))?;
             // Whoever held the lock may have put a new file here.

@@ -186,6 +186,34 @@ fn refusals_name_the_rows_that_they_speak_of() {
 }
 
 #[test]
+fn a_new_guid_can_be_had() {
+    let change = |name: &str| {
+        format!(
+            "add attribute {name} 2.999.{}; guid new; syntax 9 2",
+            name.len()
+        )
+    };
+    let (ran, _) = changed("forest.sheet", &[&change("one"), &change("other")]);
+    assert_eq!(ran.code, 0, "{}", ran.text());
+}
+
+#[test]
+fn a_text_that_is_not_utf_8_is_not_rewritten() {
+    let folder = folder("latin");
+    let mut text = fs::read("samples/forest.schema").unwrap();
+    text.extend(b"# Fl\xe4che\n");
+    let file = kept(&folder, "latin.schema", &text);
+    assert!(done(&["check", &file]).contains("accepted"));
+    let words = refused(2, &["change", &file, SOUND]);
+    assert!(
+        words.contains("is not UTF-8, so its comments could not be kept"),
+        "{words}"
+    );
+    assert!(fs::read(&file).unwrap() == text);
+    let _ = fs::remove_dir_all(folder);
+}
+
+#[test]
 fn one_change_may_be_given_as_plain_words() {
     let (ran, _) = changed(
         "forest.sheet",

@@ -10,26 +10,21 @@ use sheet_text::Source;
 /// number without a row, so that the keeper refuses it; a row that cannot be
 /// written at all is told here.
 pub fn bytes(change: &Change, schema: &Schema) -> Result<Vec<u8>, String> {
-    let number = |table, name: &str| number(schema, table, name);
-    match change {
+    let number = |table, name: &str| number(schema, table, name).to_be_bytes();
+    let target = |table, name: &str| field(0x20, &number(table, name));
+    let (tag, value) = match change {
         Change::Add {
             table,
             block,
             above,
-        } => added(*table, block, *above, schema),
+        } => return added(*table, block, *above, schema),
         Change::Range { name, lower, upper } => {
-            let mut value = target(number(Table::Attributes, name))?;
-            for (tag, end) in [(0x0A, lower), (0x0B, upper)] {
-                if let Some(end) = end {
-                    value.extend(field(tag, &end.to_be_bytes())?);
-                }
-            }
-            field(0x42, &value)
+            let ends = [end(0x0A, *lower)?, end(0x0B, *upper)?].concat();
+            (0x42, [target(Table::Attributes, name)?, ends].concat())
         }
         Change::Rename { table, name, to } => {
-            let mut value = target(number(*table, name))?;
-            value.extend(field(0x01, to.as_bytes())?);
-            field(0x43 + class_step(*table), &value)
+            let value = [target(*table, name)?, field(0x01, to.as_bytes())?].concat();
+            (0x43 + class_step(*table), value)
         }
         Change::State {
             active,
@@ -37,7 +32,7 @@ pub fn bytes(change: &Change, schema: &Schema) -> Result<Vec<u8>, String> {
             name,
         } => {
             let tag = if *active { 0x47 } else { 0x45 };
-            field(tag + class_step(*table), &target(number(*table, name))?)
+            (tag + class_step(*table), target(*table, name)?)
         }
         Change::Entry {
             add,
@@ -45,21 +40,23 @@ pub fn bytes(change: &Change, schema: &Schema) -> Result<Vec<u8>, String> {
             class,
             entry,
         } => {
-            let mut value = target(number(Table::Classes, class))?;
-            value.extend(field(0x21, &[list.tag()])?);
-            value.extend(field(0x22, &number(list.table(), entry).to_be_bytes())?);
-            field(if *add { 0x49 } else { 0x4A }, &value)
+            let which = field(0x21, &[list.tag()])?;
+            let entry = field(0x22, &number(list.table(), entry))?;
+            let value = [target(Table::Classes, class)?, which, entry].concat();
+            (if *add { 0x49 } else { 0x4A }, value)
         }
-    }
+    };
+    field(tag, &value)
+}
+
+/// An end of a range, where it is given.
+fn end(tag: u8, end: Option<i32>) -> Result<Vec<u8>, String> {
+    end.map_or(Ok(Vec::new()), |end| field(tag, &end.to_be_bytes()))
 }
 
 /// The tag of a class's change follows that of an attribute's.
 fn class_step(table: Table) -> u8 {
     u8::from(table == Table::Classes)
-}
-
-fn target(number: u16) -> Result<Vec<u8>, String> {
-    field(0x20, &number.to_be_bytes())
 }
 
 fn number(schema: &Schema, table: Table, name: &str) -> u16 {

@@ -3,10 +3,12 @@
 
 mod after;
 mod bytes;
+mod fresh;
 mod parse;
 
 pub use after::after;
 pub use bytes::bytes;
+pub use fresh::with_guids;
 pub use parse::{parse_file, parse_words};
 
 use crate::rows::{List, RowId, Schema, Table};

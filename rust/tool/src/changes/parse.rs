@@ -62,24 +62,25 @@ fn one(text: &str) -> Result<Vec<Change>, String> {
     })
 }
 
+/// The words that begin a change.
+const VERBS: [&str; 6] = [
+    "add",
+    "remove",
+    "rename",
+    "range",
+    "deactivate",
+    "reactivate",
+];
+
 fn is_verb(word: &str) -> bool {
-    [
-        "add",
-        "remove",
-        "rename",
-        "range",
-        "deactivate",
-        "reactivate",
-    ]
-    .contains(&word)
+    VERBS.contains(&word)
 }
 
 fn change(words: &[&str], above: usize) -> Result<Change, String> {
     let own = |word: &&str| (*word).to_owned();
     match words {
         ["add", word @ ("attribute" | "class"), head @ ..] => {
-            let table = table(word)?;
-            let block = format!("{word} {}\n", head.join(" "));
+            let (table, block) = (table(word)?, format!("{word} {}\n", head.join(" ")));
             Ok(Change::Add {
                 table,
                 block,
@@ -88,31 +89,29 @@ fn change(words: &[&str], above: usize) -> Result<Change, String> {
         }
         [verb @ ("add" | "remove"), word, class, entry] => {
             let list = LISTS.iter().find(|(known, _)| known == word);
-            let (_, list) = list.ok_or_else(|| unknown(words))?;
-            let (class, entry) = (own(class), own(entry));
+            let (_, list) = *list.ok_or_else(|| unknown(words))?;
+            let (add, class, entry) = (*verb == "add", own(class), own(entry));
             Ok(Change::Entry {
-                add: *verb == "add",
-                list: *list,
+                add,
+                list,
                 class,
                 entry,
             })
         }
-        ["rename", word, name, to] => Ok(Change::Rename {
-            table: table(word)?,
-            name: own(name),
-            to: own(to),
-        }),
-        ["range", "attribute", name, lower, upper] => Ok(Change::Range {
-            name: own(name),
-            lower: end(lower)?,
-            upper: end(upper)?,
-        }),
+        ["rename", word, name, to] => {
+            let (table, name, to) = (table(word)?, own(name), own(to));
+            Ok(Change::Rename { table, name, to })
+        }
+        ["range", "attribute", name, lower, upper] => {
+            let (name, lower, upper) = (own(name), end(lower)?, end(upper)?);
+            Ok(Change::Range { name, lower, upper })
+        }
         [verb @ ("deactivate" | "reactivate"), word, name] => {
-            let active = *verb == "reactivate";
+            let (active, table, name) = (*verb == "reactivate", table(word)?, own(name));
             Ok(Change::State {
                 active,
-                table: table(word)?,
-                name: own(name),
+                table,
+                name,
             })
         }
         _ => Err(unknown(words)),

@@ -6,9 +6,9 @@ use crate::failure::Failure;
 use crate::input::{Form, Given};
 use crate::ldif::import;
 use crate::opened::{held, loaded, unwritten};
-use crate::rows::printable;
 use crate::sheet::encode;
 use crate::text::written;
+use crate::words::printable;
 
 pub const COMMAND: Command = Command {
     name: "import",

@@ -5,8 +5,9 @@ use crate::arguments::Arguments;
 use crate::columns::aligned;
 use crate::failure::Failure;
 use crate::opened::Opened;
-use crate::rows::{BASE, Common, RowId, Schema, dotted};
+use crate::rows::{BASE, Common, RowId, Schema};
 use crate::stores::Kept;
+use crate::words::dotted;
 
 pub const COMMAND: Command = Command {
     name: "list",

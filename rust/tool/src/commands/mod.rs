@@ -9,6 +9,7 @@ mod import;
 mod list;
 mod man;
 mod page;
+mod session;
 mod show;
 mod tree;
 
@@ -17,7 +18,7 @@ pub use tree::children;
 use crate::arguments::Arguments;
 use crate::failure::Failure;
 use crate::opened::Opened;
-use crate::rows::printable;
+use crate::words::printable;
 use std::ffi::OsString;
 use std::io::{Read, Write};
 

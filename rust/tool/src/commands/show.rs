@@ -7,9 +7,10 @@ use crate::columns::aligned;
 use crate::failure::Failure;
 use crate::guess::nearest_row;
 use crate::opened::Opened;
-use crate::rows::{Attribute, Class, Common, List, RowId, Schema, Table, dotted, guid_text, hex};
+use crate::rows::{Attribute, Class, Common, List, RowId, Schema, Table};
 use crate::stores::Kept;
 use crate::through::{Coming, allowed, demanded};
+use crate::words::{dotted, guid_text, hex};
 
 pub const COMMAND: Command = Command {
     name: "show",
@@ -116,7 +117,7 @@ fn users(schema: &Schema, row: RowId) -> String {
     };
     let users = schema.classes.iter().filter(names);
     let users: Vec<_> = users
-        .map(|class| crate::rows::shown(&class.common.name))
+        .map(|class| crate::words::shown(&class.common.name))
         .collect();
     users.join(", ")
 }

@@ -1,7 +1,8 @@
 //! Differences that no change can make.
 
 use super::keys::{Key, keys, keys_of};
-use crate::rows::{Attribute, Class, Common, List, RowId, Schema, Table, dotted, hex};
+use crate::rows::{Attribute, Class, Common, List, RowId, Schema, Table};
+use crate::words::{dotted, hex};
 
 /// All differences between two schemas that no change can make, in words.
 pub fn fixed(old: &Schema, new: &Schema) -> Vec<String> {

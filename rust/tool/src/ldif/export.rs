@@ -2,7 +2,8 @@
 
 use super::base64::encoded;
 use super::drafts::LISTS;
-use crate::rows::{Attribute, BASE, Class, Common, List, RowId, Schema, dotted};
+use crate::rows::{Attribute, BASE, Class, Common, List, RowId, Schema};
+use crate::words::dotted;
 
 /// A schema as LDIF, attributes first and superclasses before their classes, so
 /// that entries can be added in this order. Entries stand under the base.
@@ -43,7 +44,7 @@ fn folded(line: &str) -> String {
 }
 
 fn common(row: &Common, kind: &str, identifier: &str) -> Vec<String> {
-    let name = crate::rows::shown(&row.name);
+    let name = crate::words::shown(&row.name);
     let mut lines = vec![
         format!("objectClass: {kind}"),
         format!("cn: {name}"),

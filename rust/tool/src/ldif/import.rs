@@ -3,8 +3,9 @@
 use super::drafts::{ClassDraft, Drafts, Reference, drafts};
 use super::only::{is_superior, needed};
 use super::records::records;
-use crate::rows::{Class, RowId, Schema, Table, dotted};
+use crate::rows::{Class, RowId, Schema, Table};
 use crate::text::Lines;
+use crate::words::dotted;
 use std::collections::{BTreeMap, BTreeSet, HashMap};
 
 /// A schema taken in.
@@ -196,7 +197,7 @@ fn class(
 /// A name that is nowhere, told by entry and line.
 fn nowhere(draft: &ClassDraft, table: Table, reference: &Reference) -> String {
     let Reference { name, word, line } = reference;
-    let class = crate::rows::shown(&draft.row.common.name);
+    let class = crate::words::shown(&draft.row.common.name);
     format!(
         "line {line}: entry `{class}`: {word}: no {} is named `{}`",
         table.word(),

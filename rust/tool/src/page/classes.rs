@@ -2,9 +2,10 @@
 
 use super::html::{anchor, escaped, link, links, marks, table};
 use super::picture::category_class;
-use crate::rows::{List, RowId, Schema, dotted, guid_text};
+use crate::rows::{List, RowId, Schema};
 use crate::stores::{Kept, Stores};
 use crate::through::{Coming, allowed, demanded};
+use crate::words::{dotted, guid_text};
 
 /// A class with all that is to be known of it.
 pub fn section(schema: &Schema, stores: &Stores, class: usize) -> String {

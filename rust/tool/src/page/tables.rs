@@ -1,8 +1,9 @@
 //! The tables of attributes and classes.
 
 use super::html::{anchor, escaped, link, links, marks, table};
-use crate::rows::{Attribute, List, RowId, Schema, Table, dotted};
+use crate::rows::{Attribute, List, RowId, Schema, Table};
 use crate::stores::{Kept, Stores};
+use crate::words::dotted;
 
 /// All attributes.
 pub fn attributes(schema: &Schema) -> String {

@@ -4,9 +4,10 @@ use super::named::named;
 use super::rules::broken;
 use crate::changes::{Change, after, list_word};
 use crate::guess::nearest;
-use crate::rows::{Class, List, RowId, Schema, Table, joined};
+use crate::rows::{Class, List, RowId, Schema, Table};
 use crate::sheet::located;
 use crate::stores::{Kept, Stores};
+use crate::words::joined;
 use keeper::Answer;
 
 /// What a refusal of a change speaks of, in words, from the rows before it.

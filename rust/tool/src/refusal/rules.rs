@@ -2,9 +2,8 @@
 //! does.
 
 use super::named::named;
-use crate::rows::{
-    Attribute, Class, Common, List, RowId, Schema, Table, dotted, guid_text, hex, joined,
-};
+use crate::rows::{Attribute, Class, Common, List, RowId, Schema, Table};
+use crate::words::{dotted, guid_text, hex, joined};
 
 /// What of a row breaks a rule, its rivals too, in words.
 pub fn broken(number: u64, schema: &Schema, row: RowId) -> String {
@@ -61,96 +60,91 @@ fn rivals(schema: &Schema, has_key: impl Fn(RowId) -> bool) -> String {
 
 fn attribute(number: u64, schema: &Schema, row: &Attribute) -> Option<String> {
     let with = |has: &dyn Fn(&Attribute) -> bool| {
-        let attribute = |id: RowId| {
-            schema
-                .attributes
-                .get(id.number)
-                .filter(|_| id.table == Table::Attributes)
-        };
-        rivals(schema, |row| attribute(row).is_some_and(has))
+        let attributes = schema.attributes.iter().enumerate();
+        let rows = attributes.filter(|(_, other)| has(other));
+        let told: Vec<_> = rows
+            .map(|(at, _)| schema.told(RowId::attribute(at)))
+            .collect();
+        joined(&told)
     };
-    match number {
-        24 => Some(format!(
+    let syntax = row.syntax;
+    Some(match number {
+        24 => format!(
             "mAPIID {} of {}",
             row.mapi?,
             with(&|other| other.mapi == row.mapi)
-        )),
-        25 => Some(format!("its range is {} to {}", row.lower?, row.upper?)),
-        26 => {
-            let (syntax, om_syntax) = (row.syntax, row.om_syntax);
-            Some(format!(
-                "attributeSyntax 2.5.5.{syntax} with oMSyntax {om_syntax}"
-            ))
-        }
+        ),
+        25 => format!("its range is {} to {}", row.lower?, row.upper?),
+        26 => format!(
+            "attributeSyntax 2.5.5.{syntax} with oMSyntax {}",
+            row.om_syntax
+        ),
         27 => {
             let object = hex(&row.object_class).to_uppercase();
-            Some(format!(
-                "attributeSyntax 2.5.5.{} with oMObjectClass {object}",
-                row.syntax
-            ))
+            format!("attributeSyntax 2.5.5.{syntax} with oMObjectClass {object}")
         }
-        28 => Some(format!(
+        28 => format!(
             "linkID {} of {}",
             row.link?,
             with(&|other| other.link == row.link)
-        )),
+        ),
         29 => {
-            let forward = row.link?.checked_sub(1)?;
-            let holders = with(&|other| other.link == Some(forward) && forward != 0);
-            Some(match holders.as_str() {
-                "" => format!("linkID {}, and no attribute has {forward}", forward + 1),
-                _ => format!(
-                    "linkID {}, and {forward} is held by {holders}, which is defunct",
-                    forward + 1
-                ),
-            })
+            let link = row.link?;
+            let forward = link.checked_sub(1)?;
+            match with(&|other| other.link == Some(forward)).as_str() {
+                "" => format!("linkID {link}, and no attribute has {forward}"),
+                held => format!("linkID {link}, and {forward} is held by {held}, which is defunct"),
+            }
         }
+        _ => return None,
+    })
+}
+
+fn class(number: u64, schema: &Schema, at: usize, row: &Class) -> Option<String> {
+    let auxiliaries = [List::FixedAuxiliary, List::OpenAuxiliary];
+    let superiors = [List::FixedSuperior, List::OpenSuperior];
+    match number {
+        17 => not_live(schema, at, row, Table::Attributes),
+        18 => not_live(schema, at, row, Table::Classes),
+        19 => misfits(schema, row, auxiliaries, &[0, 3]),
+        20 => misfits(schema, row, superiors, &[0, 1]),
+        21 => category(schema, at, row),
+        22 => Some("its superclasses do not lead to class 0".to_owned()),
+        23 => naming(schema, row),
         _ => None,
     }
 }
 
-fn class(number: u64, schema: &Schema, at: usize, row: &Class) -> Option<String> {
-    match number {
-        17 => not_live(schema, at, row, Table::Attributes),
-        18 => not_live(schema, at, row, Table::Classes),
-        19 => misfits(
-            schema,
-            row,
-            [List::FixedAuxiliary, List::OpenAuxiliary],
-            &[0, 3],
-        ),
-        20 => misfits(
-            schema,
-            row,
-            [List::FixedSuperior, List::OpenSuperior],
-            &[0, 1],
-        ),
-        21 => {
-            let above = schema.classes.get(usize::from(row.superclass))?;
-            let told = schema.told(RowId::class(row.superclass));
-            let (own, upper) = (row.category_word(), above.category_word());
-            Some(match at {
-                0 => format!("it is {own}, and class 0 must be abstract"),
-                _ => format!("it is {own}, and its superclass, {told}, is {upper}"),
-            })
-        }
-        22 => Some("its superclasses do not lead to class 0".to_owned()),
-        23 => {
-            let naming = RowId::attribute(row.naming?);
-            let attribute = schema.attributes.get(naming.number)?;
-            let values = if attribute.single {
-                "single-valued"
-            } else {
-                "multi-valued"
-            };
-            let syntax = attribute.syntax;
-            Some(format!(
-                "it is named by {}, of syntax 2.5.5.{syntax}, {values}",
-                schema.told(naming)
-            ))
-        }
-        _ => None,
+/// A category that does not fit under the superclass's.
+fn category(schema: &Schema, at: usize, row: &Class) -> Option<String> {
+    let own = row.category_word();
+    if at == 0 {
+        return Some(format!("it is {own}, and class 0 must be abstract"));
     }
+    let above = schema
+        .classes
+        .get(usize::from(row.superclass))?
+        .category_word();
+    let told = schema.told(RowId::class(row.superclass));
+    Some(format!(
+        "it is {own}, and its superclass, {told}, is {above}"
+    ))
+}
+
+/// A naming attribute of another syntax, or with many values.
+fn naming(schema: &Schema, row: &Class) -> Option<String> {
+    let naming = RowId::attribute(row.naming?);
+    let attribute = schema.attributes.get(naming.number)?;
+    let syntax = attribute.syntax;
+    let values = if attribute.single {
+        "single-valued"
+    } else {
+        "multi-valued"
+    };
+    let told = schema.told(naming);
+    Some(format!(
+        "it is named by {told}, of syntax 2.5.5.{syntax}, {values}"
+    ))
 }
 
 /// The rows that a class names and that are not there, not in use or not before

@@ -3,7 +3,8 @@
 use super::decode::decode;
 use super::fields::{Field, fields};
 use crate::format_page;
-use crate::rows::{RowId, joined, shown};
+use crate::rows::RowId;
+use crate::words::{joined, shown};
 
 /// Row, field and bytes around an offset, in lines.
 pub fn located(sheet: &[u8], offset: usize) -> Vec<String> {

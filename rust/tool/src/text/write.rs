@@ -1,8 +1,7 @@
 //! Rows as lines of the text form.
 
-use crate::rows::{
-    Attribute, BASE, Class, Common, List, RowId, Schema, Table, dotted, guid_text, hex,
-};
+use crate::rows::{Attribute, BASE, Class, Common, List, RowId, Schema, Table};
+use crate::words::{dotted, guid_text, hex};
 
 /// A schema as text.
 pub fn written(schema: &Schema) -> String {
