@@ -56,11 +56,16 @@ struct Play<'a> {
 }
 
 impl Play<'_> {
-    /// Tries each step once; those that were not accepted.
+    /// Tries each step once; those that were not accepted. A row goes out of use
+    /// only when nothing else is to be done with it.
     fn pass(&mut self, steps: Vec<Step>) -> Result<Vec<Step>, Failure> {
-        let mut open = Vec::new();
+        let mut open: Vec<Step> = Vec::new();
         for step in steps {
-            let change = step.change(&self.now, self.new);
+            let waits = match step {
+                Step::State(key, false) => open.iter().any(|step| step.concerns(key)),
+                _ => false,
+            };
+            let change = step.change(&self.now, self.new).filter(|_| !waits);
             let made = match change {
                 Some(change) => self.made(change)?,
                 None => false,

@@ -97,6 +97,17 @@ pub fn entries(schema: &Schema, row: RowId, list: List) -> Vec<Key> {
 }
 
 impl Step {
+    /// Whether the step is about a row, or names it as an entry.
+    pub fn concerns(&self, row: Key) -> bool {
+        match self {
+            Step::Add(key, _)
+            | Step::Rename(key, _)
+            | Step::Range(key, ..)
+            | Step::State(key, _) => *key == row,
+            Step::Entry(_, _, class, entry) => *class == row || *entry == row,
+        }
+    }
+
     /// The step as a change to the schema as it is now, in the names of now; none
     /// where a row that it needs is not there yet.
     pub fn change(&self, now: &Schema, new: &Schema) -> Option<Change> {
