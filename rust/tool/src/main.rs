@@ -1,7 +1,7 @@
 //! The program `keeper`.
 
 use std::ffi::OsString;
-use std::io::{self, BufWriter, Write};
+use std::io::{self, BufWriter, IsTerminal, Write};
 use std::process::ExitCode;
 
 fn main() -> ExitCode {
@@ -11,6 +11,7 @@ fn main() -> ExitCode {
         input: &mut io::stdin().lock(),
         out: &mut out,
         err: &mut io::stderr(),
+        is_terminal: io::stdout().is_terminal(),
     };
     let code = tool::run(&words, &mut io);
     // What could not be written was told by `run`, which flushes.

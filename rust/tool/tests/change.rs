@@ -105,79 +105,82 @@ fn rows_are_added_by_lines_of_the_text_form() {
     assert_eq!(said(&change), words);
 }
 
+/// Changes that are refused, and with which words.
+const REFUSALS: &[(&str, &str)] = &[
+    (
+        "rename attribute soilType AREAHA",
+        "13, name taken: attribute 17 `areaHa` and attribute 23 `AREAHA`",
+    ),
+    (
+        "rename attribute soilType 1st",
+        "12, name invalid: attribute 23 `1st`: its name",
+    ),
+    (
+        "rename attribute soilTipe soil",
+        "5, no such row: no attribute is named `soilTipe`; is `soilType` meant?",
+    ),
+    (
+        "rename attribute stand soil",
+        "5, no such row: no attribute is named `stand`, but a class is",
+    ),
+    (
+        "rename attribute mapSheet sheet",
+        "7, wrong state: attribute 22 `mapSheet` is defunct: reactivate it first",
+    ),
+    (
+        "reactivate attribute areaHa",
+        "7, wrong state: attribute 17 `areaHa` is active already",
+    ),
+    (
+        "rename attribute cn commonName",
+        "8, base row: attribute 1 `cn` came with the server",
+    ),
+    (
+        "add optional stand standAge",
+        "10, entry conflict: `standAge` is in the open optional list of `stand` already",
+    ),
+    (
+        "remove optional stand areaHa",
+        "10, entry conflict: `areaHa` is not in the open optional list of `stand`",
+    ),
+    (
+        "deactivate attribute areaHa",
+        "11, still needed: attribute 17 `areaHa` is in use: class 7 `measuredArea` names it in its mandatory attributes",
+    ),
+    (
+        "deactivate class certified",
+        "11, still needed: class 9 `certified` is in use: class 10 `audited` names it in its open auxiliary classes \
+             and class 18 `stand` names it in its open auxiliary classes",
+    ),
+    (
+        "add optional stand mapSheet",
+        "17, attribute not live: class 18 `stand`: it names attribute 22 `mapSheet`, which is defunct, in its open optional attributes",
+    ),
+    (
+        "add auxiliary stand nothing",
+        "18, class not live: no class is named `nothing`",
+    ),
+    (
+        "add auxiliary stand parcel",
+        "19, not an auxiliary: class 18 `stand`: its open auxiliary classes hold class 17 `parcel`, which is structural",
+    ),
+    (
+        "range attribute standAge 5 5",
+        "25, range empty: attribute 27 `standAge`: its range is 5 to 5",
+    ),
+    (
+        "reactivate attribute formerlyOwned",
+        "29, link alone: attribute 56 `formerlyOwned`: linkID 32007, and 32006 is held by attribute 55 `formerOwner`, which is defunct",
+    ),
+    (
+        "add auxiliary samplePlot measuredArea",
+        "30, mandatory differs: `measuredArea` demands `areaHa`, which `samplePlot` does not demand",
+    ),
+];
+
 #[test]
 fn refusals_name_the_rows_that_they_speak_of() {
-    for (change, words) in [
-        (
-            "rename attribute soilType AREAHA",
-            "13, name taken: attribute 17 `areaHa` and attribute 23 `AREAHA`",
-        ),
-        (
-            "rename attribute soilType 1st",
-            "12, name invalid: attribute 23 `1st`: its name",
-        ),
-        (
-            "rename attribute soilTipe soil",
-            "5, no such row: no attribute is named `soilTipe`; is `soilType` meant?",
-        ),
-        (
-            "rename attribute stand soil",
-            "5, no such row: no attribute is named `stand`, but a class is",
-        ),
-        (
-            "rename attribute mapSheet sheet",
-            "7, wrong state: attribute 22 `mapSheet` is defunct: reactivate it first",
-        ),
-        (
-            "reactivate attribute areaHa",
-            "7, wrong state: attribute 17 `areaHa` is active already",
-        ),
-        (
-            "rename attribute cn commonName",
-            "8, base row: attribute 1 `cn` came with the server",
-        ),
-        (
-            "add optional stand standAge",
-            "10, entry conflict: `standAge` is in the open optional list of `stand` already",
-        ),
-        (
-            "remove optional stand areaHa",
-            "10, entry conflict: `areaHa` is not in the open optional list of `stand`",
-        ),
-        (
-            "deactivate attribute areaHa",
-            "11, still needed: attribute 17 `areaHa` is in use: class 7 `measuredArea` names it in its mandatory attributes",
-        ),
-        (
-            "deactivate class certified",
-            "11, still needed: class 9 `certified` is in use: class 10 `audited` names it in its open auxiliary classes \
-             and class 18 `stand` names it in its open auxiliary classes",
-        ),
-        (
-            "add optional stand mapSheet",
-            "17, attribute not live: class 18 `stand`: it names attribute 22 `mapSheet`, which is defunct, in its open optional attributes",
-        ),
-        (
-            "add auxiliary stand nothing",
-            "18, class not live: no class is named `nothing`",
-        ),
-        (
-            "add auxiliary stand parcel",
-            "19, not an auxiliary: class 18 `stand`: its open auxiliary classes hold class 17 `parcel`, which is structural",
-        ),
-        (
-            "range attribute standAge 5 5",
-            "25, range empty: attribute 27 `standAge`: its range is 5 to 5",
-        ),
-        (
-            "reactivate attribute formerlyOwned",
-            "29, link alone: attribute 56 `formerlyOwned`: linkID 32007, and 32006 is held by attribute 55 `formerOwner`, which is defunct",
-        ),
-        (
-            "add auxiliary samplePlot measuredArea",
-            "30, mandatory differs: `measuredArea` demands `areaHa`, which `samplePlot` does not demand",
-        ),
-    ] {
+    for (change, words) in REFUSALS {
         assert_eq!(said(change), format!("refused {words} ({change})"));
     }
     let change = format!("rename attribute soilType {}", "a".repeat(65));
@@ -307,17 +310,27 @@ fn comments_of_a_text_stay() {
             "rename attribute areaHa woodedHa",
             "range attribute memberSince none 2100",
             "add superior stand stand",
+            "remove optional stand siteIndexM",
+            "add optional stand soilType",
+            "rename attribute speciesShare shares",
         ],
     );
     let before = fs::read_to_string("samples/forest.schema").unwrap();
-    let expected = before
-        .replace("\nattribute areaHa ", "\nattribute woodedHa ")
-        .replace("  must areaHa\n", "  must woodedHa\n")
-        .replace("  lower 1823\n", "  upper 2100\n")
-        .replace(
-            "  in organizationalUnit parcel\n",
-            "  in organizationalUnit parcel stand\n",
-        );
+    let expected = [
+        ("\nattribute areaHa ", "\nattribute woodedHa "),
+        ("  must areaHa\n", "  must woodedHa\n"),
+        ("  lower 1823\n", "  upper 2100\n"),
+        (
+            " parcel\n\n# A part of a stand",
+            " parcel stand\n\n# A part of a stand",
+        ),
+        (" siteIndexM stockingPercent", " stockingPercent"),
+        ("speciesShare managedBy\n", "shares managedBy soilType\n"),
+        ("\nattribute speciesShare ", "\nattribute shares "),
+    ];
+    let expected = expected
+        .into_iter()
+        .fold(before, |text, (from, to)| text.replacen(from, to, 1));
     assert_eq!(String::from_utf8(bytes).unwrap(), expected);
 }
 

@@ -160,7 +160,12 @@ fn an_unreadable_sheet_is_told_by_row_field_and_bytes() {
         ),
         "{words}"
     );
-    let long = format!("{}{TOP}", attribute(&"a".repeat(70), "syntax 9 2"));
+    let long = attribute(&"a".repeat(70), "syntax 9 2");
+    assert!(
+        fed(&["check", "-"], long.as_bytes())
+            .err
+            .starts_with("standard input: refused, row at line 5\n")
+    );
     let line = told(&long);
     let expected = "4, unreadable: byte 71 of ";
     assert!(line.starts_with(expected), "{line}");

@@ -193,6 +193,13 @@ fn what_does_not_fit_is_told_by_entry_and_line() {
         changed("TRUE", "yes"),
         format!("{begin} 8: entry `cn`: isSingleValued: neither TRUE nor FALSE")
     );
+}
+
+#[test]
+fn lines_that_are_no_ldif_are_told() {
+    let all = format!("{CN}\n{TOP}\n{PERSON}");
+    let changed = |from: &str, to: &str| import_fault(&all.replacen(from, to, 1));
+    let begin = "standard input: line";
     assert_eq!(
         changed("t3qWv", "t3q"),
         format!("{begin} 15: not base64 behind `::`")

@@ -201,30 +201,33 @@ fn change(random: &mut Random, names: &[&str], words: &[&str]) -> String {
         4 => format!("remove {list} {one} {other}"),
         5 => format!("deactivate {table} {one}"),
         6 => format!("reactivate {table} {one}"),
-        _ => {
-            let guid = format!("{:032x}", random.number());
-            let (syntax, category) = (
-                random.below(18),
-                random
-                    .pick(&["structural", "auxiliary", "88", "abstract"])
-                    .unwrap(),
-            );
-            match table {
-                "attribute" => format!(
-                    "add attribute new{one} 2.999.{}; guid {guid}; syntax {syntax} 64; single",
-                    random.below(9)
-                ),
-                _ => format!(
-                    "add class new{one} 2.999.{}; guid {guid}; {category}; under {other}; may {one}",
-                    random.below(9)
-                ),
-            }
-        }
+        _ => addition(random, table, one, other),
     };
-    match random.once_in(8) {
+    match random.once_in(60) {
         true => reworded(random, &change, words),
         false => change,
     }
+}
+
+/// A row to be added, under one name and another.
+fn addition(random: &mut Random, table: &str, one: &str, other: &str) -> String {
+    let categories = ["structural", "auxiliary", "88", "abstract"];
+    let category = random.pick(&categories).copied().unwrap_or("88");
+    let (guid, syntax, arc) = (random.number(), random.below(18), random.below(9));
+    let head = format!("add {table} new{one} 2.999.{arc}; guid {guid:032x}");
+    match table {
+        "attribute" => format!("{head}; syntax {syntax} 64; single"),
+        _ => format!("{head}; {category}; under {other}; may {one}"),
+    }
+}
+
+/// The names of the forest's rows, and one that is nowhere.
+fn names(text: &str) -> Vec<&str> {
+    let heads = text
+        .lines()
+        .filter(|line| line.starts_with("attribute") || line.starts_with("class"));
+    let names = heads.filter_map(|head| head.split_whitespace().nth(1));
+    names.chain(["nowhere"]).collect()
 }
 
 /// Lists of changes, by the quick call and by the whole one: the same answers.
@@ -233,96 +236,77 @@ fn random_changes() {
     common::top();
     let sheet = fs::read("samples/forest.sheet").unwrap();
     let text = fs::read_to_string("samples/forest.schema").unwrap();
-    let heads = text
-        .lines()
-        .filter(|line| line.starts_with("attribute") || line.starts_with("class"));
-    let names: Vec<&str> = heads
-        .filter_map(|head| head.split_whitespace().nth(1))
-        .chain(["nowhere"])
-        .collect();
-    let words = vocabulary(&text);
+    let (names, words) = (names(&text), vocabulary(&text));
     let folder = folder("random");
     let mut made = 0;
     for number in 0..COUNT / 10 {
         let mut random = Random::nth(4, number);
-        let changes: Vec<String> = (0..10)
-            .map(|_| change(&mut random, &names, &words))
-            .collect();
-        let list = kept(
-            &folder,
-            "changes",
-            changes.join("\n").replace(';', "\n").as_bytes(),
-        );
-        let ran = fed(
-            &["change", "--dry-run", "--each", "--from", &list, "-"],
-            &sheet,
-        );
-        assert_words(&ran, &changes.join("\n"));
-        let whole = fed(
-            &[
+        let changes = (0..10).map(|_| change(&mut random, &names, &words));
+        let changes = changes.collect::<Vec<_>>().join("\n").replace(';', "\n");
+        let list = kept(&folder, "changes", changes.as_bytes());
+        let tried = |option: &str| {
+            let words = [
                 "change",
                 "--dry-run",
                 "--each",
-                "--whole",
+                option,
                 "--from",
                 &list,
                 "-",
-            ],
-            &sheet,
-        );
-        assert_eq!(
-            (ran.code, ran.text(), ran.err),
-            (whole.code, whole.text(), whole.err)
-        );
-        made += whole
-            .out
-            .split(|byte| *byte == b'\n')
-            .filter(|line| line.starts_with(b"done: "))
+            ];
+            fed(&words, &sheet)
+        };
+        let (ran, whole) = (tried("--each"), tried("--whole"));
+        assert_words(&ran, &changes);
+        made += ran
+            .text()
+            .lines()
+            .filter(|line| line.starts_with("done: "))
             .count();
+        assert_eq!(
+            (ran.code, ran.out, ran.err),
+            (whole.code, whole.out, whole.err)
+        );
     }
-    assert!(made > 300, "{made}");
+    assert!(made > 500, "{made}");
     let _ = fs::remove_dir_all(folder);
 }
+
+/// Words of command lines beside the commands themselves.
+const WORDS: [&str; 17] = [
+    "--help",
+    "--each",
+    "--only",
+    "--from",
+    "--title",
+    "--base",
+    "--sheet",
+    "--",
+    "-",
+    "-5",
+    "--x",
+    "13",
+    "stand",
+    "samples/forest.sheet",
+    "samples/refused.sheet",
+    "samples",
+    "samples/forest.txt",
+];
 
 /// Words at random on the command line.
 #[test]
 fn random_command_lines() {
-    let words = [
-        "check", "list", "show", "tree", "explain", "change", "diff", "import", "export", "page",
-        "help", "man",
-    ];
-    let options = [
-        "--help",
-        "--each",
-        "--dry-run",
-        "--only",
-        "--from",
-        "--title",
-        "--base",
-        "--",
-        "-",
-        "-5",
-        "--x",
-        "13",
-    ];
-    let files = [
-        "samples/forest.sheet",
-        "samples/refused.sheet",
-        "samples",
-        "nowhere",
-        "samples/forest.txt",
-    ];
-    let mut all: Vec<&str> = words.to_vec();
-    all.extend(options);
-    all.extend(files);
-    for number in 0..COUNT / 5 {
+    let names = tool::commands::COMMANDS.iter().map(|command| command.name);
+    let names: Vec<&str> = names.chain(["help", "nothing"]).collect();
+    let words: Vec<&str> = names.iter().copied().chain(WORDS).collect();
+    for number in 0..COUNT {
         let mut random = Random::nth(5, number);
-        let mut line: Vec<&str> = vec![random.pick(&words).unwrap()];
-        line.extend((0..random.below(4)).map(|_| *random.pick(&all).unwrap()));
+        let mut line: Vec<&str> = vec![random.pick(&names).unwrap()];
         // A change on the command line could save: a dry run cannot.
         if line[0] == "change" {
             line.push("--dry-run");
         }
+        line.extend((0..random.below(4)).map(|_| *random.pick(&words).unwrap()));
         let ran = fed(&line, b"class top 2.5\n");
         assert_words(&ran, &line.join(" "));
     }

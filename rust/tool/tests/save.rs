@@ -131,14 +131,11 @@ fn an_output_that_cannot_be_written_is_told_and_nothing_is_saved() {
             "the output cannot be written: No space left on device (os error 28)\n"
         );
         // Whoever reads has gone: nothing is said, for nobody asked.
-        let mut keeper = keeper();
-        keeper
-            .args(&words)
-            .stdout(Stdio::piped())
-            .stderr(Stdio::piped());
-        let mut child = keeper.spawn().unwrap();
-        drop(child.stdout.take());
-        let output = child.wait_with_output().unwrap();
+        let (reader, writer) = std::io::pipe().unwrap();
+        drop(reader);
+        let mut keeper = Command::new(env!("CARGO_BIN_EXE_keeper"));
+        let output = keeper.args(&words).stdout(writer).output().unwrap();
+        assert_eq!(output.status.code(), Some(2), "{words:?}");
         assert_eq!(output.stderr, b"", "{words:?}");
     }
     assert!(fs::read(&file).unwrap() == old);

@@ -90,7 +90,8 @@ fn change(words: &[&str], above: usize) -> Result<Change, String> {
         [verb @ ("add" | "remove"), word, class, entry] => {
             let list = LISTS.iter().find(|(known, _)| known == word);
             let (_, list) = *list.ok_or_else(|| unknown(words))?;
-            let (add, class, entry) = (*verb == "add", own(class), own(entry));
+            let (class, entry) = (own(class), own(entry));
+            let add = *verb == "add";
             Ok(Change::Entry {
                 add,
                 list,
@@ -107,7 +108,8 @@ fn change(words: &[&str], above: usize) -> Result<Change, String> {
             Ok(Change::Range { name, lower, upper })
         }
         [verb @ ("deactivate" | "reactivate"), word, name] => {
-            let (active, table, name) = (*verb == "reactivate", table(word)?, own(name));
+            let (table, name) = (table(word)?, own(name));
+            let active = *verb == "reactivate";
             Ok(Change::State {
                 active,
                 table,

@@ -44,7 +44,7 @@ fn act(arguments: &Arguments, io: &mut Io) -> Result<(), Failure> {
     let opened = opened(arguments, COMMAND.usage, io)?;
     if arguments.has("--sheet") {
         let sheet = opened.stores.sheet().map_err(unwritten)?;
-        return Ok(io.out.write_all(&sheet)?);
+        return io.give(&sheet);
     }
     match arguments.has("--text") {
         true => io.say(&written(&opened.schema)),

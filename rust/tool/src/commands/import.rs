@@ -56,9 +56,7 @@ fn act(arguments: &Arguments, io: &mut Io) -> Result<(), Failure> {
             }
             Err(refusal)
         }
-        Ok(stores) if arguments.has("--sheet") => {
-            Ok(io.out.write_all(&stores.sheet().map_err(unwritten)?)?)
-        }
+        Ok(stores) if arguments.has("--sheet") => io.give(&stores.sheet().map_err(unwritten)?),
         Ok(stores) => io.say(&written(&held(&stores)?)),
     }
 }

@@ -30,12 +30,24 @@ pub struct Io<'a> {
     pub out: &'a mut dyn Write,
     /// Standard error.
     pub err: &'a mut dyn Write,
+    /// Whether the output goes to a terminal.
+    pub is_terminal: bool,
 }
 
 impl Io<'_> {
     /// Writes words to the output.
     pub fn say(&mut self, words: &str) -> Result<(), Failure> {
         Ok(self.out.write_all(words.as_bytes())?)
+    }
+
+    /// Writes a sheet to the output, which no terminal can show.
+    pub fn give(&mut self, sheet: &[u8]) -> Result<(), Failure> {
+        match self.is_terminal {
+            true => Err(Failure::unusable(
+                "a sheet is no text: send the output to a file, with > FILE",
+            )),
+            false => Ok(self.out.write_all(sheet)?),
+        }
     }
 }
 

@@ -10,7 +10,7 @@ pub use rules::broken;
 
 use crate::numbers;
 use crate::rows::{RowId, Schema, Table};
-use crate::sheet::{decode, located};
+use crate::sheet::{decode, located, row_at};
 use crate::text::Lines;
 use keeper::Answer;
 
@@ -31,7 +31,7 @@ pub fn load(name: &str, sheet: &[u8], answer: Answer, lines: Option<&Lines>) -> 
         false => detail.remove(0),
     };
     let rest: String = detail.iter().map(|line| format!("  {line}\n")).collect();
-    let place = place_of(answer, lines);
+    let place = place_of(sheet, answer, lines);
     let headline = headline(answer.number, &first);
     format!(
         "{name}: refused{place}\n{headline}\n{rest}{}",
@@ -49,8 +49,13 @@ pub fn advice(number: u64) -> String {
 }
 
 /// The line of the row that an answer names, where the schema came as lines.
-fn place_of(answer: Answer, lines: Option<&Lines>) -> String {
-    let row = row_of(answer).or_else(|| excess(answer));
+fn place_of(sheet: &[u8], answer: Answer, lines: Option<&Lines>) -> String {
+    let place = usize::try_from(answer.place).unwrap_or(usize::MAX);
+    let row = match answer.number {
+        4 => row_at(sheet, place),
+        6 => excess(answer),
+        _ => row_of(answer),
+    };
     let line = row.and_then(|row| lines?.of(row));
     line.map_or_else(String::new, |line| format!(", row at line {line}"))
 }

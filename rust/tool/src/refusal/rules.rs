@@ -59,44 +59,41 @@ fn rivals(schema: &Schema, has_key: impl Fn(RowId) -> bool) -> String {
 }
 
 fn attribute(number: u64, schema: &Schema, row: &Attribute) -> Option<String> {
-    let with = |has: &dyn Fn(&Attribute) -> bool| {
-        let attributes = schema.attributes.iter().enumerate();
-        let rows = attributes.filter(|(_, other)| has(other));
-        let told: Vec<_> = rows
-            .map(|(at, _)| schema.told(RowId::attribute(at)))
-            .collect();
-        joined(&told)
-    };
-    let syntax = row.syntax;
+    let (syntax, om_syntax) = (row.syntax, row.om_syntax);
+    let object = hex(&row.object_class).to_uppercase();
     Some(match number {
-        24 => format!(
-            "mAPIID {} of {}",
-            row.mapi?,
-            with(&|other| other.mapi == row.mapi)
-        ),
+        24 => {
+            let rivals = holders(schema, |other| other.mapi == row.mapi);
+            format!("mAPIID {} of {rivals}", row.mapi?)
+        }
         25 => format!("its range is {} to {}", row.lower?, row.upper?),
-        26 => format!(
-            "attributeSyntax 2.5.5.{syntax} with oMSyntax {}",
-            row.om_syntax
-        ),
-        27 => {
-            let object = hex(&row.object_class).to_uppercase();
-            format!("attributeSyntax 2.5.5.{syntax} with oMObjectClass {object}")
+        26 => format!("attributeSyntax 2.5.5.{syntax} with oMSyntax {om_syntax}"),
+        27 => format!("attributeSyntax 2.5.5.{syntax} with oMObjectClass {object}"),
+        28 => {
+            let rivals = holders(schema, |other| other.link == row.link);
+            format!("linkID {} of {rivals}", row.link?)
         }
-        28 => format!(
-            "linkID {} of {}",
-            row.link?,
-            with(&|other| other.link == row.link)
-        ),
-        29 => {
-            let link = row.link?;
-            let forward = link.checked_sub(1)?;
-            match with(&|other| other.link == Some(forward)).as_str() {
-                "" => format!("linkID {link}, and no attribute has {forward}"),
-                held => format!("linkID {link}, and {forward} is held by {held}, which is defunct"),
-            }
-        }
+        29 => lone(schema, row.link?)?,
         _ => return None,
+    })
+}
+
+/// All attributes of which something holds.
+fn holders(schema: &Schema, holds: impl Fn(&Attribute) -> bool) -> String {
+    let attributes = schema.attributes.iter().enumerate();
+    let rows = attributes
+        .filter(|(_, row)| holds(row))
+        .map(|(at, _)| RowId::attribute(at));
+    joined(&rows.map(|row| schema.told(row)).collect::<Vec<_>>())
+}
+
+/// A back link whose forward link is not there, or not in use.
+fn lone(schema: &Schema, link: u32) -> Option<String> {
+    let forward = link.checked_sub(1)?;
+    let held = holders(schema, |row| row.link == Some(forward));
+    Some(match held.as_str() {
+        "" => format!("linkID {link}, and no attribute has {forward}"),
+        _ => format!("linkID {link}, and {forward} is held by {held}, which is defunct"),
     })
 }
 

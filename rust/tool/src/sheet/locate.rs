@@ -17,8 +17,9 @@ pub fn located(sheet: &[u8], offset: usize) -> Vec<String> {
     lines
 }
 
-/// The row and the field that an offset lies in, in words.
-fn place(sheet: &[u8], offset: usize) -> String {
+/// The field of a sheet that an offset lies in or stands before, and the row that
+/// it is.
+fn field_at(sheet: &[u8], offset: usize) -> Option<(Field<'_>, Option<RowId>)> {
     let (mut attributes, mut classes) = (0_usize, 0_usize);
     for field in fields(sheet, 0) {
         let row = match field.tag {
@@ -26,23 +27,33 @@ fn place(sheet: &[u8], offset: usize) -> String {
             0x30 => Some(RowId::class(classes)),
             _ => None,
         };
-        if offset <= field.at {
-            return at_tag(&field, row);
-        }
-        if offset < field.end() || (offset == field.end() && !missing(&field).is_empty()) {
-            let inner = within(&field, offset);
-            return match row {
-                Some(row) => format!("in {}: {inner}", named(sheet, row)),
-                None => inner,
-            };
+        // The end of a row is the next one's begin, unless the row misses something.
+        let ends_here = offset == field.end() && !missing(&field).is_empty();
+        if offset < field.end() || ends_here {
+            return Some((field, row));
         }
         attributes += usize::from(field.tag == 0x20);
         classes += usize::from(field.tag == 0x30);
     }
-    match sheet.len().saturating_sub(offset) {
-        0 => "the end of the sheet: the heading is missing".to_owned(),
-        1 => "where one byte is left over that is no field".to_owned(),
-        _ => "where two bytes are left over that are no field".to_owned(),
+    None
+}
+
+/// The row that an offset lies in.
+pub fn row_at(sheet: &[u8], offset: usize) -> Option<RowId> {
+    field_at(sheet, offset)?.1
+}
+
+/// The row and the field that an offset lies in, in words.
+fn place(sheet: &[u8], offset: usize) -> String {
+    match (field_at(sheet, offset), sheet.len().saturating_sub(offset)) {
+        (Some((field, row)), _) if offset == field.at => at_tag(&field, row),
+        (Some((field, Some(row))), _) => {
+            format!("in {}: {}", named(sheet, row), within(&field, offset))
+        }
+        (Some((field, None)), _) => within(&field, offset),
+        (None, 0) => "the end of the sheet: the heading is missing".to_owned(),
+        (None, 1) => "where one byte is left over that is no field".to_owned(),
+        (None, _) => "where two bytes are left over that are no field".to_owned(),
     }
 }
 

@@ -2,7 +2,7 @@
 //! comments too.
 
 use super::write::{block, head, lines};
-use crate::rows::{RowId, Schema};
+use crate::rows::{List, RowId, Schema};
 
 /// The text of the schema after changes, from the text of the one before. Lines
 /// of a row whose word says the same as before stay; others are put in place of
@@ -50,6 +50,18 @@ fn first_word(line: &str) -> Option<&str> {
     line.split('#').next()?.split_whitespace().next()
 }
 
+/// A text with the indent and the comment of the line in whose place it comes.
+fn in_place_of(line: &str, text: &str) -> String {
+    let indent: String = line
+        .chars()
+        .take_while(|letter| letter.is_whitespace())
+        .collect();
+    let comment = line
+        .split_once('#')
+        .map(|(_, comment)| format!("  #{comment}"));
+    indent + text + &comment.unwrap_or_default()
+}
+
 /// The rows of a text, one after the other.
 struct Rows<'a> {
     before: &'a Schema,
@@ -70,8 +82,8 @@ impl Rows<'_> {
         });
     }
 
-    /// What a row says under a word, before and after; a row's head is under the
-    /// empty word.
+    /// What a row says under a word, before and after; its head is under the word
+    /// that begins it.
     fn said(&self, word: &str) -> Option<[Option<String>; 2]> {
         let row = self.row?;
         let said = |schema: &Schema| match word {
@@ -88,20 +100,48 @@ impl Rows<'_> {
         let word = first_word(line)?;
         let again = seen.iter().any(|seen| seen == word);
         seen.push(word.to_owned());
-        match self.said(word) {
-            Some([before, after]) if before != after => {
-                let after = after.filter(|_| !again)?;
-                let indent: String = line
-                    .chars()
-                    .take_while(|letter| letter.is_whitespace())
-                    .collect();
-                let comment = line
-                    .split_once('#')
-                    .map(|(_, comment)| format!("  #{comment}"));
-                Some(indent + &after + &comment.unwrap_or_default())
-            }
-            _ => Some(line.to_owned()),
+        let [before, after] = self.said(word)?;
+        if before == after {
+            return Some(line.to_owned());
         }
+        let list = List::ALL.into_iter().find(|list| list.word() == word);
+        let text = match list {
+            Some(list) => self.listed(list, line, again),
+            None => after.filter(|_| !again),
+        };
+        Some(in_place_of(line, &text?))
+    }
+
+    /// A line of a list: what stays, in its order and by its new names, and behind
+    /// it, in the first such line, what has come.
+    fn listed(&self, list: List, line: &str, again: bool) -> Option<String> {
+        let class = self.row?.number;
+        let (before, after) = (
+            self.before.classes.get(class)?,
+            self.after.classes.get(class)?,
+        );
+        let (before, after) = (before.list(list), after.list(list));
+        let row = |number: &u16| RowId {
+            table: list.table(),
+            number: usize::from(*number),
+        };
+        let said = line.split('#').next()?.split_whitespace().skip(1);
+        let numbered = |name: &str| {
+            before
+                .iter()
+                .find(|number| self.before.name(row(number)) == name)
+        };
+        let stays = said
+            .filter_map(numbered)
+            .filter(|number| after.contains(number));
+        let come = after
+            .iter()
+            .filter(|number| !again && !before.contains(number));
+        let names: Vec<_> = stays
+            .chain(come)
+            .map(|number| self.after.name(row(number)))
+            .collect();
+        (!names.is_empty()).then(|| format!("{} {}", list.word(), names.join(" ")))
     }
 
     /// Lines of the row that it did not have before.

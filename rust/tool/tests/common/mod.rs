@@ -38,6 +38,7 @@ pub fn fed(words: &[&str], input: &[u8]) -> Ran {
         input: &mut input,
         out: &mut out,
         err: &mut err,
+        is_terminal: false,
     };
     let code = tool::run(&words, &mut io);
     let err = String::from_utf8_lossy(&err).into_owned();
