@@ -247,7 +247,7 @@ fn only_what_is_needed_is_taken() {
     let ran = import(&all, &["--only", "Person"]);
     assert_eq!(
         ran.err,
-        "standard input: 1 possible superiors left out: their classes are not taken\n"
+        "standard input: 1 possible superior left out: its class is not taken\n"
     );
     assert!(ran.text().contains("class person ") && !ran.text().contains("class unit "));
     let ran = import(&all, &["--only", "person", "unit"]);

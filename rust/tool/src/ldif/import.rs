@@ -50,10 +50,13 @@ pub fn import(text: &str, only: &[String]) -> Result<Import, String> {
             .push(class(draft, &index, &order, &mut left_out)?);
         import.lines.classes.push(draft.line);
     }
-    if left_out > 0 {
-        let words = format!("{left_out} possible superiors left out: their classes are not taken");
-        import.notes.push(words);
-    }
+    import.notes.extend(match left_out {
+        0 => None,
+        1 => Some("1 possible superior left out: its class is not taken".to_owned()),
+        _ => Some(format!(
+            "{left_out} possible superiors left out: their classes are not taken"
+        )),
+    });
     Ok(import)
 }
 
