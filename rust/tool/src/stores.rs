@@ -1,6 +1,5 @@
 //! The three stores, and the keeper's calls on them: what decides.
 
-use crate::rows::Table;
 use keeper::Answer;
 
 /// A schema that the keeper has accepted, as it holds it.
@@ -90,13 +89,5 @@ impl Stores {
         };
         let limit = u16::try_from(8 * set.len()).unwrap_or(0);
         (0..limit).filter(has).collect()
-    }
-
-    /// Which table the entries of a kept set are rows of.
-    pub fn table_of(kept: Kept) -> Table {
-        match kept {
-            Kept::Reached => Table::Classes,
-            _ => Table::Attributes,
-        }
     }
 }

@@ -241,6 +241,7 @@ refused 13, name taken: attribute 17 `areaHa` and attribute 23 `AREAHA` (rename 
 FILE: nothing is changed
 ";
     assert_eq!(ran.text(), expected);
+    assert_eq!(ran.err, "keeper explain 13 says what can be done\n");
     assert!(bytes == fs::read("samples/forest.sheet").unwrap());
 }
 

@@ -85,3 +85,36 @@ fn the_man_page_has_every_command_and_no_warning() {
     }
     let _ = fs::remove_dir_all(folder);
 }
+
+/// The first steps of README.md, made: each does what the page says of it.
+#[test]
+fn the_first_steps_of_the_readme_are_as_told() {
+    let folder = folder("readme");
+    let file = copied(&folder, "forest.schema");
+    let readme = fs::read_to_string("README.md").unwrap();
+    let steps = readme
+        .split("    cp samples/forest.schema .\n")
+        .nth(1)
+        .unwrap();
+    let steps = steps
+        .lines()
+        .map_while(|line| line.strip_prefix("    keeper "));
+    let mut codes = Vec::new();
+    for step in steps {
+        let words = step
+            .split(" > ")
+            .next()
+            .unwrap()
+            .replace("forest.schema", &file);
+        let ran = ran(&words.split(' ').collect::<Vec<_>>());
+        codes.push(ran.code);
+        if ran.code == 1 {
+            let said = format!("{}{}", ran.text(), ran.err).replace(&file, "forest.schema");
+            let told: String = said.lines().map(|line| format!("    {line}\n")).collect();
+            assert!(readme.contains(&told), "{told}");
+        }
+    }
+    assert_eq!(codes, [0, 0, 1, 0, 0]);
+    assert!(done(&["show", &file, "stand"]).contains("\n  rotationYears       through stand\n"));
+    let _ = fs::remove_dir_all(folder);
+}

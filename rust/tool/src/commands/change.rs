@@ -46,6 +46,7 @@ Example:
     $ keeper change forest.sheet rename attribute soilType areaHa
     refused 13, name taken: attribute 17 `areaHa` and attribute 23 `areaHa` (rename attribute soilType areaHa)
     forest.sheet: nothing is changed
+    keeper explain 13 says what can be done
     $ keeper change forest.sheet add optional parcel soilType
     done: add optional parcel soilType (class 17 `parcel`)
     forest.sheet: saved",

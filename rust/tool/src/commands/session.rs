@@ -11,6 +11,10 @@ use crate::save::Locked;
 use crate::stores::Stores;
 use crate::text::patched;
 use crate::words::printable;
+use std::collections::BTreeSet;
+
+/// Why a change was not made: the keeper's number, where it was asked, and words.
+type Refusal = (Option<u64>, String);
 
 /// A schema while changes are made to it.
 pub struct Session {
@@ -26,6 +30,8 @@ pub struct Session {
 pub struct Tally {
     made: usize,
     refused: usize,
+    /// The numbers that refused.
+    numbers: BTreeSet<u64>,
     /// Whether what was made counts where something was refused.
     each: bool,
 }
@@ -34,6 +40,12 @@ impl Tally {
     /// Whether there is something to save.
     fn counts(&self) -> bool {
         self.made > 0 && (self.refused == 0 || self.each)
+    }
+
+    /// Where more can be read about what was refused.
+    fn advice(&self) -> String {
+        let explain = |number: &u64| format!("keeper explain {number} says what can be done\n");
+        self.numbers.iter().map(explain).collect()
     }
 }
 
@@ -67,8 +79,9 @@ impl Session {
                     tally.made += 1;
                     io.say(&printable(&format!("done: {line}\n")))?;
                 }
-                Err(line) => {
+                Err((number, line)) => {
                     tally.refused += 1;
+                    tally.numbers.extend(number);
                     io.say(&printable(&format!("refused {line}\n")))?;
                     if !each {
                         break;
@@ -79,24 +92,21 @@ impl Session {
         Ok(tally)
     }
 
-    /// Makes one change: what was done, or why not.
-    fn one(&mut self, change: &Change) -> Result<Result<String, String>, Failure> {
+    /// Makes one change: what was done, or why not, with the keeper's number.
+    fn one(&mut self, change: &Change) -> Result<Result<String, Refusal>, Failure> {
         let words = change.words();
         let bytes = match bytes(change, &self.schema) {
             Ok(bytes) => bytes,
             Err(fault) => {
-                return Ok(Err(format!(
-                    "before the keeper was asked: {words}: {fault}"
-                )));
+                let line = format!("before the keeper was asked: {words}: {fault}");
+                return Ok(Err((None, line)));
             }
         };
         let answer = self.stores.change(&bytes, self.whole);
         if answer.number != keeper::DONE {
             let detail = asked(answer, change, &bytes, &self.schema, &self.stores);
-            return Ok(Err(format!(
-                "{} ({words})",
-                headline(answer.number, &detail)
-            )));
+            let line = format!("{} ({words})", headline(answer.number, &detail));
+            return Ok(Err((Some(answer.number), line)));
         }
         let row = change.target(&self.schema);
         self.schema = held(&self.stores)?;
@@ -132,7 +142,7 @@ impl Session {
             Err(_) if locked_to_save.is_some() => Err(Failure::unusable(format!(
                 "{name}: {words}, but the output cannot be written"
             ))),
-            Ok(()) if *refused > 0 => Err(Failure::Refused(String::new())),
+            Ok(()) if *refused > 0 => Err(Failure::Refused(tally.advice())),
             told => told,
         }
     }
