@@ -7,6 +7,7 @@ use common::{copied, done, folder, kept};
 use generate::Random;
 use std::fs;
 use std::os::unix::fs::{MetadataExt, PermissionsExt, symlink};
+use std::os::unix::process::ExitStatusExt;
 use std::process::{Command, Stdio};
 use std::time::Duration;
 
@@ -25,7 +26,7 @@ const BACK: &str = "rename attribute woodedHa areaHa";
 fn a_kill_leaves_the_old_file_or_the_new_one() {
     let folder = folder("kill");
     let mut random = Random::for_test(16);
-    let mut seen = [0; 2];
+    let (mut seen, mut killed) = ([0; 2], 0);
     for sample in ["forest.sheet", "forest.schema"] {
         let file = copied(&folder, sample);
         let old = fs::read(&file).unwrap();
@@ -39,14 +40,21 @@ fn a_kill_leaves_the_old_file_or_the_new_one() {
             let mut child = keeper().args(["change", &file, change]).spawn().unwrap();
             std::thread::sleep(Duration::from_micros(random.below(6000) as u64));
             let _ = child.kill();
-            child.wait().unwrap();
+            killed += usize::from(child.wait().unwrap().signal().is_some());
             let after = fs::read(&file).unwrap();
             assert!(after == old || after == new, "{} bytes", after.len());
             seen[usize::from(after != before)] += 1;
         }
         assert_eq!(common::ran(&["check", &file]).code, 0);
     }
-    assert!(seen.iter().all(|count| *count > 0), "{seen:?}");
+    eprintln!(
+        "{killed} of 400 saves were killed before they ended; {} left the old file",
+        seen[0]
+    );
+    assert!(
+        killed >= 50 && seen.iter().all(|count| *count > 0),
+        "{killed} {seen:?}"
+    );
     let _ = fs::remove_dir_all(folder);
 }
 
@@ -106,6 +114,7 @@ fn a_small_file_system_that_is_full_leaves_the_old_file() {
         "{words}"
     );
     assert!(after == old && count == 1);
+    let _ = fs::remove_dir_all(folder);
 }
 
 #[test]

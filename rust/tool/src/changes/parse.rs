@@ -1,7 +1,7 @@
 //! Words as changes.
 
 use super::{Change, LISTS};
-use crate::rows::Table;
+use crate::rows::{List, Table};
 
 /// The changes of a file: a line each, but for added rows, whose lines follow.
 /// A fault is told with its line.
@@ -89,15 +89,8 @@ fn change(words: &[&str], above: usize) -> Result<Change, String> {
         }
         [verb @ ("add" | "remove"), word, class, entry] => {
             let list = LISTS.iter().find(|(known, _)| known == word);
-            let (_, list) = *list.ok_or_else(|| unknown(words))?;
-            let (class, entry) = (own(class), own(entry));
-            let add = *verb == "add";
-            Ok(Change::Entry {
-                add,
-                list,
-                class,
-                entry,
-            })
+            let (_, list) = list.ok_or_else(|| unknown(words))?;
+            Ok(entry_change(*verb == "add", *list, class, entry))
         }
         ["rename", word, name, to] => {
             let (table, name, to) = (table(word)?, own(name), own(to));
@@ -117,6 +110,16 @@ fn change(words: &[&str], above: usize) -> Result<Change, String> {
             })
         }
         _ => Err(unknown(words)),
+    }
+}
+
+fn entry_change(add: bool, list: List, class: &str, entry: &str) -> Change {
+    let (class, entry) = (class.to_owned(), entry.to_owned());
+    Change::Entry {
+        add,
+        list,
+        class,
+        entry,
     }
 }
 
