@@ -22,7 +22,8 @@ fn pages() -> Vec<(String, String, String)> {
     paths.push("rust/README.md".to_owned());
     let docs = fs::read_dir(top().join("docs")).into_iter().flatten();
     let names = docs.filter_map(|entry| Some(entry.ok()?.file_name().to_string_lossy().into()));
-    paths.extend(names.map(|name: String| format!("docs/{name}")));
+    let names = names.filter(|name: &String| name.ends_with(".md"));
+    paths.extend(names.map(|name| format!("docs/{name}")));
     let page = |path: String| {
         let folder = path.rsplit_once('/').map_or("", |(folder, _)| folder);
         let words: Vec<_> = text(&path).split_whitespace().map(str::to_owned).collect();

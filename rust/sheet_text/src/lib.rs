@@ -28,7 +28,9 @@
 //! here: that is the keeper's work.
 
 mod lines;
+#[cfg(feature = "rows")]
 mod rows;
 
 pub use lines::{Fault, Line, Source};
+#[cfg(feature = "rows")]
 pub use rows::schema;

@@ -1,0 +1,82 @@
+//! A change as the bytes that the keeper reads (docs/FORMAT.md).
+
+use super::{Change, NOWHERE};
+use crate::rows::{Schema, Table};
+use crate::sheet::{attribute_fields, class_fields, field};
+use crate::text::{Names, attribute, class};
+use sheet_text::Source;
+
+/// The bytes of a change to a schema. A target or entry that is nowhere gets a
+/// number without a row, so that the keeper refuses it; a row that cannot be
+/// written at all is told here.
+pub fn bytes(change: &Change, schema: &Schema) -> Result<Vec<u8>, String> {
+    let number = |table, name: &str| number(schema, table, name).to_be_bytes();
+    let target = |table, name: &str| field(0x20, &number(table, name));
+    let (tag, value) = match change {
+        Change::Add {
+            table,
+            block,
+            above,
+        } => return added(*table, block, *above, schema),
+        Change::Range { name, lower, upper } => {
+            let ends = [end(0x0A, *lower)?, end(0x0B, *upper)?].concat();
+            (0x42, [target(Table::Attributes, name)?, ends].concat())
+        }
+        Change::Rename { table, name, to } => {
+            let value = [target(*table, name)?, field(0x01, to.as_bytes())?].concat();
+            (0x43 + class_step(*table), value)
+        }
+        Change::State {
+            active,
+            table,
+            name,
+        } => {
+            let tag = if *active { 0x47 } else { 0x45 };
+            (tag + class_step(*table), target(*table, name)?)
+        }
+        Change::Entry {
+            add,
+            list,
+            class,
+            entry,
+        } => {
+            let which = field(0x21, &[list.tag()])?;
+            let entry = field(0x22, &number(list.table(), entry))?;
+            let value = [target(Table::Classes, class)?, which, entry].concat();
+            (if *add { 0x49 } else { 0x4A }, value)
+        }
+    };
+    field(tag, &value)
+}
+
+/// An end of a range, where it is given.
+fn end(tag: u8, end: Option<i32>) -> Result<Vec<u8>, String> {
+    end.map_or(Ok(Vec::new()), |end| field(tag, &end.to_be_bytes()))
+}
+
+/// The tag of a class's change follows that of an attribute's.
+fn class_step(table: Table) -> u8 {
+    u8::from(table == Table::Classes)
+}
+
+fn number(schema: &Schema, table: Table, name: &str) -> u16 {
+    let row = schema.find(table, name);
+    row.and_then(|row| u16::try_from(row.number).ok())
+        .unwrap_or(NOWHERE)
+}
+
+/// An added row; a fault is told by its line in the file of changes.
+fn added(table: Table, block: &str, above: usize, schema: &Schema) -> Result<Vec<u8>, String> {
+    let lines = "\n".repeat(above) + block;
+    let sources = Source::all(&lines).map_err(|fault| fault.to_string())?;
+    let source = sources.first().ok_or_else(|| "no row".to_owned())?;
+    if let Some(second) = sources.get(1) {
+        return Err(second.head.fault("a second row in one change").to_string());
+    }
+    let row = match table {
+        Table::Attributes => attribute(source).map(|row| (0x40, attribute_fields(&row))),
+        Table::Classes => class(source, &Names::of(schema)).map(|row| (0x41, class_fields(&row))),
+    };
+    let (tag, value) = row.map_err(|fault| fault.to_string())?;
+    field(tag, &value?)
+}

@@ -1,0 +1,34 @@
+//! New GUIDs for added rows.
+
+use super::Change;
+use crate::words::guid_text;
+use std::fs::File;
+use std::io::{self, Read};
+
+/// Changes in which each line `guid new` has got a GUID of its own.
+pub fn with_guids(mut changes: Vec<Change>) -> Result<Vec<Change>, String> {
+    for change in &mut changes {
+        if let Change::Add { block, .. } = change {
+            let lines: Result<Vec<String>, io::Error> = block.lines().map(with_guid).collect();
+            let lines = lines.map_err(|error| format!("no new GUID can be had: {error}"))?;
+            *block = lines.join("\n") + "\n";
+        }
+    }
+    Ok(changes)
+}
+
+fn with_guid(line: &str) -> Result<String, io::Error> {
+    match line.split_whitespace().eq(["guid", "new"]) {
+        true => Ok(format!("guid {}", guid_text(&random()?))),
+        false => Ok(line.to_owned()),
+    }
+}
+
+/// A GUID of version 4 (RFC 9562): random but for the bits that say so.
+fn random() -> Result<[u8; 16], io::Error> {
+    let mut guid = [0; 16];
+    File::open("/dev/urandom")?.read_exact(&mut guid)?;
+    guid[6] = guid[6] & 0x0F | 0x40;
+    guid[8] = guid[8] & 0x3F | 0x80;
+    Ok(guid)
+}

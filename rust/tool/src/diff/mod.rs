@@ -1,0 +1,9 @@
+//! What leads from one schema to another: changes that the keeper makes, and what
+//! no change can do.
+
+mod fixed;
+mod keys;
+mod play;
+mod steps;
+
+pub use play::played;

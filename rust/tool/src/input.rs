@@ -1,0 +1,115 @@
+//! A schema from a file or from standard input: as a sheet, as text or as LDIF,
+//! told apart by content.
+
+use crate::failure::Failure;
+use crate::words::printable;
+use std::ffi::OsStr;
+use std::fs::File;
+use std::io::Read;
+
+/// No input may be longer: the largest published schemas have a few million
+/// bytes.
+pub const LONGEST: usize = 16 << 20;
+
+/// In which form a schema is written down.
+#[derive(Clone, Copy, Debug, PartialEq, Eq)]
+pub enum Form {
+    /// The bytes that the keeper loads.
+    Sheet,
+    /// The text form.
+    Text,
+    /// Entries as directories publish them.
+    Ldif,
+}
+
+/// What was read.
+pub struct Given {
+    /// The file's name, for messages.
+    pub name: String,
+    /// Its bytes.
+    pub bytes: Vec<u8>,
+    /// Its form.
+    pub form: Form,
+}
+
+impl Given {
+    /// Reads a file, or standard input for `-`.
+    pub fn read(path: &OsStr, input: &mut dyn Read) -> Result<Given, Failure> {
+        let name = match path == "-" {
+            true => "standard input".to_owned(),
+            false => path.to_string_lossy().into_owned(),
+        };
+        let cannot = |error| Failure::unusable(format!("{name}: cannot be read: {error}"));
+        let mut bytes = Vec::new();
+        let limit = u64::try_from(LONGEST).unwrap_or(u64::MAX) + 1;
+        let read = match path == "-" {
+            true => input.take(limit).read_to_end(&mut bytes),
+            false => File::open(path).and_then(|file| file.take(limit).read_to_end(&mut bytes)),
+        };
+        read.map_err(cannot)?;
+        Given::of(name, bytes)
+    }
+
+    /// What these bytes are.
+    pub fn of(name: String, bytes: Vec<u8>) -> Result<Given, Failure> {
+        if bytes.is_empty() {
+            return Err(Failure::unusable(format!(
+                "{name}: is empty, so it holds no schema"
+            )));
+        }
+        if bytes.len() > LONGEST {
+            let words = format!("{name}: is longer than {LONGEST} bytes, so it is no schema");
+            return Err(Failure::unusable(words));
+        }
+        let (name, form) = (printable(&name), form(&bytes));
+        Ok(Given { name, bytes, form })
+    }
+
+    /// The bytes as text, whatever they are. A mark of the byte order is dropped,
+    /// and UTF-16 with such a mark is read too, as `ldifde -u` writes it.
+    pub fn text(&self) -> String {
+        text(&self.bytes)
+    }
+}
+
+fn text(bytes: &[u8]) -> String {
+    let pairs = |bytes: &[u8], order: fn([u8; 2]) -> u16| -> String {
+        let pairs: Vec<u16> = bytes
+            .chunks_exact(2)
+            .map(|pair| order([pair[0], pair[1]]))
+            .collect();
+        String::from_utf16_lossy(&pairs)
+    };
+    match bytes {
+        [0xFF, 0xFE, rest @ ..] => pairs(rest, u16::from_le_bytes),
+        [0xFE, 0xFF, rest @ ..] => pairs(rest, u16::from_be_bytes),
+        [0xEF, 0xBB, 0xBF, rest @ ..] => String::from_utf8_lossy(rest).into_owned(),
+        _ => String::from_utf8_lossy(bytes).into_owned(),
+    }
+}
+
+/// A sheet has bytes that no text has, its heading among them; the first line of
+/// LDIF that says something has a word and a colon.
+fn form(bytes: &[u8]) -> Form {
+    let marked = matches!(bytes, [0xFF, 0xFE, ..] | [0xFE, 0xFF, ..]);
+    let is_text = |byte: &u8| *byte >= 0x20 || matches!(byte, b'\t' | b'\n' | b'\r' | 0x0C);
+    if !marked && !bytes.iter().all(is_text) {
+        return Form::Sheet;
+    }
+    let text = text(bytes);
+    let lines = text.lines().map(str::trim_end);
+    let first = lines
+        .into_iter()
+        .find(|line| !line.is_empty() && !line.starts_with('#'));
+    let word = first
+        .and_then(|line| line.split_once(':'))
+        .map(|(word, _)| word);
+    let is_name = |word: &str| {
+        let of_name = |letter: char| letter.is_ascii_alphanumeric() || ";.-".contains(letter);
+        !word.is_empty() && word.chars().all(of_name)
+    };
+    match word.is_some_and(is_name) {
+        true => Form::Ldif,
+        false => Form::Text,
+    }
+}

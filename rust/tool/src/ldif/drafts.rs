@@ -1,0 +1,174 @@
+//! Entries as rows whose names are not looked up yet.
+
+use super::entry::Entry;
+use super::records::{Record, Value};
+use crate::rows::{Attribute, Class, List};
+
+/// A name by which a class names a row.
+#[derive(Clone, Debug)]
+pub struct Reference {
+    /// The name, or an identifier.
+    pub name: String,
+    /// The attribute of LDIF that it is a value of.
+    pub word: &'static str,
+    /// Its line.
+    pub line: usize,
+}
+
+/// An attribute with its line.
+#[derive(Clone, Debug)]
+pub struct AttributeDraft {
+    /// Its row.
+    pub row: Attribute,
+    /// The line of its entry.
+    pub line: usize,
+}
+
+/// A class with its line and what it names.
+#[derive(Clone, Debug)]
+pub struct ClassDraft {
+    /// Its row, without what it names.
+    pub row: Class,
+    /// Its superclass.
+    pub superclass: Reference,
+    /// Its naming attribute.
+    pub naming: Option<Reference>,
+    /// The entries of its lists.
+    pub lists: Vec<(List, Reference)>,
+    /// The line of its entry.
+    pub line: usize,
+}
+
+/// The rows of a text, in its order.
+#[derive(Default)]
+pub struct Drafts {
+    /// The attributes.
+    pub attributes: Vec<AttributeDraft>,
+    /// The classes.
+    pub classes: Vec<ClassDraft>,
+    /// What was passed over, in words.
+    pub notes: Vec<String>,
+}
+
+/// The attributes of LDIF that hold a class's lists.
+pub const LISTS: [(&str, List); 8] = [
+    ("systemMustContain", List::Mandatory),
+    ("mustContain", List::Mandatory),
+    ("systemMayContain", List::FixedOptional),
+    ("mayContain", List::OpenOptional),
+    ("systemAuxiliaryClass", List::FixedAuxiliary),
+    ("auxiliaryClass", List::OpenAuxiliary),
+    ("systemPossSuperiors", List::FixedSuperior),
+    ("possSuperiors", List::OpenSuperior),
+];
+
+/// The rows of records; entries that are no rows, and changes that are no
+/// additions, are passed over and noted.
+pub fn drafts(records: &[Record]) -> Result<Drafts, String> {
+    let mut drafts = Drafts::default();
+    for record in records {
+        let change = record.first("changetype").map(Value::text);
+        let is_added = change
+            .as_ref()
+            .is_none_or(|change| change.eq_ignore_ascii_case("add"));
+        if let Some(change) = change.filter(|_| !is_added) {
+            let words = format!(
+                "line {}: passed over: a change of type {}",
+                record.line(),
+                change.escape_default()
+            );
+            drafts.notes.push(words);
+        } else if is_kind(record, "attributeschema", "attributeid") {
+            drafts.attributes.push(attribute(record)?);
+        } else if is_kind(record, "classschema", "governsid") {
+            drafts.classes.push(class(record)?);
+        } else {
+            let words = format!(
+                "line {}: passed over: neither attributeSchema nor classSchema",
+                record.line()
+            );
+            drafts.notes.push(words);
+        }
+    }
+    Ok(drafts)
+}
+
+/// Whether an entry says that it is of a class; where it has no objectClass,
+/// whether it has the identifier of that class.
+fn is_kind(record: &Record, class: &str, identifier: &str) -> bool {
+    match record.first("objectclass") {
+        Some(_) => record
+            .all("objectclass")
+            .any(|value| value.text().eq_ignore_ascii_case(class)),
+        None => record.first(identifier).is_some(),
+    }
+}
+
+fn attribute(record: &Record) -> Result<AttributeDraft, String> {
+    let entry = Entry::of(record)?;
+    let syntax = entry.needed("attributeSyntax")?;
+    let number = syntax
+        .text()
+        .strip_prefix("2.5.5.")
+        .and_then(|number| number.parse().ok());
+    let fault = || entry.fault(syntax.line, "attributeSyntax: not 2.5.5 and a number");
+    entry.needed("oMSyntax")?;
+    entry.needed("isSingleValued")?;
+    let row = Attribute {
+        common: entry.common("attributeID")?,
+        syntax: number.ok_or_else(fault)?,
+        om_syntax: entry.number("oMSyntax")?.unwrap_or(0),
+        object_class: object_class(&entry)?,
+        single: entry.truth("isSingleValued")?,
+        lower: entry.number("rangeLower")?,
+        upper: entry.number("rangeUpper")?,
+        link: entry.identity("linkID")?,
+        mapi: entry.identity("mAPIID")?,
+    };
+    Ok(AttributeDraft {
+        row,
+        line: record.line(),
+    })
+}
+
+fn object_class(entry: &Entry) -> Result<Vec<u8>, String> {
+    match entry.record.first("omobjectclass") {
+        None => Ok(Vec::new()),
+        Some(value) if value.is_encoded => Ok(value.bytes.clone()),
+        Some(value) => Err(entry.fault(value.line, "oMObjectClass: not in base64")),
+    }
+}
+
+fn class(record: &Record) -> Result<ClassDraft, String> {
+    let entry = Entry::of(record)?;
+    let reference = |word: &'static str| {
+        let values = record
+            .values
+            .iter()
+            .filter(move |value| value.name.eq_ignore_ascii_case(word));
+        values.map(move |value| Reference {
+            name: value.text(),
+            word,
+            line: value.line,
+        })
+    };
+    entry.needed("subClassOf")?;
+    let missing = || entry.fault(record.line(), "subClassOf is missing");
+    let superclass = reference("subClassOf").next().ok_or_else(missing)?;
+    entry.needed("objectClassCategory")?;
+    let row = Class {
+        common: entry.common("governsID")?,
+        category: entry.number("objectClassCategory")?.unwrap_or(0),
+        ..Class::default()
+    };
+    let lists = LISTS
+        .into_iter()
+        .flat_map(|(word, list)| reference(word).map(move |name| (list, name)));
+    Ok(ClassDraft {
+        row,
+        superclass,
+        naming: reference("rDNAttID").next(),
+        lists: lists.collect(),
+        line: record.line(),
+    })
+}

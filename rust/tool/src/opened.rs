@@ -1,0 +1,99 @@
+//! A schema that was read and that the keeper has accepted.
+
+use crate::failure::Failure;
+use crate::input::{Form, Given};
+use crate::ldif;
+use crate::refusal;
+use crate::rows::{Schema, Table};
+use crate::sheet::{decode, encode};
+use crate::stores::Stores;
+use crate::text::{self, Lines};
+use std::ffi::OsStr;
+use std::io::Read;
+
+/// The schema, as it was given and as the keeper holds it.
+pub struct Opened {
+    /// What was read.
+    pub given: Given,
+    /// The keeper's stores.
+    pub stores: Stores,
+    /// The rows that the keeper holds.
+    pub schema: Schema,
+}
+
+impl Opened {
+    /// Reads a schema in any form and loads it.
+    pub fn read(path: &OsStr, input: &mut dyn Read) -> Result<Opened, Failure> {
+        Opened::of(Given::read(path, input)?)
+    }
+
+    /// Loads what was read.
+    pub fn of(given: Given) -> Result<Opened, Failure> {
+        let (sheet, lines) = sheet_of(&given)?;
+        let stores = loaded(&given.name, &sheet, lines.as_ref())?;
+        let schema = held(&stores)?;
+        Ok(Opened {
+            given,
+            stores,
+            schema,
+        })
+    }
+}
+
+/// The stores of a sheet, or why the keeper refuses it.
+pub fn loaded(name: &str, sheet: &[u8], lines: Option<&Lines>) -> Result<Stores, Failure> {
+    let refused = |answer| Failure::Refused(refusal::load(name, sheet, answer, lines));
+    Stores::load(sheet).map_err(refused)
+}
+
+/// The rows that the stores hold, by the sheet that the keeper writes.
+pub fn held(stores: &Stores) -> Result<Schema, Failure> {
+    stores
+        .sheet()
+        .map(|sheet| decode(&sheet))
+        .map_err(unwritten)
+}
+
+/// The keeper did not write stores that it filled itself.
+pub fn unwritten(answer: keeper::Answer) -> Failure {
+    Failure::unusable(format!(
+        "the stores cannot be written: {}",
+        refusal::headline(answer.number, "")
+    ))
+}
+
+/// What was read, as a sheet; where it came as lines, with the line of each row.
+pub fn sheet_of(given: &Given) -> Result<(Vec<u8>, Option<Lines>), Failure> {
+    let unusable = |fault: String| Failure::unusable(format!("{}: {fault}", given.name));
+    let (schema, lines) = match given.form {
+        Form::Sheet => return Ok((given.bytes.clone(), None)),
+        Form::Text => text::read(&given.text()).map_err(|fault| unusable(fault.to_string()))?,
+        Form::Ldif => {
+            let import = ldif::import(&given.text(), &[]).map_err(unusable)?;
+            (import.schema, import.lines)
+        }
+    };
+    let sheet = encode(&schema).map_err(unusable)?;
+    Ok((sheet, Some(lines)))
+}
+
+/// How many rows of a table there are, and how many of them are defunct or came
+/// with the server.
+pub fn counted(schema: &Schema, table: Table) -> String {
+    let rows: Vec<_> = schema
+        .rows_of(table)
+        .filter_map(|row| schema.common(row))
+        .collect();
+    let defunct = rows.iter().filter(|row| row.defunct).count();
+    let base = rows
+        .iter()
+        .filter(|row| row.flags & crate::rows::BASE != 0)
+        .count();
+    let word = match (table, rows.len()) {
+        (Table::Attributes, 1) => "attribute",
+        (Table::Attributes, _) => "attributes",
+        (Table::Classes, 1) => "class",
+        (Table::Classes, _) => "classes",
+    };
+    format!("{} {word} ({base} base, {defunct} defunct)", rows.len())
+}

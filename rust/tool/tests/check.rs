@@ -1,0 +1,261 @@
+//! `keeper check`: accepted with counts, or refused in words, and bad input.
+#![allow(clippy::unwrap_used, clippy::expect_used)]
+
+mod common;
+
+use common::{done, fed, folder, kept, ran, refused};
+use std::fs;
+
+#[test]
+fn a_schema_is_accepted_in_each_form() {
+    let counts = "accepted: 57 attributes (17 base, 4 defunct), 25 classes (6 base, 2 defunct)\n";
+    assert_eq!(
+        done(&["check", "samples/forest.sheet"]),
+        format!("samples/forest.sheet: {counts}")
+    );
+    assert_eq!(
+        done(&["check", "samples/forest.schema"]),
+        format!("samples/forest.schema: {counts}")
+    );
+    let sheet = fs::read("samples/forest.sheet").unwrap();
+    assert_eq!(
+        fed(&["check", "-"], &sheet).text(),
+        format!("standard input: {counts}")
+    );
+}
+
+#[test]
+fn the_accident_is_told_with_both_rivals() {
+    let words = refused(1, &["check", "samples/refused.sheet"]);
+    let expected = "samples/refused.sheet: refused
+13, name taken: attribute 1 `areaHa` and attribute 2 `AreaHA`
+  Two rows have one display name, case aside: A to Z count as a to z. The two
+  may stand in either table, and defunct rows count. Both break the rule.
+  Do: choose another name for one of the two. The place is the lowest of them,
+  not the one that came last.
+";
+    assert_eq!(words, expected);
+    let words = refused(1, &["check", "samples/refused.schema"]);
+    assert!(
+        words.starts_with("samples/refused.schema: refused, row at line 11\n13, name taken: "),
+        "{words}"
+    );
+}
+
+/// The first two lines of a refusal, without the file's name.
+fn told(text: &str) -> String {
+    let ran = fed(&["check", "-"], text.as_bytes());
+    assert_eq!(ran.code, 1, "{text}: {}", ran.err);
+    let lines: Vec<_> = ran.err.lines().take(2).collect();
+    lines[1].to_owned()
+}
+
+const CN: &str =
+    "attribute cn 2.5.4.3\n guid 00000000000000000000000000000001\n syntax 12 64\n single\n";
+const TOP: &str =
+    "class top 2.5.6.0\n guid 00000000000000000000000000000002\n abstract\n under top\n";
+
+/// Attribute 1 with these lines, beside `cn` and `top`.
+fn attribute(name: &str, lines: &str) -> String {
+    let head = format!("attribute {name} 2.999.1\n guid 00000000000000000000000000000003\n");
+    format!("{CN}{head} {}\n{TOP}", lines.replace(';', "\n "))
+}
+
+/// Class 1 with these lines, beside `cn` and `top`.
+fn class(lines: &str) -> String {
+    let head = "class stand 2.999.2\n guid 00000000000000000000000000000004\n";
+    format!("{CN}{TOP}{head} {}\n", lines.replace(';', "\n "))
+}
+
+#[test]
+fn rules_of_attributes_are_told_with_what_breaks_them() {
+    assert_eq!(
+        told(&attribute("1area", "syntax 9 2")),
+        "12, name invalid: attribute 1 `1area`: its name"
+    );
+    assert_eq!(
+        told(&attribute("TOP", "syntax 9 2")),
+        "13, name taken: attribute 1 `TOP` and class 0 `top`"
+    );
+    let text = attribute("age", "syntax 9 2").replace("2.999.1", "1.40");
+    assert_eq!(
+        told(&text),
+        "14, identifier invalid: attribute 1 `age`: its identifier is 1.40"
+    );
+    let text = attribute("age", "syntax 9 2").replace("2.999.1", "2.5.6.0");
+    let words = "15, identifier taken: attribute 1 `age`: identifier 2.5.6.0 of attribute 1 `age` and class 0 `top`";
+    assert_eq!(told(&text), words);
+    let text = attribute("age", "syntax 9 2").replace("0003\n", "0001\n");
+    let words = "16, guid taken: attribute 0 `cn`: GUID 00000000-0000-0000-0000-000000000001 of attribute 0 `cn` and attribute 1 `age`";
+    assert_eq!(told(&text), words);
+    let text = attribute("age", "syntax 9 2;lower 5;upper 5");
+    assert_eq!(
+        told(&text),
+        "25, range empty: attribute 1 `age`: its range is 5 to 5"
+    );
+    let text = attribute("age", "syntax 9 65");
+    assert_eq!(
+        told(&text),
+        "26, syntax misfit: attribute 1 `age`: attributeSyntax 2.5.5.9 with oMSyntax 65"
+    );
+    let text = attribute("age", "syntax 1 127;object 00ff");
+    let words = "27, object class wrong: attribute 1 `age`: attributeSyntax 2.5.5.1 with oMObjectClass 00FF";
+    assert_eq!(told(&text), words);
+    let text = attribute("age", "syntax 1 127;link 5");
+    assert_eq!(
+        told(&text),
+        "29, link alone: attribute 1 `age`: linkID 5, and no attribute has 4"
+    );
+}
+
+#[test]
+fn shared_numbers_are_told_with_their_rivals() {
+    for (line, name) in [
+        ("mapi 7", "24, mapi taken: attribute 0 `cn`: mAPIID 7"),
+        ("link 4", "28, link taken: attribute 0 `cn`: linkID 4"),
+    ] {
+        let text = attribute("age", &format!("syntax 9 2;{line}"));
+        let text = text.replacen(" single", &format!(" single\n {line}"), 1);
+        assert_eq!(
+            told(&text),
+            format!("{name} of attribute 0 `cn` and attribute 1 `age`")
+        );
+    }
+}
+
+#[test]
+fn rules_of_classes_are_told_with_what_breaks_them() {
+    let text = class("structural;under top;must cn").replacen("single", "defunct", 1);
+    let words = "17, attribute not live: class 1 `stand`: it names attribute 0 `cn`, which is defunct, in its mandatory attributes";
+    assert_eq!(told(&text), words);
+    let text = class("structural;under stand");
+    let words = "18, class not live: class 1 `stand`: it names class 1 `stand`, which does not come before it, as superclass";
+    assert_eq!(told(&text), words);
+    let text = class("structural;under top;aux top");
+    let words = "19, not an auxiliary: class 1 `stand`: its open auxiliary classes hold class 0 `top`, which is abstract";
+    assert_eq!(told(&text), words);
+    let text = class("structural;under top;system-in top");
+    let words = "20, not a superior: class 1 `stand`: its fixed possible superiors hold class 0 `top`, which is abstract";
+    assert_eq!(told(&text), words);
+    let text = class("structural;under top").replacen("abstract", "auxiliary", 1);
+    let words = "21, category misfit: class 0 `top`: it is auxiliary, and class 0 must be abstract";
+    assert_eq!(told(&text), words);
+    let text = class("structural;under top;naming cn").replacen(" single\n", "", 1);
+    let words = "23, naming unfit: class 1 `stand`: it is named by attribute 0 `cn`, of syntax 2.5.5.12, multi-valued";
+    assert_eq!(told(&text), words);
+}
+
+#[test]
+fn an_unreadable_sheet_is_told_by_row_field_and_bytes() {
+    let folder = folder("check");
+    let sheet = fs::read("samples/forest.sheet").unwrap();
+    let cut = kept(&folder, "cut.sheet", &sheet[..3000]);
+    let words = refused(1, &["check", &cut]);
+    let line = words.lines().nth(1).unwrap();
+    let expected = "4, unreadable: byte 2910 of 3000, at the tag of attribute 29: 112 bytes are announced, 87 are there";
+    assert_eq!(line, expected);
+    assert!(
+        words.contains(
+            "\n      2896 | 0A  00  04  00  00  00  01  0B  00  04  00  00  00  3C [20] 00\n"
+        ),
+        "{words}"
+    );
+    let long = attribute(&"a".repeat(70), "syntax 9 2");
+    assert!(
+        fed(&["check", "-"], long.as_bytes())
+            .err
+            .starts_with("standard input: refused, row at line 5\n")
+    );
+    let line = told(&long);
+    let expected = "4, unreadable: byte 71 of ";
+    assert!(line.starts_with(expected), "{line}");
+    assert!(
+        line.ends_with("`: field 01, display name (70 bytes); its length may be: 0 to 64"),
+        "{line}"
+    );
+    let _ = fs::remove_dir_all(folder);
+}
+
+#[test]
+fn missing_fields_and_leftover_bytes_are_told() {
+    let told = |sheet: &[u8]| {
+        let ran = fed(&["check", "-"], sheet);
+        assert_eq!(ran.code, 1);
+        ran.err.lines().nth(1).unwrap().to_owned()
+    };
+    let heading = [1, 0, 1, 1];
+    let with = |bytes: &[u8]| [&heading, bytes].concat();
+    let words = "4, unreadable: byte 7 of 7, in attribute 0: its end, and it has no display name, object identifier, schemaIDGUID, systemFlags, attributeSyntax and oMSyntax";
+    assert_eq!(told(&with(&[0x20, 0, 0])), words);
+    assert_eq!(
+        told(&with(&[0x20, 0])),
+        "4, unreadable: byte 4 of 6, where two bytes are left over that are no field"
+    );
+    assert_eq!(
+        told(&with(&[0x21, 0, 0])),
+        "4, unreadable: byte 4 of 7, at the tag 21, which no field of a sheet has"
+    );
+    assert_eq!(
+        told(&heading[..3]),
+        "4, unreadable: byte 0 of 3, at the heading: 1 bytes are announced, 0 are there"
+    );
+    let sheet = std::fs::read("samples/forest.sheet").unwrap();
+    let end = sheet.len() - 4;
+    let words =
+        format!("4, unreadable: byte {end} of {end}, the end of the sheet: the heading is missing");
+    assert_eq!(told(&sheet[4..]), words);
+}
+
+#[test]
+fn more_rows_than_fit_are_told() {
+    let row = |at: usize| format!("attribute a{at} 2.999.{at}\n guid {at:032x}\n syntax 9 2\n");
+    let text: String = (0..300).map(row).collect();
+    let words = "6, no free row: 300 attributes, and there is room for 256: the first without is attribute 256 `a256`";
+    assert_eq!(told(&text), words);
+}
+
+#[test]
+fn what_is_no_schema_is_told() {
+    let folder = folder("bad");
+    let missing = folder.join("none").to_string_lossy().into_owned();
+    assert!(refused(2, &["check", &missing]).contains("cannot be read: No such file or directory"));
+    let place = folder.to_string_lossy().into_owned();
+    assert!(refused(2, &["check", &place]).contains("cannot be read: Is a directory"));
+    let empty = kept(&folder, "empty", b"");
+    assert_eq!(
+        refused(2, &["check", &empty]),
+        format!("{empty}: is empty, so it holds no schema\n")
+    );
+    let huge = kept(&folder, "huge", &vec![b'#'; (16 << 20) + 1]);
+    assert_eq!(
+        refused(2, &["check", &huge]),
+        format!("{huge}: is longer than 16777216 bytes, so it is no schema\n")
+    );
+    let text = kept(&folder, "text", b"Dear forester,\nthe areas are wrong.\n");
+    assert_eq!(
+        refused(2, &["check", &text]),
+        format!("{text}: line 1: Dear: no row before it\n")
+    );
+    let binary = kept(&folder, "binary", &[0xFF, 0x00, 0x7F, 0x80]);
+    assert!(refused(1, &["check", &binary]).contains("4, unreadable: byte 0 of 4"));
+    let _ = fs::remove_dir_all(folder);
+}
+
+#[test]
+fn wrong_words_are_told_with_the_usage() {
+    assert_eq!(
+        refused(2, &["check"]),
+        "something is missing; it is: keeper check FILE\n"
+    );
+    assert_eq!(
+        refused(2, &["check", "a", "b"]),
+        "too many words; it is: keeper check FILE\n"
+    );
+    assert_eq!(
+        refused(2, &["check", "--fast", "a"]),
+        "--fast: no such option; this command has none but --help\n"
+    );
+    assert!(refused(2, &["chek"]).starts_with("chek: no such command; there are check, list, "));
+    assert_eq!(ran(&[]).code, 2);
+    assert_eq!(ran(&["--help"]).code, 0);
+}

@@ -1,0 +1,121 @@
+//! `keeper diff`: its changes lead from the one schema to the other.
+#![allow(clippy::unwrap_used, clippy::expect_used)]
+
+mod common;
+
+use common::{copied, done, fed, folder, kept, ran};
+use std::fs;
+
+const FOREST: &str = "samples/forest.sheet";
+
+/// What the diff from the forest to a text says, and its exit code.
+fn diff(text: &str) -> (u8, String) {
+    let ran = fed(&["diff", FOREST, "-"], text.as_bytes());
+    assert_eq!(ran.err, "");
+    (ran.code, ran.text())
+}
+
+fn forest() -> String {
+    common::top();
+    fs::read_to_string("samples/forest.schema").unwrap()
+}
+
+#[test]
+fn the_same_schema_differs_in_nothing() {
+    assert_eq!(diff(&forest()), (0, String::new()));
+}
+
+/// Changes of every kind, then the diff, made to another copy: the same bytes.
+#[test]
+fn changes_come_back_as_changes() {
+    let folder = folder("diff");
+    let file = copied(&folder, "forest.sheet");
+    let changes = "rename attribute areaHa woodedHa
+rename class stand forestStand
+range attribute standAge 0 none
+remove optional forestStand managedBy
+remove auxiliary forestStand habitat
+add superior parcel forestStand
+deactivate class felling
+reactivate attribute mapSheet
+add attribute soilPh 1.3.6.1.4.1.32473.6.1.9
+  guid 000102030405060708090a0b0c0d0e0f
+  syntax 9 2
+add optional located soilPh
+add class nursery 1.3.6.1.4.1.32473.6.22.9
+  guid 0f0e0d0c0b0a09080706050403020100
+  structural
+  under parcel
+  may soilPh
+";
+    let list = kept(&folder, "changes", changes.as_bytes());
+    done(&["change", "--from", &list, &file]);
+    let said = done(&["diff", FOREST, &file]);
+    assert!(
+        said.starts_with("reactivate attribute mapSheet\nrename attribute areaHa woodedHa\n"),
+        "{said}"
+    );
+    let again = copied(&folder, "forest.schema");
+    let list = kept(&folder, "changes", said.as_bytes());
+    done(&["change", "--from", &list, &again]);
+    assert_eq!(done(&["diff", &again, &file]), "");
+    assert!(fs::read(&file).unwrap() == ran(&["export", "--sheet", &again]).out);
+    let _ = fs::remove_dir_all(folder);
+}
+
+#[test]
+fn what_no_change_can_do_is_named() {
+    let text = forest()
+        .replacen(
+            "syntax 9 2\n  single\n  lower 0\n  upper 1500",
+            "syntax 9 10\n  lower 0\n  upper 900",
+            1,
+        )
+        .replacen("  must latinName speciesCode\n", "  must latinName\n", 1);
+    let text = text.split("\nclass oldHabitat").next().unwrap();
+    let expected = "range attribute standAge 0 900
+# cannot be changed: attribute 27 `standAge`: oMSyntax: 2, and would be 10
+# cannot be changed: attribute 27 `standAge`: values: single, and would be multi
+# cannot be changed: class 21 `species`: mandatory attributes: speciesCode latinName, and would be latinName
+# cannot be changed: class 24 `oldHabitat`: no change removes a row
+";
+    assert_eq!(diff(text), (1, expected.to_owned()));
+}
+
+#[test]
+fn what_the_keeper_refuses_is_named_with_its_number() {
+    let text = forest().replacen("\nattribute street ", "\nattribute road ", 1);
+    let text = text.replacen("system-may street ", "system-may road ", 1);
+    let expected = "# cannot be changed: rename attribute street road: 8, base row\n";
+    assert_eq!(diff(&text), (1, expected.to_owned()));
+}
+
+/// Two names that change places need a third for a moment.
+#[test]
+fn names_can_change_places() {
+    let text = forest()
+        .replace("standAge", "@")
+        .replace("siteIndexM", "standAge")
+        .replace("@", "siteIndexM");
+    let (code, said) = diff(&text);
+    assert_eq!(code, 0, "{said}");
+    let expected = "rename attribute standAge keeper-1
+rename attribute siteIndexM standAge
+rename attribute keeper-1 siteIndexM
+";
+    assert_eq!(said, expected);
+}
+
+/// Classes that list each other are added one after the other, then joined.
+#[test]
+fn added_classes_may_list_each_other() {
+    let class = |name: &str, other: &str, number: u8| {
+        format!(
+            "\nclass {name} 2.999.{number}\n guid {number:032x}\n auxiliary\n under top\n aux {other}\n"
+        )
+    };
+    let text = forest() + &class("one", "other", 1) + &class("other", "one", 2);
+    let (code, said) = diff(&text);
+    assert_eq!(code, 0, "{said}");
+    assert!(said.contains("add auxiliary one other\n"), "{said}");
+}

@@ -1,0 +1,121 @@
+//! Schemas at random: each form comes back, refusals have the independent
+//! program's number and row, and the changes of a diff lead where they say.
+#![allow(clippy::unwrap_used, clippy::expect_used)]
+
+mod common;
+
+use common::{done, fed, folder, kept};
+use generate::{Random, changes, schemas, sheets};
+use std::fs;
+use tool::stores::Stores;
+
+#[test]
+fn each_form_comes_back() {
+    for number in 0..150 {
+        let sheet = sheets::sound(&mut Random::nth(21, number));
+        let given = fed(&["export", "--sheet", "-"], &sheet);
+        assert_eq!((given.code, given.err.as_str()), (0, ""));
+        for words in [["export", "--text", "-"], ["export", "--ldif", "-"]] {
+            let written = fed(&words, &sheet);
+            // A schema of no rows is an empty text, and LDIF without entries.
+            if written.out.len() > 12 {
+                let back = fed(&["export", "--sheet", "-"], &written.out);
+                assert!(back.out == given.out, "{number} {words:?} {}", back.err);
+            }
+        }
+        for words in [["list", "-"], ["tree", "-"], ["page", "-"]] {
+            assert_eq!(fed(&words, &sheet).code, 0, "{number}");
+        }
+    }
+}
+
+/// What the independent program answers to a load.
+fn answer(sheet: &[u8]) -> reference::Answer {
+    let (mut one, mut two, mut three) = (vec![0; 48_386], vec![0; 40_322], vec![0; 10_240]);
+    reference::load(sheet, &mut one, &mut two, &mut three)
+}
+
+/// The number that a refusal tells is the independent program's, and the row that
+/// it names is among the rows told; a place of number 4 is told too.
+#[test]
+fn refusals_tell_number_and_row() {
+    let mut seen = [0; 32];
+    for number in 0..3000 {
+        let sheet = sheets::any(&mut Random::nth(22, number));
+        let (answer, ran) = (answer(&sheet), fed(&["check", "-"], &sheet));
+        // Noise without a byte that no text has is taken for a text.
+        if sheet
+            .iter()
+            .all(|byte| *byte >= 0x20 || b"\t\n\x0C\r".contains(byte))
+        {
+            continue;
+        }
+        assert_eq!(ran.code, u8::from(answer.number != 0), "{number}");
+        if ran.code == 0 {
+            continue;
+        }
+        let line = ran.err.lines().nth(1).unwrap();
+        assert!(
+            line.starts_with(&format!("{}, ", answer.number)),
+            "{number}: {line}"
+        );
+        let place = match (answer.number, answer.table) {
+            (4, _) => format!(": byte {} of {}, ", answer.place, sheet.len()),
+            (6, _) => format!("there is room for {}: ", answer.place),
+            (_, 1) => format!("attribute {} `", answer.place),
+            _ => format!("class {} `", answer.place),
+        };
+        assert!(line.contains(&place), "{number}: {line}");
+        seen[usize::try_from(answer.number).unwrap()] += 1;
+    }
+    let rules = (12..=29).filter(|number| *number != 22);
+    let missing: Vec<_> = rules
+        .chain([4, 6])
+        .filter(|number| seen[*number] == 0)
+        .collect();
+    assert!(missing.is_empty(), "{missing:?}");
+}
+
+/// A schema, changes made to it, and the changes that a diff tells: made to the
+/// first, they leave nothing different.
+#[test]
+fn the_changes_of_a_diff_lead_to_the_other_schema() {
+    let folder = folder("diffs");
+    let (mut led, mut total) = (0, 0);
+    for number in 0..150 {
+        let mut random = Random::nth(23, number);
+        let size = schemas::Size::typical(&mut random);
+        let schema = schemas::schema(&mut random, size);
+        let old = reference::writing::sheet(&schema);
+        let mut stores =
+            Stores::load(&old).unwrap_or_else(|_| Stores::load(&[1, 0, 1, 1]).unwrap());
+        for _ in 0..12 {
+            let change = changes::plausible(&mut random, &schema);
+            stores.change(&changes::bytes(&change), false);
+        }
+        let old = kept(&folder, "old.sheet", &old);
+        let new = kept(&folder, "new.sheet", &stores.sheet().unwrap());
+        let diff = common::ran(&["diff", &old, &new]);
+        total += 1;
+        if diff.code == 0 {
+            led += 1;
+            let list = kept(&folder, "changes", diff.text().as_bytes());
+            if !diff.text().is_empty() {
+                done(&["change", "--from", &list, &old]);
+            }
+            assert_eq!(done(&["diff", &old, &new]), "", "{number}");
+            assert!(
+                fs::read(&old).unwrap() == fs::read(&new).unwrap(),
+                "{number}"
+            );
+        } else {
+            assert!(
+                diff.text().contains("# cannot be changed: "),
+                "{number}: {}",
+                diff.err
+            );
+        }
+    }
+    assert!(led * 20 >= total * 19, "{led} of {total}");
+    let _ = fs::remove_dir_all(folder);
+}
