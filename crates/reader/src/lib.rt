@@ -22,7 +22,7 @@ pub struct Step {
 }
 
 // Whether a place is the end of the bytes.
-fn is_end(s: &[u8], at: usize) -> bool
+pub fn is_end(s: &[u8], at: usize) -> bool
     ensures { λ r. ⌜ r ≡ eqb at (length (now (s .entry))) ⌝ }
 {
     at == s.len()
