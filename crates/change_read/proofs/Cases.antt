@@ -2,12 +2,11 @@
 use mathlib.Core.Bool.{Bool, true, false}
 use mathlib.Core.List.{List, [], _∷_}
 use mathlib.Core.Logic.{⊎-elim}
-use mathlib.Core.Path.{_≡_, refl, sym}
+use mathlib.Core.Path.{_≡_, refl, sym, ap, _∙_}
 use Prim.Native.Nat.{ℕ, _+_}
 use native.Mathlib.Omega.{arith}
 use lib.Dec.{eqb, leb}
 use lib.ListN.{length}
-use borrow.Author.Tests.{eq-eqb, ne-eqb}
 use Rattle.prelude.specs.Unlike.{Unlike, among}
 use Rattle.prelude.specs.UnlikeLaws.{unlike-key}
 use denote.Enum.Declared.{tagOf}
@@ -16,6 +15,7 @@ use Rattle.wire.specs.declared.FieldRead.{FieldRead}
 use Rattle.wire.specs.Wire.{valueEnd, fieldAt}
 use Rattle.rows_format.specs.declared.format.Format.{Format}
 use Rattle.rows_read.specs.declared.read.RowRead.{RowRead}
+use Rattle.rows_read.specs.Reading.{rowAnswer}
 use Rattle.rows_read.specs.ObjectClass.{readRow}
 use Rattle.change_read.specs.declared.read.Change.{Change}
 use Rattle.change_read.specs.declared.read.Tagged.{Tagged}
@@ -45,17 +45,18 @@ no-change tag h =
 module _ (change : Change) (s : List ℕ) (start stop : ℕ) (row : List ℕ) (zero : row ≡ scratch) (format : Format) (is : format ≡ formatOf change)
     (r : RowRead) (new : List ℕ)
     (read : (r ≡ readRow format s start stop row .answer) × (new ≡ readRow format s start stop row .row)) where
-  pub value-bad : (at : ℕ) → r ≡ rows.Bad at → Came (Bad at) new (readValue change s start stop)
+  pub value-bad : (at place : ℕ) → r ≡ rows.Bad at → place ≡ rowAnswer r .place → Came (Bad place) new (readValue change s start stop)
   unfolding readValue wholeRead
-  value-bad at e = record { answer = rw (← zero, ← is, ← (read .0), e); row = rw (← zero, ← is) (read .1) }
+  value-bad at place e p =
+      record { answer = ap Bad (p ∙ ap (λ (x : RowRead). rowAnswer x .place) e) ∙ rw (← zero, ← is, ← (read .0), e); row = rw (← zero, ← is) (read .1) }
 
-  pub value-read : r ≡ rows.Read → stop ≡ length s → Came (Read change) new (readValue change s start stop)
+  pub value-read : r ≡ rows.Read → eqb stop (length s) ≡ true → Came (Read change) new (readValue change s start stop)
   unfolding readValue wholeRead
-  value-read e h = record { answer = rw (← zero, ← is, ← (read .0), e, eq-eqb stop (length s) h); row = rw (← zero, ← is) (read .1) }
+  value-read e h = record { answer = rw (← zero, ← is, ← (read .0), e, h); row = rw (← zero, ← is) (read .1) }
 
-  pub value-followed : r ≡ rows.Read → ¬ (stop ≡ length s) → Came (Bad stop) new (readValue change s start stop)
+  pub value-followed : r ≡ rows.Read → eqb stop (length s) ≡ false → Came (Bad stop) new (readValue change s start stop)
   unfolding readValue wholeRead
-  value-followed e h = record { answer = rw (← zero, ← is, ← (read .0), e, ne-eqb stop (length s) h); row = rw (← zero, ← is) (read .1) }
+  value-followed e h = record { answer = rw (← zero, ← is, ← (read .0), e, h); row = rw (← zero, ← is) (read .1) }
 
 -- ---- a whole field, by its tag
 

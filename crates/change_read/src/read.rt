@@ -1,12 +1,14 @@
 // Reads a change. Document 01: "A change is one field".
+use reader::step_at;
 use rows_format::format::Format;
 use rows_read::read::RowRead;
+use rows_read::read::place_of;
 use rows_read::read::read_row;
 use schema::number::TableId;
 use wire::FieldRead;
-use wire::field_at;
 ghost use mathlib.Core.Path.{_≡_};
 ghost use Prim.Native.Nat.{_≤_};
+ghost use lib.Dec.{eqb};
 ghost use lib.ListN.{length};
 ghost use Rattle.prelude.specs.Part.{zeros};
 ghost use Rattle.schema.specs.Layout.{classWidth};
@@ -93,20 +95,26 @@ fn format_of(change: Change) -> Format
     }
 }
 
-// The value of a change, and nothing behind it.
-fn read_value(change: Change, s: &[u8], start: usize, stop: usize, row: &mut [u8]) -> ChangeRead
-    requires { ⌜ (start ≤ stop) × (stop ≤ length (now s)) × (now row ≡ zeros classWidth) ⌝ }
+// The value of a change, and nothing behind it: last says that the bytes end there.
+fn read_value(
+    change: Change,
+    s: &[u8],
+    start: usize,
+    stop: usize,
+    last: bool,
+    row: &mut [u8],
+) -> ChangeRead
+    requires { ⌜ (start ≤ stop) × (stop ≤ length (now s)) × (now row ≡ zeros classWidth) × (last ≡ eqb stop (length (now s))) ⌝ }
     ensures { λ r. ⌜ Came r (now (row .exit)) (readValue change (now (s .entry)) start stop) ⌝ }
 {
-    match read_row(format_of(change), s, start, stop, row) {
-        RowRead::Bad { at } => ChangeRead::Bad { at },
-        RowRead::Read => {
-            if stop == s.len() {
-                return ChangeRead::Read(change);
-            }
-            ChangeRead::Bad { at: stop }
-        }
+    let read = read_row(format_of(change), s, start, stop, row);
+    let RowRead::Read = read else {
+        return ChangeRead::Bad { at: place_of(read) };
+    };
+    if last {
+        return ChangeRead::Read(change);
     }
+    ChangeRead::Bad { at: stop }
 }
 
 // Reads a change into a scratch row of zeros. It then holds what the change carries; after a refusal, what was stored before it.
@@ -114,11 +122,13 @@ pub fn read_change(s: &[u8], row: &mut [u8]) -> ChangeRead
     requires { ⌜ now row ≡ zeros classWidth ⌝ }
     ensures { λ r. ⌜ Came r (now (row .exit)) (readChange (now (s .entry))) ⌝ }
 {
-    let FieldRead::Field { tag, start, end } = field_at(s, 0, s.len()) else {
+    let step = step_at(s, 0);
+    let field = step.field;
+    let FieldRead::Field { tag, start, end } = field else {
         return ChangeRead::Bad { at: 0 };
     };
     let Tagged::Known(change) = change_of(tag) else {
         return ChangeRead::Bad { at: 0 };
     };
-    read_value(change, s, start, end, row)
+    read_value(change, s, start, end, step.last, row)
 }

@@ -11,7 +11,9 @@ use Rattle.change_read.specs.declared.read.Change.{Change}
 use Rattle.change_read.specs.Carried.{addedRow, targetOf}
 use Rattle.schema.specs.declared.number.TableId.{TableId}
 use Rattle.schema.specs.Layout.{rowWidth, rowsAt}
-use Rattle.schema.specs.Numbers.{limit}
+use Rattle.schema.specs.Numbers.{limit, rowId, tableOf, numberOf}
+use Rattle.schema.specs.NumbersLaws.{id-table, id-number}
+use Rattle.schema.specs.declared.number.RowId.{RowId}
 use Rattle.schema.specs.Store.{tableIn}
 use Rattle.change_rows.specs.Stores.{Applicable, storeAfter}
 use Rattle.change_rows.specs.RowsLaws.{edited-wide}
@@ -21,17 +23,20 @@ use Rattle.prelude.specs.Part.{part, splice}
 use Rattle.prelude.specs.PartLaws.{part-cut, part-length, row-fits}
 use Rattle.tables.specs.Filled.{plusIn, putIn}
 
-module _ (change : Change) (r s : List ℕ) (ok : Applicable change r s) (fixed : isAddition change ≡ false) (w k : ℕ)
-    (wide : w ≡ rowWidth (tableFor change)) (is : k ≡ targetOf r) where
-  pub row-inside : rowsAt + w * k + w ≤ length s
-  row-inside = row-fits rowsAt w (limit (tableFor change)) k (length s)
-      (rw wide (ok .long)) (rw is (ok .within fixed))
+-- where the target's row stands, as its number was made and looked up
+pub target-start : (t u : TableId) (k n at : ℕ) (id : RowId) → at ≡ rowsAt + rowWidth (tableOf id) * numberOf id → id ≡ rowId t k → t ≡ u → k ≡ n
+    → at ≡ rowsAt + rowWidth u * n
+target-start t u k n at id e f g h =
+    e ∙ ap (λ (x : RowId). rowsAt + rowWidth (tableOf x) * numberOf x) f
+    ∙ ap₂ (λ (x : TableId) (y : ℕ). rowsAt + rowWidth x * y) (id-table t k ∙ g) (id-number t k ∙ h)
 
-  abbrev at : ℕ
-  at = rowsAt + w * k
+module _ (change : Change) (r s : List ℕ) (ok : Applicable change r s) (fixed : isAddition change ≡ false) (w at : ℕ)
+    (wide : w ≡ rowWidth (tableFor change)) (begins : at ≡ rowsAt + rowWidth (tableFor change) * targetOf r) where
+  pub row-inside : at + w ≤ length s
+  row-inside = rw (begins, wide) (row-fits rowsAt (rowWidth (tableFor change)) (limit (tableFor change)) (targetOf r) (length s) (ok .long) (ok .within fixed))
 
   lent : take (at + w - at) (drop at s) ≡ tableIn (tableFor change) s .row (targetOf r)
-  lent = part-cut at w s (at + w) refl ∙ ap₂ (λ (x y : ℕ). part (rowsAt + x * y) x s) wide is
+  lent = part-cut at w s (at + w) refl ∙ ap₂ (λ (x y : ℕ). part x y s) begins wide
 
   pub lent-wide : length (take (at + w - at) (drop at s)) ≡ rowWidth (tableFor change)
   lent-wide = ap length (part-cut at w s (at + w) refl) ∙ part-length at w s row-inside ∙ wide
@@ -43,8 +48,7 @@ module _ (change : Change) (r s : List ℕ) (ok : Applicable change r s) (fixed 
       let new = editedRow change r (tableIn (tableFor change) s .row (targetOf r)) in
       let long : length new ≡ rowWidth (tableFor change) = edited-wide change r _ (ok .carried) (inl (sym (ap length lent) ∙ lent-wide)) in
       rw fixed
-      (lent-back at (at + w) s back new (omega (arith, long, wide)) (e ∙ ap (editedRow change r) lent)
-      ∙ ap₂ (λ (x y : ℕ). splice (rowsAt + x * y) new s) wide is)
+      (lent-back at (at + w) s back new (omega (arith, long, wide)) (e ∙ ap (editedRow change r) lent) ∙ ap (λ (x : ℕ). splice x new s) begins)
 
 -- a row that was put last
 pub added-store : (change : Change) (r s : List ℕ) {new after : List ℕ} {t : TableId} → isAddition change ≡ true → t ≡ tableFor change

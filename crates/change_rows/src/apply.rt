@@ -7,13 +7,13 @@ use change_read::carried::target_of;
 use change_read::read::Change;
 use prelude::part::copy_padded;
 use prelude::part::part_of;
-use schema::layout::ROWS;
 use schema::layout::row_width;
 use schema::number::RowId;
 use schema::number::row_id;
 use schema::number::table_of;
 use schema::store::row;
 use schema::store::row_count;
+use schema::store::row_start;
 use tables::store::push_row;
 use tables::store::put_row;
 use tables::store::write_count;
@@ -47,9 +47,8 @@ pub fn apply(change: Change, scratch: &[u8], store: &mut [u8])
     if is_addition(change) {
         push_row(table, store, added_row(table, scratch));
     } else {
-        let width = row_width(table);
-        let at = ROWS + width * (target_of(scratch) as usize);
-        let end = at + width;
+        let at = row_start(row_id(table, target_of(scratch) as usize));
+        let end = at + row_width(table);
         edit_row(change, scratch, &mut store[at..end]);
     }
 }

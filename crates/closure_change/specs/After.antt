@@ -69,4 +69,5 @@ pub record Updatable (change : Change) (r classes closure : List ℕ) : Type 0 w
   pub readable : Readable classes
   pub long : closureLength ≤ length closure
   pub target : change ≡ AddEntry → targetOf r < classLimit
+  pub removed : change ≡ RemoveEntry → targetOf r < classLimit
   pub entry : change ≡ AddEntry → listOf r ≡ Auxiliary → entryOf r < classLimit

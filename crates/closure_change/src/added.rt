@@ -11,6 +11,7 @@ use schema::layout::CLOSURE_WIDTH;
 use schema::number::ClassNumber;
 use schema::store::class_row;
 use schema::store::closure_row;
+use schema::store::closure_start;
 use tables::named::ClassList;
 use tables::named::is_listed;
 use tables::named::superclass_number;
@@ -90,5 +91,5 @@ pub fn write_new(classes: &[u8], n: ClassNumber, closure: &mut [u8])
     let mut own = [0u8; CLOSURE_WIDTH];
     write_own(class_row(classes, n), n, &mut own);
     sets::join(&mut named, &own);
-    put_bytes(&named, closure, CLOSURE_WIDTH * n.0);
+    put_bytes(&named, closure, closure_start(n));
 }

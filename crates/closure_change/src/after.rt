@@ -18,6 +18,7 @@ use schema::layout::ATTRIBUTE_SET;
 use schema::layout::CLOSURE_WIDTH;
 use schema::layout::DEMANDED;
 use schema::number::ClassNumber;
+use schema::number::ClassRead;
 use schema::number::TableId;
 use schema::store::closure_row;
 ghost use mathlib.Core.Bool.{not};
@@ -31,6 +32,7 @@ ghost use Rattle.schema.specs.Layout.{attributeSet, classWidth, closureLength, 
 ghost use Rattle.schema.specs.Store.{closureAt, demandedIn, tableIn};
 ghost use Rattle.schema.specs.declared.number.TableId.the-variants.{Classes};
 ghost use Rattle.graph.specs.Graph.{Readable, demandedSet};
+ghost use Rattle.change_read.specs.Carried.{targetOf};
 ghost use Rattle.closure_change.specs.Kept.{joinedInto, optionRow};
 ghost use Rattle.closure_change.specs.After.{Updatable, closureAfter, entryJoined, entryDemands, demandBefore, demandChanges};
 
@@ -72,7 +74,12 @@ fn join_entry(list: OpenList, entry: usize, n: usize, k: usize, closure: &mut [u
 {
     match list {
         OpenList::Optional => join_option(entry, n, k, closure),
-        OpenList::Auxiliary => join_auxiliary(ClassNumber(entry), n, k, closure),
+        OpenList::Auxiliary => {
+            let ClassRead::Class(a) = ClassNumber::new(entry) else {
+                return;
+            };
+            join_auxiliary(a, n, k, closure)
+        }
         OpenList::Superior => {}
     }
 }
@@ -105,7 +112,8 @@ pub fn update(change: Change, scratch: &[u8], classes: &[u8], n: usize, closure:
 
 // What the target of a removal demands before it is made: out becomes that, and stays for any other change.
 pub fn demand_before(change: Change, scratch: &[u8], classes: &[u8], out: &mut [u8])
-    requires { ⌜ (length (now scratch) ≡ classWidth) × Readable (now classes) × (length (now out) ≡ attributeSet) ⌝ }
+    requires { ⌜ (length (now scratch) ≡ classWidth) × Readable (now classes) × (length (now out) ≡ attributeSet)
+        × (change ≡ Change.RemoveEntry → targetOf (now scratch) < classLimit) ⌝ }
     ensures { λ _. ⌜ now (out .exit) ≡ demandBefore change (now (scratch .entry)) (tableIn Classes (now (classes .entry))) (now (out .entry)) ⌝ }
 {
     match change {
@@ -140,7 +148,12 @@ fn entry_demands(list: OpenList, entry: usize, k: ClassNumber, closure: &[u8]) -
 {
     match list {
         OpenList::Optional => false,
-        OpenList::Auxiliary => auxiliary_demands(ClassNumber(entry), k, closure),
+        OpenList::Auxiliary => {
+            let ClassRead::Class(a) = ClassNumber::new(entry) else {
+                return false;
+            };
+            auxiliary_demands(a, k, closure)
+        }
         OpenList::Superior => false,
     }
 }

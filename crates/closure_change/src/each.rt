@@ -6,6 +6,7 @@ use schema::layout::CLOSURE_WIDTH;
 use schema::layout::REACHED;
 use schema::number::ClassNumber;
 use schema::store::closure_row;
+use schema::store::closure_start;
 ghost use mathlib.Core.Path.{_≡_};
 ghost use Prim.Native.Nat.{_*_, _≤_, _<_};
 ghost use lib.ListN.{length};
@@ -36,7 +37,7 @@ fn join_at(closure: &mut [u8], c: ClassNumber, more: &[u8])
     ensures { λ _. ⌜ now (closure .exit)
         ≡ splice (closureWidth * c .0) (union (closureAt (now (closure .entry)) (c .0)) (now (more .entry))) (now (closure .entry)) ⌝ }
 {
-    let at = CLOSURE_WIDTH * c.0;
+    let at = closure_start(c);
     let end = at + CLOSURE_WIDTH;
     sets::join(&mut closure[at..end], more);
 }

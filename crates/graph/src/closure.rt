@@ -9,6 +9,7 @@ use schema::layout::CLOSURE_WIDTH;
 use schema::layout::DEMANDED;
 use schema::number::ClassNumber;
 use schema::store::closure_row;
+use schema::store::closure_start;
 ghost use mathlib.Core.Path.{_≡_};
 ghost use Prim.Native.Nat.{_*_, _≤_, _<_};
 ghost use lib.ListN.{length};
@@ -48,7 +49,7 @@ pub fn refresh(classes: &[u8], c: ClassNumber, closure: &mut [u8])
     ensures { λ _. ⌜ now (closure .exit) ≡ splice (closureWidth * c .0) (closureRow (tableIn Classes (now (classes .entry))) (c .0))
         (now (closure .entry)) ⌝ }
 {
-    let at = CLOSURE_WIDTH * c.0;
+    let at = closure_start(c);
     let end = at + CLOSURE_WIDTH;
     write_row(classes, c, &mut closure[at..end]);
 }

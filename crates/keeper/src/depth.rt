@@ -4,6 +4,7 @@ use graph::depth::Depth;
 use graph::depth::depth_of;
 use schema::answer::Answer;
 use schema::number::ClassNumber;
+use schema::number::ClassRead;
 use schema::number::TableId;
 use schema::refusal::CLASS_NOT_LIVE;
 use schema::refusal::DONE;
@@ -21,11 +22,13 @@ pub fn depth(attributes: &[u8], classes: &[u8], closure: &[u8], class: u16) -> A
     if shape.number != DONE {
         return shape;
     }
-    let c = class as usize;
-    if c >= row_count(TableId::Classes, classes) {
+    let ClassRead::Class(c) = ClassNumber::new(class as usize) else {
+        return Answer::refused(NO_SUCH_ROW);
+    };
+    if c.0 >= row_count(TableId::Classes, classes) {
         return Answer::refused(NO_SUCH_ROW);
     }
-    match depth_of(classes, ClassNumber(c)) {
+    match depth_of(classes, c) {
         Depth::Steps(steps) => Answer::done(steps),
         Depth::NotEarlier => Answer::refused(CLASS_NOT_LIVE),
     }

@@ -27,7 +27,7 @@ use Rattle.rules.specs.Rules.{rowCases, schemaRules}
 use Rattle.rules.specs.SameLaws.{row-cases-same}
 use Rattle.change_read.specs.declared.carried.OpenList.the-variants.{Auxiliary}
 use Rattle.change_read.specs.declared.read.Change.{Change}
-use Rattle.change_read.specs.declared.read.Change.the-variants.{Add, AddEntry}
+use Rattle.change_read.specs.declared.read.Change.the-variants.{Add, AddEntry, RemoveEntry}
 use Rattle.change_read.specs.declared.read.ChangeRead.{ChangeRead}
 use Rattle.change_read.specs.declared.read.ChangeRead.the-variants.{Bad, Read}
 use Rattle.change_read.specs.Carried.{entryOf, listOf, targetOf}
@@ -174,12 +174,13 @@ module _ (change : Change) (r : List ℕ) (s : Stores) (j : Allowed change r s) 
     carried = change-length (j .read .text) change r (j .read .bytes) (j .read .reads);
     readable = made-readable change r s j;
     long = closure-long change r s j;
-    target = λ e. omega (arith, target-there e, classes-few change r s j);
+    target = λ e. omega (arith, target-there AddEntry e refl, classes-few change r s j);
+    removed = λ e. omega (arith, target-there RemoveEntry e refl, classes-few change r s j);
     entry = λ e l. omega (arith, entry-there e l, classes-few change r s j);
   }
     where
-      target-there : change ≡ AddEntry → targetOf r < m .classes .count
-      target-there e = asked-there AddEntry r m (subst (λ (x : Change). firstAsked x r m ≡ 0) e (j .asked)) refl
+      target-there : (x : Change) → change ≡ x → isAddition x ≡ false → targetOf r < table (tableFor x) m .count
+      target-there x e f = asked-there x r m (subst (λ (y : Change). firstAsked y r m ≡ 0) e (j .asked)) f
 
       entry-there : change ≡ AddEntry → listOf r ≡ Auxiliary → entryOf r < m .classes .count
       entry-there e l = entry-class r m (subst (λ (x : Change). rowNumber x r m ≡ 0) e z) l

@@ -1,10 +1,10 @@
 -- A change that numbers 5 to 11 let pass: it can be made in the stores, and taken back.
 use lib.ListN.{length}
 use native.Mathlib.Omega.{arith}
-use Prim.Native.Nat.{_≤_, ℕ}
+use Prim.Native.Nat.{_≤_, ℕ, _<_}
 use mathlib.Core.List.{List}
-use mathlib.Core.Path.{_∙_, _≡_, refl, ap}
-use mathlib.Core.Bool.{cond}
+use mathlib.Core.Path.{_∙_, _≡_, refl, ap, subst}
+use mathlib.Core.Bool.{cond, false}
 use Rattle.schema.specs.declared.number.TableId.the-variants.{Attributes, Classes}
 use Rattle.schema.specs.Store.{Schema, Stores, countIn, schemaOf, table, tableStore, storeOf}
 use Rattle.schema.specs.declared.number.TableId.{TableId}
@@ -13,6 +13,7 @@ use Rattle.schema.specs.Layout.{classWidth, closureLength, storeLength}
 use Rattle.schema.specs.NumbersLaws.{id-number}
 use Rattle.schema.specs.StoreLaws.{table-row-length}
 use Rattle.change_read.specs.declared.read.Change.{Change}
+use Rattle.change_read.specs.declared.read.Change.the-variants.{Add, AddEntry}
 use Rattle.change_read.specs.Carried.{targetOf}
 use Rattle.change_rows.specs.Stores.{Applicable, rowChanged}
 use Rattle.change_rows.specs.Rows.{isAddition, numberFor, tableFor}
@@ -22,6 +23,7 @@ use Rattle.prelude.specs.PartLaws.{padded-length}
 use Rattle.keeper_change.specs.Made.{Restorable, rowsBack, rowsMade, before, Allowed}
 use Rattle.keeper_change.specs.PlainLaws.{taken-back}
 use Rattle.keeper_change.specs.MadeLaws.{made-applicable, made-shape, row-table, row-within}
+use Rattle.change_model.specs.ThereLaws.{class-room}
 use Rattle.keeper.specs.Answering.{InShape}
 use Rattle.graph.specs.Graph.{Readable}
 use Rattle.tables.specs.Shaped.{Shaped}
@@ -36,6 +38,15 @@ module _ (change : Change) (r : List ℕ) (s : Stores) (j : Allowed change r s) 
 
   pub applicable : Applicable change r old
   applicable = made-applicable change (j .read .text) r s (j .read .bytes) (j .read .reads) (j .shape) (j .asked)
+
+  -- the target of a change that is no addition, by what number 5 let pass
+  pub target-within : (x : Change) → change ≡ x → isAddition x ≡ false → targetOf r < limit (tableFor x)
+  target-within x e = subst (λ (y : Change). isAddition y ≡ false → targetOf r < limit (tableFor y)) e (applicable .within)
+
+  -- what a change adds can be said
+  pub addable : (n : ℕ) → n ≡ schemaOf s .classes .count → (length r ≡ classWidth) × (change ≡ AddEntry → targetOf r < classLimit)
+      × (change ≡ Add Classes → n < classLimit)
+  addable n e = (applicable .carried, (λ q. target-within AddEntry q refl), (λ q. omega (arith, e, class-room change r (schemaOf s) (j .asked) q)))
 
   new-shape : InShape (rowsMade change r s)
   new-shape = made-shape change (j .read .text) r s (j .read .bytes) (j .read .reads) (j .shape) (j .asked)

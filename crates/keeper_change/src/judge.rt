@@ -16,18 +16,21 @@ use schema::refusal::DONE;
 use schema::refusal::MANDATORY_DIFFERS;
 ghost use mathlib.Core.List.{List};
 ghost use mathlib.Core.Path.{_≡_};
-ghost use Prim.Native.Nat.{_≤_};
+ghost use Prim.Native.Nat.{_≤_, _<_};
 ghost use lib.ListN.{length};
 ghost use Rattle.schema.specs.Numbers.{classLimit, numberOf, tableOf};
 ghost use Rattle.schema.specs.Layout.{classWidth, closureLength};
 ghost use Rattle.schema.specs.Store.{schemaIn};
 ghost use Rattle.tables.specs.Shaped.{Shaped};
+ghost use Rattle.schema.specs.declared.number.TableId.the-variants.{Classes};
+ghost use Rattle.change_read.specs.Carried.{targetOf};
 ghost use Rattle.change_model.specs.Model.{addedBy};
 ghost use Rattle.keeper_change.specs.Judged.{RowThere, judgedRow, judgedWhole};
 
 // What a change adds, to a schema of n classes.
 pub fn added_by(change: Change, scratch: &[u8], n: usize) -> Added
-    requires { ⌜ length (now scratch) ≡ classWidth ⌝ }
+    requires { ⌜ (length (now scratch) ≡ classWidth) × (change ≡ Change.AddEntry → targetOf (now scratch) < classLimit)
+        × (change ≡ Change.Add Classes → n < classLimit) ⌝ }
     ensures { λ r. ⌜ r ≡ addedBy change (now (scratch .entry)) n ⌝ }
 {
     match change {

@@ -6,7 +6,10 @@ use native.Mathlib.Omega.{arith}
 use lib.ListN.{length}
 use Rattle.prelude.specs.Part.{splice}
 use Rattle.prelude.specs.SaysLaws.{says-eq, says-false, says-true}
-use Rattle.schema.specs.Answers.{done, passed, refused, shortOutput}
+use Rattle.schema.specs.Answers.{classAnswer, done, passed, refused, shortOutput}
+use Rattle.schema.specs.Numbers.{classRead}
+use Rattle.schema.specs.NumbersLaws.{class-beyond}
+use Rattle.schema.specs.declared.number.ClassRead.{ClassRead}
 use Rattle.schema.specs.Store.{LongEnough, Stores, schemaOf}
 use Rattle.schema.specs.StoreLaws.{says-short}
 use Rattle.graph.specs.Depth.{EarlierChain, depthAnswer}
@@ -14,11 +17,13 @@ use Rattle.graph.specs.DepthLaws.{chain-depth, late-no-chain}
 use Rattle.tables_shape.specs.ShapeLaws.{says-formed}
 use Rattle.keeper.specs.Answering.{firstAnswer, shapeAnswers}
 use Rattle.keeper.specs.AnsweringLaws.{broken-stores, formed-stores, not-short, short-stores}
+use Rattle.keeper.specs.CheckedLaws.{readable-classes}
 use Rattle.keeper.specs.Depth.{depth}
 use Rattle.keeper.specs.Write.{sheetOf, write, writeAnswer, written}
 use Rattle.keeper_promises.specs.Promises.{Shape, SomeShort}
 use Rattle.keeper_promises.specs.OrderLaws.{has-shape}
 use Rattle.schema.specs.Refusals as refusal
+use Rattle.schema.specs.declared.number.ClassRead.the-variants as class
 use Rattle.keeper.specs.EndLaws as ends
 
 -- what the check of the stores gives: that they are short, that their shape is broken, or neither
@@ -64,6 +69,13 @@ module _ (s : Stores) (c : ℕ) where
   module _ (h : LongEnough s) (f : Shape s) where
     pub depth-five : schemaOf s .classes .count ≤ c → depth s c ≡ refused refusal.noSuchRow
     depth-five l = sym (ends.depth-absent s c (shaped s h f) refl l)
+
+    pub depth-beyond : ¬ (classAnswer (classRead c) .number ≡ 0) → depth s c ≡ classAnswer (classRead c)
+    depth-beyond = go (classRead c) refl
+      where
+        go : (r : ClassRead) → classRead c ≡ r → ¬ (classAnswer r .number ≡ 0) → depth s c ≡ classAnswer r
+        go (class.Class k) e d = absurd (d refl)
+        go class.Beyond e d = depth-five (omega (arith, class-beyond c e, readable-classes s (shaped s h f) refl .few))
 
     pub depth-steps : (k : ℕ) → c < schemaOf s .classes .count → EarlierChain (schemaOf s .classes) c k → depth s c ≡ done k
     depth-steps k l chain = sym (ends.depth-present s c (shaped s h f) refl l) ∙ ap depthAnswer (chain-depth (schemaOf s .classes) chain)

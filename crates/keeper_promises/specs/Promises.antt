@@ -12,9 +12,9 @@ use Rattle.wire.specs.Wire.{fieldAt}
 use Rattle.wire.specs.declared.FieldRead.the-variants.{Field}
 use Rattle.schema.specs.declared.number.TableId.{TableId}
 use Rattle.schema.specs.declared.number.TableId.the-variants.{Attributes, Classes}
-use Rattle.schema.specs.Answers.{answer, passed, done, refused, shortOutput, changed, fieldAnswer, numberAnswer}
+use Rattle.schema.specs.Answers.{answer, passed, done, refused, shortOutput, changed, fieldAnswer, classAnswer, numberAnswer}
 use Rattle.schema.specs.Layout.{storeLength, closureLength}
-use Rattle.schema.specs.Numbers.{classLimit, numberRead}
+use Rattle.schema.specs.Numbers.{classLimit, classRead, numberRead}
 use Rattle.schema.specs.Store.{LongEnough, Stores, stores, result, schemaOf, closureAt, Schema}
 use Rattle.tables.specs.Filled.{emptyStores}
 use Rattle.graph.specs.Graph.{closureRow}
@@ -157,8 +157,8 @@ pub record Demand1 : Type 0 where
 -- ---- demand 2: "A change is accepted and applied by the whole check exactly when the change rules hold and the resulting schema meets every schema
 -- rule of document 01, after the published checks. Otherwise the smallest number whose condition holds is returned. An accepted
 -- schema written as a sheet and loaded again is the same schema."
--- What a reading or the chain of superclasses comes to is an enum; `sheetAnswer`, `changeAnswer`, `fieldAnswer`, `rowAnswer`, `numberAnswer` and
--- `depthAnswer` give the number and values of each of their cases.
+-- What a reading or the chain of superclasses comes to is an enum; `sheetAnswer`, `changeAnswer`, `fieldAnswer`, `rowAnswer`, `numberAnswer`,
+-- `classAnswer` and `depthAnswer` give the number and values of each of their cases.
 
 pub record Demand2 : Type 0 where
   -- what `readSheet` and `readChange` come to is what the fields that stand there say (sheet_read/Stopping, change_read/Stopping): `reads` in `Acceptable`
@@ -254,6 +254,8 @@ pub record Demand2 : Type 0 where
   pub depth-one : (s : Stores) (c : ℕ) → SomeShort s → depth s c ≡ refused refusal.shortStore
   pub depth-two : (s : Stores) (c : ℕ) → LongEnough s → ¬ Shape s → depth s c ≡ refused refusal.brokenShape
   pub depth-five : (s : Stores) (c : ℕ) → LongEnough s → Shape s → schemaOf s .classes .count ≤ c → depth s c ≡ refused refusal.noSuchRow
+  -- so for a number beyond the limit
+  pub depth-beyond : (s : Stores) (c : ℕ) → LongEnough s → Shape s → ¬ (classAnswer (classRead c) .number ≡ 0) → depth s c ≡ classAnswer (classRead c)
   pub depth-steps : (s : Stores) (c k : ℕ) → LongEnough s → Shape s → c < schemaOf s .classes .count → EarlierChain (schemaOf s .classes) c k
       → depth s c ≡ depthAnswer (Steps k)
   pub depth-late : (s : Stores) (c : ℕ) → LongEnough s → Shape s → c < schemaOf s .classes .count → ((k : ℕ) → ¬ EarlierChain (schemaOf s .classes) c k)

@@ -91,6 +91,7 @@ demand2 = record {
   depth-one = calls.depth-one;
   depth-two = calls.depth-two;
   depth-five = calls.depth-five;
+  depth-beyond = calls.depth-beyond;
   depth-steps = λ s c k long shape. calls.depth-steps s c long shape k;
   depth-late = calls.depth-late;
   write-load = trips.write-load;

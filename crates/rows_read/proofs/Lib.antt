@@ -4,3 +4,4 @@ pub mod Storing
 pub mod FirstValue
 pub mod Vectors
 pub mod Checking
+pub mod Turning

@@ -55,23 +55,24 @@ pub fn turn_of(s: &[u8], at: usize, end: usize, column: Column) -> Turn
     requires { ⌜ (at ≤ end) × (end ≤ length (now s)) × Sound column ⌝ }
     ensures { λ r. ⌜ r ≡ turnOf (now (s .entry)) column (fieldAt (now (s .entry)) at end) ⌝ }
 {
-    match field_at(s, at, end) {
-        FieldRead::End => Turn::Passed,
-        FieldRead::Bad { at: _ } => Turn::Refused,
-        FieldRead::Field {
-            tag,
-            start,
-            end: stop,
-        } => {
-            if tag != column.tag {
-                return Turn::Passed;
-            }
-            if takes(column, value_of(s, start, stop)) {
-                Turn::Taken { start, end: stop }
-            } else {
-                Turn::Refused
-            }
-        }
+    if at == end {
+        return Turn::Passed;
+    }
+    let FieldRead::Field {
+        tag,
+        start,
+        end: stop,
+    } = field_at(s, at, end)
+    else {
+        return Turn::Refused;
+    };
+    if tag != column.tag {
+        return Turn::Passed;
+    }
+    if takes(column, value_of(s, start, stop)) {
+        Turn::Taken { start, end: stop }
+    } else {
+        Turn::Refused
     }
 }
 
@@ -133,16 +134,15 @@ pub fn take_field(
     ensures { λ r. ⌜ (r ≡ tookOf column at missing (turnOf (now (s .entry)) column (fieldAt (now (s .entry)) at end)))
         × (now (row .exit) ≡ rowOf (now (s .entry)) column (now (row .entry)) (turnOf (now (s .entry)) column (fieldAt (now (s .entry)) at end))) ⌝ }
 {
-    match turn_of(s, at, end, column) {
-        Turn::Refused => Took::Stop,
-        Turn::Passed => {
-            clear_cell(column, row);
-            let presence = column.presence;
-            passed(at, missing, presence)
-        }
-        Turn::Taken { start, end: stop } => {
-            put_cell(column, value_of(s, start, stop), row);
-            Took::Next { at: stop, missing }
-        }
-    }
+    let turn = turn_of(s, at, end, column);
+    let Turn::Taken { start, end: stop } = turn else {
+        let Turn::Passed = turn else {
+            return Took::Stop;
+        };
+        clear_cell(column, row);
+        let presence = column.presence;
+        return passed(at, missing, presence);
+    };
+    put_cell(column, value_of(s, start, stop), row);
+    Took::Next { at: stop, missing }
 }

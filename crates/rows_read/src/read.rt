@@ -12,13 +12,23 @@ ghost use Prim.Native.Nat.{_≤_};
 ghost use lib.ListN.{length};
 ghost use Rattle.schema.specs.Layout.{rowWidth};
 ghost use Rattle.rows_format.specs.Formats.{columnsOf, formatWidth};
-ghost use Rattle.rows_read.specs.Reading.{readBy};
+ghost use Rattle.rows_read.specs.Reading.{readBy, rowAnswer};
 ghost use Rattle.rows_read.specs.ObjectClass.{finished, readRow, finishedRow};
 
 // What reading a value comes to: all of it is read, or the place of the first field that cannot be accepted, or of the end where one is missing.
 pub enum RowRead {
     Read,
     Bad { at: usize },
+}
+
+// The place that a reading tells: of what it refuses, and 0 where it refuses nothing.
+pub fn place_of(read: RowRead) -> usize
+    ensures { λ r. ⌜ r ≡ rowAnswer read .place ⌝ }
+{
+    let RowRead::Bad { at } = read else {
+        return 0;
+    };
+    at
 }
 
 // Reads the fields of the value s[start..end). The row holds what was stored before a refusal.
@@ -84,11 +94,10 @@ pub fn read_row(format: Format, s: &[u8], start: usize, end: usize, row: &mut [u
     ensures { λ r. ⌜ (r ≡ readRow format (now (s .entry)) start end (now (row .entry)) .answer)
         × (now (row .exit) ≡ readRow format (now (s .entry)) start end (now (row .entry)) .row) ⌝ }
 {
-    match read_fields(format, s, start, end, row) {
-        RowRead::Bad { at } => RowRead::Bad { at },
-        RowRead::Read => {
-            finish(format, row);
-            RowRead::Read
-        }
-    }
+    let read = read_fields(format, s, start, end, row);
+    let RowRead::Read = read else {
+        return read;
+    };
+    finish(format, row);
+    RowRead::Read
 }

@@ -17,9 +17,10 @@ use rules_unique::Key;
 use rules_unique::is_taken;
 use schema::number::AttributeNumber;
 use schema::number::ClassNumber;
+use schema::number::NumberRead;
 use schema::number::RowId;
 use schema::number::TableId;
-use schema::number::row_id;
+use schema::number::number_read;
 use schema::number::same_table;
 use schema::refusal::ATTRIBUTE_NOT_LIVE;
 use schema::refusal::CATEGORY_MISFIT;
@@ -133,7 +134,10 @@ fn entry_dead(added: Added, table: TableId, store: &[u8], row: &[u8], c: ClassNu
             if !same_table(named, table) {
                 return false;
             }
-            !is_live(store, row, row_id(table, number))
+            let NumberRead::Row(id) = number_read(table, number) else {
+                return true;
+            };
+            !is_live(store, row, id)
         }
     }
 }

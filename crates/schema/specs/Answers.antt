@@ -4,10 +4,12 @@ use Prim.Native.Nat.{ℕ}
 use Rattle.wire.specs.declared.FieldRead.{FieldRead}
 use Rattle.wire.specs.declared.FieldRead.the-variants.{Field, End, Bad}
 use Rattle.schema.specs.declared.answer.Answer.{Answer}
+use Rattle.schema.specs.declared.number.ClassRead.{ClassRead}
 use Rattle.schema.specs.declared.number.NumberRead.{NumberRead}
 use Rattle.schema.specs.declared.number.TableId.{TableId}
 use Rattle.schema.specs.declared.number.TableId.the-variants.{Attributes, Classes}
 use Rattle.schema.specs.Numbers.{limit}
+use Rattle.schema.specs.declared.number.ClassRead.the-variants as class
 use Rattle.schema.specs.declared.number.NumberRead.the-variants as number
 use Rattle.schema.specs.Refusals as refusal
 
@@ -56,6 +58,11 @@ abbrev pub fieldAnswer : ℕ → FieldRead → Answer
 fieldAnswer end (Field tag start stop) = passed
 fieldAnswer end End = unreadable end
 fieldAnswer end (Bad at) = unreadable at
+
+-- a class asked for by a number beyond the limit: "5 target row not there". A superclass beyond it is one that isn't earlier, and the depth says so.
+abbrev pub classAnswer : ClassRead → Answer
+classAnswer (class.Class c) = passed
+classAnswer class.Beyond = refused refusal.noSuchRow
 
 -- a target beyond the limit: "5 target row not there"
 abbrev pub numberAnswer : NumberRead → Answer

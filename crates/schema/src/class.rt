@@ -12,6 +12,7 @@ use crate::layout::OPEN_OPTIONAL;
 use crate::layout::OPEN_SUPERIOR;
 use crate::layout::SUPERCLASS;
 use crate::number::AttributeNumber;
+use crate::number::AttributeRead;
 use crate::number::ClassNumber;
 use crate::number::ClassRead;
 use crate::row::flag;
@@ -49,10 +50,13 @@ pub fn naming_attribute(row: &[u8]) -> Naming
     requires { ⌜ classWidth ≤ length (now row) ⌝ }
     ensures { λ r. ⌜ r ≡ namingOf (now (row .entry)) ⌝ }
 {
-    if flag(row, NAMING) {
-        return Naming::By(AttributeNumber(byte_at(row, NAMING + 1) as usize));
+    if !flag(row, NAMING) {
+        return Naming::Absent;
     }
-    Naming::Absent
+    let AttributeRead::Attribute(a) = AttributeNumber::new(byte_at(row, NAMING + 1) as usize) else {
+        return Naming::Absent;
+    };
+    Naming::By(a)
 }
 
 // The seven sets, each a part of the row.

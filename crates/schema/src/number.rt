@@ -2,6 +2,7 @@
 // a type of its own, so that a class row cannot be looked up by an attribute's number. What serves both tables takes a number that says which table
 // it is of.
 ghost use mathlib.Core.Path.{_≡_};
+ghost use Prim.Native.Nat.{_<_};
 ghost use Rattle.schema.specs.Numbers.{classRead, attributeRead, numberRead, limit, rowId, tableOf, numberOf, sameTable, sameRow};
 
 pub struct ClassNumber(pub usize);
@@ -82,15 +83,25 @@ pub fn row_limit(table: TableId) -> usize
 pub fn number_read(table: TableId, n: usize) -> NumberRead
     ensures { λ r. ⌜ r ≡ numberRead table n ⌝ }
 {
-    if n < row_limit(table) {
-        NumberRead::Row(row_id(table, n))
-    } else {
-        NumberRead::Beyond
+    match table {
+        TableId::Attributes => {
+            let AttributeRead::Attribute(a) = AttributeNumber::new(n) else {
+                return NumberRead::Beyond;
+            };
+            NumberRead::Row(RowId::Attribute(a))
+        }
+        TableId::Classes => {
+            let ClassRead::Class(c) = ClassNumber::new(n) else {
+                return NumberRead::Beyond;
+            };
+            NumberRead::Row(RowId::Class(c))
+        }
     }
 }
 
-// Row k of a table.
+// Row k of a table, where something has checked k. What comes from outside passes through `number_read`.
 pub fn row_id(table: TableId, k: usize) -> RowId
+    requires { ⌜ k < limit table ⌝ }
     ensures { λ r. ⌜ r ≡ rowId table k ⌝ }
 {
     match table {

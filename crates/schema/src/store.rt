@@ -12,12 +12,12 @@ use crate::number::number_of;
 use crate::number::table_of;
 use prelude::number::byte_at;
 use prelude::number::read_u16;
-use prelude::part::row_of;
+use prelude::part::part_of;
 ghost use mathlib.Core.Path.{_≡_};
-ghost use Prim.Native.Nat.{_≤_, _<_};
+ghost use Prim.Native.Nat.{_+_, _*_, _≤_, _<_};
 ghost use lib.ListN.{length};
 ghost use Rattle.schema.specs.Numbers.{attributeLimit, classLimit, limit, tableOf, numberOf};
-ghost use Rattle.schema.specs.Layout.{storeLength, closureLength};
+ghost use Rattle.schema.specs.Layout.{storeLength, closureLength, closureWidth, rowWidth, rowsAt};
 ghost use Rattle.schema.specs.Store.{table, schemaIn, tableIn, closureAt, stores, anyShort, storeOf};
 ghost use Rattle.schema.specs.declared.number.TableId.the-variants.{Attributes, Classes};
 
@@ -42,12 +42,20 @@ pub fn store_of<'a>(table: TableId, attributes: &'a [u8], classes: &'a [u8]) -> 
     }
 }
 
+// Where a row stands in the store of its table. Here alone a row's number becomes an offset.
+pub fn row_start(id: RowId) -> usize
+    requires { ⌜ numberOf id < limit (tableOf id) ⌝ }
+    ensures { λ r. ⌜ r ≡ rowsAt + rowWidth (tableOf id) * numberOf id ⌝ }
+{
+    ROWS + row_width(table_of(id)) * number_of(id)
+}
+
 // A row of either table, by its number.
 pub fn row(store: &[u8], id: RowId) -> &[u8]
     requires { ⌜ (storeLength (tableOf id) ≤ length (now store)) × (numberOf id < limit (tableOf id)) ⌝ }
     ensures { λ r. ⌜ now r ≡ tableIn (tableOf id) (now (store .entry)) .row (numberOf id) ⌝ }
 {
-    row_of(store, ROWS, row_width(table_of(id)), number_of(id))
+    part_of(store, row_start(id), row_width(table_of(id)))
 }
 
 pub fn attribute_row(attributes: &[u8], a: AttributeNumber) -> &[u8]
@@ -75,12 +83,20 @@ pub fn schema_row<'a>(attributes: &'a [u8], classes: &'a [u8], id: RowId) -> &'a
     }
 }
 
+// Where the kept sets of a class stand in the closure store, and here alone.
+pub fn closure_start(c: ClassNumber) -> usize
+    requires { ⌜ c .0 < classLimit ⌝ }
+    ensures { λ r. ⌜ r ≡ closureWidth * c .0 ⌝ }
+{
+    CLOSURE_WIDTH * c.0
+}
+
 // The three kept sets of a class, side by side.
 pub fn closure_row(closure: &[u8], c: ClassNumber) -> &[u8]
     requires { ⌜ (closureLength ≤ length (now closure)) × (c .0 < classLimit) ⌝ }
     ensures { λ r. ⌜ now r ≡ closureAt (now (closure .entry)) (c .0) ⌝ }
 {
-    row_of(closure, 0, CLOSURE_WIDTH, c.0)
+    part_of(closure, closure_start(c), CLOSURE_WIDTH)
 }
 
 // Whether a store is shorter than its length: number 1.

@@ -25,7 +25,7 @@ use Rattle.tables.specs.Filled.{plusIn}
 use Rattle.tables.specs.FilledLaws.{store-count, store-plus}
 use Rattle.rows_format.specs.declared.format.Format.{Format}
 use Rattle.rows_read.specs.declared.read.RowRead.{RowRead}
-use Rattle.rows_read.specs.Reading.{Out, out}
+use Rattle.rows_read.specs.Reading.{Out, out, rowAnswer}
 use Rattle.rows_read.specs.ObjectClass.{readRow}
 use Rattle.sheet_read.specs.Held.{Lent, HasRoom, Held, roomIn, roomTurn, storeWith, Steps}
 use Rattle.sheet_read.specs.declared.read.Turn.{Turn}
@@ -254,7 +254,7 @@ table-room {a} {c} t u e h l = rw (← e) (lent-table h t, l)
 -- a row read into the front of a scratch row
 module _ (t : TableId) (s : List ℕ) (start stop w : ℕ) (scratch : List ℕ) (e : w ≡ rowWidth t) (z : scratch ≡ zeros classWidth) (r : RowRead) (l : List ℕ)
     (answered : r ≡ readRow (Format.Row t) s start stop (take (w - 0) scratch) .answer)
-    (stored : l ≡ readRow (Format.Row t) s start stop (take (w - 0) scratch) .row) (b : Bool) (tested : b ≡ isRead r) where
+    (stored : l ≡ readRow (Format.Row t) s start stop (take (w - 0) scratch) .row) where
   is-out : readRow (Format.Row t) s start stop (take (w - 0) scratch) ≡ rowOut t s start stop
   is-out = ap (readRow (Format.Row t) s start stop) (front-zeros t w scratch e z)
 
@@ -264,15 +264,26 @@ module _ (t : TableId) (s : List ℕ) (start stop w : ℕ) (scratch : List ℕ) 
   row-is : l ≡ rowOut t s start stop .row
   row-is = stored ∙ ap (λ (o : Out). o .row) is-out
 
-  pub read-in-yes : b ≡ true → (store new store′ : List ℕ) → new ≡ l → store′ ≡ plusIn t new store → (r ≡ rowOut t s start stop .answer)
+  pub read-in-yes : r ≡ row.Read → (store new store′ : List ℕ) → new ≡ l → store′ ≡ plusIn t new store → (r ≡ rowOut t s start stop .answer)
       × (store′ ≡ storeWith t (rowOut t s start stop) store)
   unfolding storeWith
   read-in-yes f store new store′ p q =
-      (answer-is, q ∙ ap (λ (x : List ℕ). plusIn t x store) (p ∙ row-is) ∙ sym (rw (← answer-is, ← tested, f)))
+      (answer-is, q ∙ ap (λ (x : List ℕ). plusIn t x store) (p ∙ row-is) ∙ sym (rw (← answer-is, f)))
 
-  pub read-in-no : b ≡ false → (store : List ℕ) → (r ≡ rowOut t s start stop .answer) × (store ≡ storeWith t (rowOut t s start stop) store)
+  pub read-in-no : (at : ℕ) → r ≡ row.Bad at → (store : List ℕ) → (r ≡ rowOut t s start stop .answer)
+      × (store ≡ storeWith t (rowOut t s start stop) store)
   unfolding storeWith
-  read-in-no f store = (answer-is, sym (rw (← answer-is, ← tested, f)))
+  read-in-no at f store = (answer-is, sym (rw (← answer-is, f)))
+
+-- the turn by what reading a row comes to
+module _ (t : TableId) (stop : ℕ) (missing : Bool) (r : RowRead) where
+  pub row-on : r ≡ row.Read → On stop (InRows t) missing ≡ rowTurn t stop missing r
+  unfolding rowTurn
+  row-on e = rw e
+
+  pub row-stop : (at place : ℕ) → r ≡ row.Bad at → place ≡ rowAnswer r .place → Stop (Bad place) ≡ rowTurn t stop missing r
+  unfolding rowTurn
+  row-stop at place e p = ap (λ (x : ℕ). Stop (Bad x)) (p ∙ ap (λ (x : RowRead). rowAnswer x .place) e) ∙ rw e
 
 -- the table is known
 pub as-attributes : (t : TableId) → t ≡ Attributes → (new old : List ℕ) → new ≡ newAttributes t new old

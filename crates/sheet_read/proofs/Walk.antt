@@ -1,10 +1,12 @@
 -- Field by field through a sheet: each turn goes on behind the field, within the sheet.
-use mathlib.Core.Bool.{Bool, cond, true}
+use mathlib.Core.Bool.{Bool, cond, not, true, false}
 use mathlib.Core.List.{List}
 use mathlib.Core.Path.{subst₂, ap, refl, sym, _∙_, _≡_}
 use Prim.Native.Nat.{_<_, ℕ, _≤_}
 use native.Mathlib.Omega.{arith}
+use lib.Dec.{eqb}
 use lib.ListN.{length}
+use borrow.Author.Tests.{eqb-true, eqb-false, not-true, not-false}
 use Rattle.prelude.specs.Part.{splice, zeros, Bytes}
 use Rattle.prelude.specs.SpliceLaws.{splice-length, splice-over}
 use Rattle.prelude.specs.PartLaws.{zeros-length}
@@ -66,6 +68,14 @@ module _ {s a c attributes classes : List ℕ} {at : ℕ} {phase : Phase} {missi
   reading-end b e l =
       left-as (sheetOut (cond b (Bad at) Read) (r .rows))
       (sym (stands-end (r .stands) l ∙ ap (λ (z : Bool). sheetOut (cond z (Bad at) Read) (r .rows)) e)) refl
+
+  -- the loop asks whether the place is the end
+  module _ (ended : Bool) (asked : ended ≡ eqb at (length s)) where
+    pub reading-before : not ended ≡ true → at < length s
+    reading-before e = let apart = eqb-false at (length s) (sym asked ∙ not-true ended e) in omega (arith, r .stands .within, apart)
+
+    pub reading-over : not ended ≡ false → length s ≤ at
+    reading-over e = omega (arith, eqb-true at (length s) (sym asked ∙ not-false ended e))
 
   -- one field more
   module _ (l : at < length s) (t : Turn) (b d : List ℕ) (stepped : Steps (takeField s at phase missing) attributes classes t b d) where

@@ -1,7 +1,10 @@
 // Reads a sheet from left to right. Document 01: "Sheet: field 01 holding 01, attribute rows 20, class rows 30"; it "gives 4 or 6, whichever comes first".
 use prelude::number::byte_at;
+use reader::is_end;
+use reader::step_at;
 use rows_format::format::Format;
 use rows_read::read::RowRead;
+use rows_read::read::place_of;
 use rows_read::read::read_row;
 use schema::layout::CLASS_WIDTH;
 use schema::layout::row_width;
@@ -13,7 +16,6 @@ use schema::store::store_of;
 use tables::store::empty;
 use tables::store::push_row;
 use wire::FieldRead;
-use wire::field_at;
 ghost use mathlib.Core.Path.{_≡_};
 ghost use Prim.Native.Nat.{_<_, _≤_};
 ghost use lib.ListN.{length};
@@ -22,7 +24,7 @@ ghost use Rattle.schema.specs.Store.{countIn, storeOf};
 ghost use Rattle.schema.specs.Numbers.{limit};
 ghost use Rattle.schema.specs.Layout.{storeLength, classWidth};
 ghost use Rattle.sheet_read.specs.Held.{HasRoom, Left, Lent, Open, Steps, roomIn, roomTurn, storeWith};
-ghost use Rattle.sheet_read.specs.Reading.{takeHeading, isHeading, isRead, position, readSheet, rowOut, takeTableRow, rowTurn, rowsOpen, sheetTag};
+ghost use Rattle.sheet_read.specs.Reading.{takeHeading, isHeading, position, readSheet, rowOut, takeTableRow, rowTurn, rowsOpen, sheetTag};
 ghost use Rattle.sheet_read.specs.Reading.{takeField, stopped, takeTagged};
 
 // What reading a sheet comes to.
@@ -163,35 +165,11 @@ fn read_into(
 {
     let width = row_width(table);
     let read = read_row(Format::Row(table), s, start, stop, &mut scratch[0..width]);
-    if is_read(read) {
-        push_row(table, store, &scratch[0..width]);
-    }
+    let RowRead::Read = read else {
+        return read;
+    };
+    push_row(table, store, &scratch[0..width]);
     read
-}
-
-fn is_read(read: RowRead) -> bool
-    ensures { λ r. ⌜ r ≡ isRead read ⌝ }
-{
-    match read {
-        RowRead::Read => true,
-        RowRead::Bad { at: _ } => false,
-    }
-}
-
-// Where reading goes on after a row, or where it stops.
-fn row_turn(table: TableId, stop: usize, missing: bool, read: RowRead) -> Turn
-    ensures { λ r. ⌜ r ≡ rowTurn table stop missing read ⌝ }
-{
-    match read {
-        RowRead::Read => Turn::On {
-            at: stop,
-            phase: Phase::InRows(table),
-            missing,
-        },
-        RowRead::Bad { at } => Turn::Stop {
-            read: SheetRead::Bad { at },
-        },
-    }
 }
 
 // Whether the row that a tag announces has room in its table.
@@ -238,7 +216,16 @@ fn take_row(
 {
     let mut scratch = [0u8; CLASS_WIDTH];
     let read = read_into(table, s, start, stop, &mut scratch, store);
-    row_turn(table, stop, missing, read)
+    let RowRead::Read = read else {
+        return Turn::Stop {
+            read: SheetRead::Bad { at: place_of(read) },
+        };
+    };
+    Turn::On {
+        at: stop,
+        phase: Phase::InRows(table),
+        missing,
+    }
 }
 
 // A row, put into the store of its table.
@@ -313,11 +300,13 @@ fn take_field(
     let Room::Free = room else {
         return room_turn(room);
     };
+    let step = step_at(s, at);
+    let field = step.field;
     let FieldRead::Field {
         tag,
         start,
         end: stop,
-    } = field_at(s, at, s.len())
+    } = field
     else {
         return Turn::Stop {
             read: SheetRead::Bad { at },
@@ -346,7 +335,7 @@ pub fn read_sheet(s: &[u8], attributes: &mut [u8], classes: &mut [u8]) -> SheetR
     let mut at = 0;
     let mut phase = Phase::Start;
     let mut missing = true;
-    while at < s.len() {
+    while !is_end(s, at) {
         let turn = take_field(s, at, phase, missing, attributes, classes);
         let Turn::On {
             at: next,

@@ -2,14 +2,13 @@
 use prelude::number::write_u16;
 use prelude::part::clear;
 use prelude::part::copy_padded;
-use schema::layout::ROWS;
 use schema::layout::row_width;
 use schema::number::RowId;
 use schema::number::TableId;
-use schema::number::number_of;
 use schema::number::row_id;
 use schema::number::table_of;
 use schema::store::row_count;
+use schema::store::row_start;
 ghost use mathlib.Core.Path.{_≡_};
 ghost use Prim.Native.Nat.{_≤_, _<_};
 ghost use lib.ListN.{length};
@@ -32,9 +31,8 @@ pub fn put_row(store: &mut [u8], id: RowId, row: &[u8])
     requires { ⌜ (storeLength (tableOf id) ≤ length (now store)) × (numberOf id < limit (tableOf id)) × (length (now row) ≡ rowWidth (tableOf id)) ⌝ }
     ensures { λ _. ⌜ now (store .exit) ≡ putIn (tableOf id) (numberOf id) (now (row .entry)) (now (store .entry)) ⌝ }
 {
-    let width = row_width(table_of(id));
-    let at = ROWS + width * number_of(id);
-    let end = at + width;
+    let at = row_start(id);
+    let end = at + row_width(table_of(id));
     copy_padded(&mut store[at..end], row);
 }
 

@@ -35,7 +35,10 @@ loop-holds : tie.Need-loop-holds Inv-loop μ-loop
 loop-holds c = (search needs, any-zero _)
 
 row-id-requires : tie.Need-row-id-requires Inv-loop μ-loop
-row-id-requires c κs = search needs
+row-id-requires c κs =
+    let c₁ = c .before .before in
+    let start = c₁ .before .before .before .before .before in
+    omega (arith, c .loop-test .taken, c₁ .row-count .ensures, start .pre .0 .few)
 
 is-rival-requires : tie.Need-is-rival-requires Inv-loop μ-loop
 is-rival-requires c κs =

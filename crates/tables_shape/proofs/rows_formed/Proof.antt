@@ -22,7 +22,7 @@ loop-holds : tie.Need-loop-holds Inv-loop μ-loop
 loop-holds c = (omega arith, all-zero _)
 
 row-id-requires : tie.Need-row-id-requires Inv-loop μ-loop
-row-id-requires c κs = search needs
+row-id-requires c κs = omega (arith, c .before .before .before .pre .1, c .loop-test .taken)
 
 row-requires : tie.Need-row-requires Inv-loop μ-loop
 row-requires c κs =

@@ -1,8 +1,8 @@
+use mathlib.Core.Path.{sym, ap, _∙_}
+use lib.ListN.{length}
+use Rattle.rows_format.specs.Formats.{formatWidth}
 use Rattle.change_read.specs.ChangeLaws.{format-fits-row, scratch-length}
 use Rattle.change_read.proofs.Cases.{value-bad, value-read, value-followed}
-use Rattle.rows_format.specs.Formats.{formatWidth}
-use lib.ListN.{length}
-use mathlib.Core.Path.{ap}
 use native.Mathlib.Omega.{arith}
 use borrow.Author.Needs.{needs}
 use Rattle.change_read.proofs.read.read_value.Statement.{statement}
@@ -17,15 +17,24 @@ read-row-requires c κs =
     let start = c₁ .before .before .before in (
       start .pre .0,
       start .pre .1,
-      omega
-          (arith, format-fits-row (start .args .change), ap formatWidth (c₁ .format-of .ensures), ap length (start .pre .2), scratch-length),
+      omega (
+        arith,
+        format-fits-row (start .args .change),
+        ap formatWidth (c₁ .format-of .ensures),
+        ap length
+            (start .pre .2),
+        scratch-length,
+      ),
     )
-
-enum-known-at : tie.Need-enum-known-at
-enum-known-at c = search needs
 
 enum-told : tie.Need-enum-told
 enum-told c = search needs
+
+enum-told-2 : tie.Need-enum-told-2
+enum-told-2 c = search needs
+
+place-of-requires : tie.Need-place-of-requires
+place-of-requires c κs = search needs
 
 same-length : tie.Need-same-length
 same-length c = search needs
@@ -35,9 +44,9 @@ returns c =
     let c₁ = c .before in
     let c₂ = c₁ .before .before .before .before in
     let c₃ = c₂ .before .before in
-    let start′ = c₃ .before .before .before in
-    value-read (start′ .args .change) (start′ .args .s .now) (start′ .args .start) (start′ .args .stop) (start′ .args .row .now) (start′ .pre .2) _
-    (c₃ .format-of .ensures) _ _ (c₂ .read-row .ensures) (c₁ .enum-told .given .1) (c .if1 .taken)
+    let begin = c₃ .before .before .before in
+    value-bad (begin .args .change) (begin .args .s .now) (begin .args .start) (begin .args .stop) (begin .args .row .now) (begin .pre .2) _
+    (c₃ .format-of .ensures) _ _ (c₂ .read-row .ensures) _ _ (c₁ .enum-told2 .given .1) (c .place-of .ensures)
 
 same-length-2 : tie.Need-same-length-2
 same-length-2 c = search needs
@@ -47,9 +56,9 @@ returns-2 c =
     let c₁ = c .before in
     let c₂ = c₁ .before .before .before .before in
     let c₃ = c₂ .before .before in
-    let start′ = c₃ .before .before .before in
-    value-bad (start′ .args .change) (start′ .args .s .now) (start′ .args .start) (start′ .args .stop) (start′ .args .row .now) (start′ .pre .2) _
-    (c₃ .format-of .ensures) _ _ (c₂ .read-row .ensures) _ (c₁ .at .given .1)
+    let begin = c₃ .before .before .before in
+    value-read (begin .args .change) (begin .args .s .now) (begin .args .start) (begin .args .stop) (begin .args .row .now) (begin .pre .2) _
+    (c₃ .format-of .ensures) _ _ (c₂ .read-row .ensures) (c₁ .enum-told .given .1) (sym (begin .pre .3) ∙ c .if1 .taken)
 
 same-length-3 : tie.Need-same-length-3
 same-length-3 c = search needs
@@ -59,9 +68,9 @@ returns-3 c =
     let c₁ = c .before in
     let c₂ = c₁ .before .before .before .before in
     let c₃ = c₂ .before .before in
-    let start′ = c₃ .before .before .before in
-    value-followed (start′ .args .change) (start′ .args .s .now) (start′ .args .start) (start′ .args .stop) (start′ .args .row .now) (start′ .pre .2)
-    _ (c₃ .format-of .ensures) _ _ (c₂ .read-row .ensures) (c₁ .enum-told .given .1) (c .if1 .left)
+    let begin = c₃ .before .before .before in
+    value-followed (begin .args .change) (begin .args .s .now) (begin .args .start) (begin .args .stop) (begin .args .row .now) (begin .pre .2) _
+    (c₃ .format-of .ensures) _ _ (c₂ .read-row .ensures) (c₁ .enum-told .given .1) (sym (begin .pre .3) ∙ c .if1 .left)
 
 pub read-value-spec : {M : Type 1} → statement M
 read-value-spec =
@@ -69,8 +78,9 @@ read-value-spec =
     (tie.spec
     format-of-requires
     read-row-requires
-    enum-known-at
     enum-told
+    enum-told-2
+    place-of-requires
     same-length
     returns
     same-length-2

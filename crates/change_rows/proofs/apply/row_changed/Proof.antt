@@ -1,5 +1,6 @@
 use mathlib.Core.Path.{_∙_, ap, ap₂, sym}
 use mathlib.Core.Bool.{cond}
+use native.Mathlib.Omega.{arith}
 use borrow.Author.Needs.{needs}
 use Rattle.change_rows.proofs.apply.row_changed.Statement.{statement}
 use Rattle.schema.specs.Store.{countIn}
@@ -21,7 +22,17 @@ row-count-requires c κs =
     rw (c₁ .table-for .ensures) (start .pre .long)
 
 row-id-requires : tie.Need-row-id-requires
-row-id-requires c κs = search needs
+row-id-requires c κs =
+    let c₁ = c .before in
+    let c₂ = c₁ .before in
+    let c₃ = c₂ .before in
+    let start = c₃ .before .before .before in
+    rw (c₃ .table-for .ensures)
+    (omega (
+      arith,
+      c .row-count .ensures ∙ ap (λ t. countIn t (start .args .store .now)) (c₃ .table-for .ensures),
+      start .pre .room (sym (c₂ .is-addition .ensures) ∙ c₁ .if1 .taken),
+    ))
 
 returns : tie.Need-returns
 returns c =
@@ -41,7 +52,12 @@ cast-row-id : tie.Need-cast-row-id
 cast-row-id c = search needs
 
 row-id-requires-2 : tie.Need-row-id-requires-2
-row-id-requires-2 c κs = search needs
+row-id-requires-2 c κs =
+    let c₁ = c .before in
+    let c₂ = c₁ .before in
+    let c₃ = c₂ .before in
+    let start = c₃ .before .before .before in
+    rw (c₃ .table-for .ensures) (omega (arith, c .target-of .ensures, start .pre .within (sym (c₂ .is-addition .ensures) ∙ c₁ .if1 .left)))
 
 returns-2 : tie.Need-returns-2
 returns-2 c =

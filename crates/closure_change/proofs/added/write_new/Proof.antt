@@ -1,7 +1,5 @@
 use mathlib.Core.Path.{_∙_, ap, ap₂, refl}
 use lib.ListN.{length}
-use Prim.Native.Nat.{_*_}
-use Rattle.schema.specs.Layout.{closureWidth}
 use Rattle.schema.specs.StoreLaws.{table-row-length}
 use Rattle.schema.specs.declared.number.TableId.the-variants.{Classes}
 use Rattle.sets.specs.Sets.{union}
@@ -44,8 +42,8 @@ join-requires c κs = search needs
 slice-aggregate-put-bytes : tie.Need-slice-aggregate-put-bytes
 slice-aggregate-put-bytes c = search needs
 
-mul-put-bytes : tie.Need-mul-put-bytes
-mul-put-bytes c = search needs
+closure-start-requires : tie.Need-closure-start-requires
+closure-start-requires c κs = search needs
 
 put-bytes-requires : tie.Need-put-bytes-requires
 put-bytes-requires c κs = search needs
@@ -57,13 +55,14 @@ returns : tie.Need-returns
 unfolding withNew newRow
 returns c =
     let c₁ = c .before .before in
-    let c₂ = c₁ .before .before .before .before .before in
+    let c₂ = c₁ .before in
     let c₃ = c₂ .before .before .before .before in
-    let c₄ = c₃ .before .before in
+    let c₄ = c₃ .before .before .before .before in
     let c₅ = c₄ .before .before in
-    let start = c₅ .before .before .before .before .before in
-    c₁ .put-bytes .ensures .bytes ∙ ap (λ row. splice (closureWidth * start .args .n .0) row (start .args .closure .now)) (c₂ .join .ensures
-    ∙ ap₂ union (c₅ .write-named .ensures) (c₃ .write-own .ensures ∙ ap (ownRow (start .args .n .0)) (c₄ .class-row .ensures)))
+    let c₆ = c₅ .before .before in
+    let start = c₆ .before .before .before .before .before in
+    c₁ .put-bytes .ensures .bytes ∙ ap₂ (λ at row. splice at row (start .args .closure .now)) (c₂ .closure-start .ensures)
+    (c₃ .join .ensures ∙ ap₂ union (c₆ .write-named .ensures) (c₄ .write-own .ensures ∙ ap (ownRow (start .args .n .0)) (c₅ .class-row .ensures)))
 
 pub write-new-spec : {M : Type 1} → statement M
 write-new-spec =
@@ -78,7 +77,7 @@ write-new-spec =
     slice-aggregate-join-2
     join-requires
     slice-aggregate-put-bytes
-    mul-put-bytes
+    closure-start-requires
     put-bytes-requires
     same-length
     returns)

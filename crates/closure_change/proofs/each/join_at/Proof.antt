@@ -1,15 +1,15 @@
-use Rattle.closure_change.proofs.Holding.{row-back, row-lent}
 use Rattle.closure_change.specs.KeptLaws.{kept-length}
 use mathlib.Core.Path.{_∙_, ap, refl}
 use Rattle.sets.specs.Sets.{union}
 use Rattle.schema.specs.Store.{closureAt}
 use Rattle.sets.specs.SetsLaws.{union-length}
+use Rattle.closure_change.proofs.Holding.{row-back, row-lent}
 use borrow.Author.Needs.{needs}
 use Rattle.closure_change.proofs.each.join_at.Statement.{statement}
 use Rattle.closure_change.proofs.each.join_at.Tie as tie
 
-mul-at : tie.Need-mul-at
-mul-at c = search needs
+closure-start-requires : tie.Need-closure-start-requires
+closure-start-requires c κs = search needs
 
 add-end : tie.Need-add-end
 add-end c = search needs
@@ -32,17 +32,20 @@ same-length c = search needs
 returns : tie.Need-returns
 returns c =
     let c₁ = c .before .before in
-    let start = c₁ .before .before .before .before .before in
-    row-back (start .args .closure .now) (start .pre .0) (start .args .c .0) (start .pre .1) _ _ _ (union (closureAt (start .args .closure .now)
-    (start .args .c .0)) (start .args .more .now)) refl refl (union-length _ _ ∙ kept-length (start .args .closure .now) (start .pre .0)
-    (start .args .c .0) (start .pre .1)) (c₁ .join .ensures ∙ ap (λ row. union row (start .args .more .now)) (row-lent (start .args .closure .now)
-    (start .pre .0) (start .args .c .0) (start .pre .1) _ _ refl refl))
+    let c₂ = c₁ .before .before in
+    let start = c₂ .before .before .before in
+    let closure = start .args .closure .now in
+    let more = start .args .more .now in
+    row-back closure (start .pre .0) (start .args .c .0) (start .pre .1) _ _ _ (union (closureAt closure (start .args .c .0)) more)
+    (c₂ .closure-start .ensures) refl (union-length _ _ ∙ kept-length closure (start .pre .0) (start .args .c .0) (start .pre .1))
+    (c₁ .join .ensures ∙ ap (λ row. union row more) (row-lent closure (start .pre .0) (start .args .c .0) (start .pre .1) _ _ (c₂ .closure-start .ensures)
+    refl))
 
 pub join-at-spec : {M : Type 1} → statement M
 join-at-spec =
     tie.close
     (tie.spec
-    mul-at
+    closure-start-requires
     add-end
     sub-join
     part-join-start

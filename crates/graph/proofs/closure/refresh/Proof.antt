@@ -1,13 +1,13 @@
 use mathlib.Core.Path.{refl}
-use borrow.Author.Needs.{needs}
 use Rattle.schema.specs.Store.{tableIn}
 use Rattle.schema.specs.declared.number.TableId.the-variants.{Classes}
 use Rattle.graph.proofs.Rows.{refreshed}
+use borrow.Author.Needs.{needs}
 use Rattle.graph.proofs.closure.refresh.Statement.{statement}
 use Rattle.graph.proofs.closure.refresh.Tie as tie
 
-mul-at : tie.Need-mul-at
-mul-at c = search needs
+closure-start-requires : tie.Need-closure-start-requires
+closure-start-requires c κs = search needs
 
 add-end : tie.Need-add-end
 add-end c = search needs
@@ -30,14 +30,16 @@ same-length c = search needs
 returns : tie.Need-returns
 returns c =
     let c₁ = c .before .before in
-    let start = c₁ .before .before .before .before .before in
-    refreshed (tableIn Classes (start .args .classes .now)) (start .args .c .0) _ _ (start .args .closure .now) _ refl refl (c₁ .write-row .ensures)
+    let c₂ = c₁ .before .before in
+    let start = c₂ .before .before .before in
+    refreshed (tableIn Classes (start .args .classes .now)) (start .args .c .0) _ _ (start .args .closure .now) _ (c₂ .closure-start .ensures) refl
+    (c₁ .write-row .ensures)
 
 pub refresh-spec : {M : Type 1} → statement M
 refresh-spec =
     tie.close
     (tie.spec
-    mul-at
+    closure-start-requires
     add-end
     sub-write-row
     part-write-row-start

@@ -2,7 +2,7 @@ use native.Mathlib.Omega.{arith}
 use mathlib.Core.Path.{_∙_, ap, ap₂, subst, sym, subst₂}
 use borrow.Author.Needs.{needs}
 use Rattle.keeper_change.proofs.plain.plain_judged.Statement.{statement}
-use Rattle.keeper_change.proofs.Making.{applicable, back, classes-few, closure-long, made-readable, made-shaped, restorable, store-bytes}
+use Rattle.keeper_change.proofs.Making.{addable, applicable, back, classes-few, closure-long, made-readable, made-shaped, restorable, store-bytes}
 use Rattle.keeper_change.proofs.Whole.{judged-at, judged-done, judged-refused, number-found, refreshed-made}
 use Rattle.graph.specs.Graph.{Readable}
 use Rattle.keeper_change.specs.Made.{Restorable, rowsBack}
@@ -39,11 +39,12 @@ make-requires c κs =
 
 added-by-requires : tie.Need-added-by-requires
 added-by-requires c κs =
-    let start = c .before .before .before .before .before .before .before .before .before .before .before .before .before .before .before .before in
+    let c₁ = c .before .before .before .before .before .before .before in
+    let start = c₁ .before .before .before .before .before .before .before .before .before in
     let s = stores (start .args .attributes .now) (start .args .classes .now) (start .args .closure .now) in
     let change = start .args .change in
     let r = start .args .scratch .now in
-    applicable change r s (start .pre .allowed) .carried
+    addable change r s (start .pre .allowed) _ (c₁ .row-count .ensures)
 
 judged-whole-requires : tie.Need-judged-whole-requires
 judged-whole-requires c κs =

@@ -1,4 +1,4 @@
-use Rattle.keeper_change.proofs.Making.{applicable, back, restorable, store-bytes}
+use Rattle.keeper_change.proofs.Making.{addable, applicable, back, restorable, store-bytes, target-within}
 use Rattle.keeper_change.proofs.Alone.{judged-there, judged-refused, judged-done, to-update}
 use mathlib.Core.Path.{_∙_, ap₂, refl, subst₂, sym}
 use Rattle.keeper_change.specs.Made.{Restorable, rowsBack}
@@ -6,6 +6,7 @@ use Rattle.schema.specs.Store.{stores}
 use Rattle.schema.specs.Layout.{attributeSet}
 use Rattle.prelude.specs.Part.{zeros}
 use Rattle.change_rows.specs.Rows.{tableFor}
+use Rattle.change_read.specs.declared.read.Change.the-variants.{RemoveEntry}
 use Rattle.tables_shape.specs.ShapeLaws.{formed-readable}
 use borrow.Author.Needs.{needs}
 use Rattle.keeper_change.proofs.quick.quick_judged.Statement.{statement}
@@ -35,6 +36,7 @@ demand-before-requires c κs =
       formed-readable (s .attributes) (s .classes) (start .pre .shape .long .attributes)
           (start .pre .shape .long .classes) (start .pre .shape .formed),
       refl,
+      (λ e. target-within change r s (start .pre) RemoveEntry e refl),
     )
 
 make-requires : tie.Need-make-requires
@@ -47,12 +49,12 @@ make-requires c κs =
 
 added-by-requires : tie.Need-added-by-requires
 added-by-requires c κs =
-    let start = c .before .before .before .before .before .before .before .before .before .before .before .before .before .before .before .before
-    .before .before .before .before in
+    let c₁ = c .before .before .before .before .before .before .before .before .before .before .before in
+    let start = c₁ .before .before .before .before .before .before .before .before .before in
     let s = stores (start .args .attributes .now) (start .args .classes .now) (start .args .closure .now) in
     let change = start .args .change in
     let r = start .args .scratch .now in
-    applicable change r s (start .pre) .carried
+    addable change r s (start .pre) _ (c₁ .row-count .ensures)
 
 slice-aggregate-judged-row : tie.Need-slice-aggregate-judged-row
 slice-aggregate-judged-row c = search needs

@@ -1,3 +1,4 @@
+use mathlib.Core.Path.{_∙_}
 use borrow.Author.Needs.{needs}
 use Rattle.rows_read.specs.ObjectClassLaws.{finish-bad, finish-read}
 use Rattle.rows_read.proofs.read.read_row.Statement.{statement}
@@ -6,25 +7,25 @@ use Rattle.rows_read.proofs.read.read_row.Tie as tie
 read-fields-requires : tie.Need-read-fields-requires
 read-fields-requires c κs = search needs
 
-enum-known-at : tie.Need-enum-known-at
-enum-known-at c = search needs
-
 enum-told : tie.Need-enum-told
 enum-told c = search needs
 
-finish-requires : tie.Need-finish-requires
-finish-requires c κs = search needs
+enum-told-2 : tie.Need-enum-told-2
+enum-told-2 c = search needs
 
 same-length : tie.Need-same-length
 same-length c = search needs
 
 returns : tie.Need-returns
 returns c =
-    let c₁ = c .before in
-    let c₂ = c₁ .before .before .before .before in
-    let start′ = c₂ .before .before .before .before in
-    finish-bad (start′ .args .format) (start′ .args .s .now) (start′ .args .start) (start′ .args .end) (start′ .args .row .now)
-    (c₂ .read-fields .ensures) (c₁ .at .given .1)
+    let c₁ = c .before .before .before .before in
+    let begin = c₁ .before .before .before .before in
+    let w = finish-bad (begin .args .format) (begin .args .s .now) (begin .args .start) (begin .args .end) (begin .args .row .now)
+    (c₁ .read-fields .ensures) (c .enum-told2 .given .1) in
+    (c .enum-told2 .given .1 ∙ w .0, w .1)
+
+finish-requires : tie.Need-finish-requires
+finish-requires c κs = search needs
 
 same-length-2 : tie.Need-same-length-2
 same-length-2 c = search needs
@@ -34,19 +35,19 @@ returns-2 c =
     let c₁ = c .before .before in
     let c₂ = c₁ .before .before in
     let c₃ = c₂ .before .before .before .before in
-    let start′ = c₃ .before .before .before .before in
-    finish-read (start′ .args .format) (start′ .args .s .now) (start′ .args .start) (start′ .args .end) (start′ .args .row .now)
-    (c₃ .read-fields .ensures) (c₂ .enum-told .given .1) (c₁ .finish .ensures)
+    let begin = c₃ .before .before .before .before in
+    finish-read (begin .args .format) (begin .args .s .now) (begin .args .start) (begin .args .end) (begin .args .row .now) (c₃ .read-fields .ensures)
+    (c₂ .enum-told .given .1) (c₁ .finish .ensures)
 
 pub read-row-spec : {M : Type 1} → statement M
 read-row-spec =
     tie.close
     (tie.spec
     read-fields-requires
-    enum-known-at
     enum-told
-    finish-requires
+    enum-told-2
     same-length
     returns
+    finish-requires
     same-length-2
     returns-2)

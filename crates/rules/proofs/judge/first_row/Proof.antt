@@ -1,11 +1,12 @@
 use Rattle.schema.specs.StoreLaws.{schema-count}
-use Prim.Native.Nat.{_≤_, _-_}
-use mathlib.Core.Path.{_≡_, sym, _∙_}
+use Prim.Native.Nat.{_≤_, _-_, ℕ}
+use mathlib.Core.List.{List}
+use mathlib.Core.Path.{_≡_, sym, ap, _∙_}
 use mathlib.Core.Bool.{false}
 use Rattle.prelude.specs.Below.{anyBelow}
 use Rattle.prelude.specs.BelowLaws.{any-zero, any-more, any-end, first-found, first-absent}
 use Rattle.rules.specs.Rules.{breaks}
-use Rattle.schema.specs.Store.{schemaIn, table}
+use Rattle.schema.specs.Store.{schemaIn, table, tableIn}
 use Rattle.tables.specs.ShapedLaws.{shaped-table}
 use Rattle.rules.proofs.Asked.{breaks-at, row-there}
 use native.Mathlib.Omega.{arith}
@@ -29,7 +30,17 @@ loop-holds : tie.Need-loop-holds Inv-loop μ-loop
 loop-holds c = (search needs, any-zero _)
 
 row-id-requires : tie.Need-row-id-requires Inv-loop μ-loop
-row-id-requires c κs = search needs
+row-id-requires c κs =
+    let c₁ = c .before .before in
+    let c₂ = c₁ .before in
+    let start = c₂ .before .before .before in
+    let table = start .args .table in
+    omega (
+      arith,
+      shaped-table table (start .pre) .few,
+      c .loop-test .taken,
+      c₁ .row-count .ensures ∙ ap (λ (s : List ℕ). tableIn table s .count) (c₂ .store-of .ensures),
+    )
 
 is-breaking-requires : tie.Need-is-breaking-requires Inv-loop μ-loop
 is-breaking-requires c κs =

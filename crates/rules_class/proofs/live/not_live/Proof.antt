@@ -24,7 +24,7 @@ loop-holds : tie.Need-loop-holds Inv-loop μ-loop
 loop-holds c = (search needs, any-zero _)
 
 row-id-requires : tie.Need-row-id-requires Inv-loop μ-loop
-row-id-requires c κs = search needs
+row-id-requires c κs = omega (arith, c .loop-test .taken, c .before .before .row-limit .ensures)
 
 names-dead-requires : tie.Need-names-dead-requires Inv-loop μ-loop
 names-dead-requires c κs =

@@ -1,10 +1,16 @@
+use mathlib.Core.Path.{ap, ap₂, _∙_}
+use Prim.Native.Nat.{ℕ}
+use Rattle.prelude.specs.Part.{part}
 use lib.ListN.{length}
-use borrow.Author.Needs.{needs}
 use Rattle.prelude.specs.PartLaws.{row-fits}
 use Rattle.schema.specs.Numbers.{limit, tableOf, numberOf}
 use Rattle.schema.specs.Layout.{rowsAt, rowWidth}
+use borrow.Author.Needs.{needs}
 use Rattle.schema.proofs.store.row.Statement.{statement}
 use Rattle.schema.proofs.store.row.Tie as tie
+
+row-start-requires : tie.Need-row-start-requires
+row-start-requires c κs = search needs
 
 table-of-requires : tie.Need-table-of-requires
 table-of-requires c κs = search needs
@@ -12,28 +18,25 @@ table-of-requires c κs = search needs
 row-width-requires : tie.Need-row-width-requires
 row-width-requires c κs = search needs
 
-number-of-requires : tie.Need-number-of-requires
-number-of-requires c κs = search needs
-
-row-of-requires : tie.Need-row-of-requires
-row-of-requires c κs =
+part-of-requires : tie.Need-part-of-requires
+part-of-requires c κs =
     let c₁ = c .before in
     let c₂ = c₁ .before in
     let start = c₂ .before .before in
-    let id = start .args .id in
-    rw
-    (c₁ .row-width .ensures, c₂ .table-of .ensures, c .number-of .ensures)
-    (row-fits rowsAt (rowWidth (tableOf id)) (limit (tableOf id)) (numberOf id) (length (start .args .store .now)) (start .pre .0) (start .pre .1))
+    let fits = row-fits rowsAt (rowWidth (tableOf (start .args .id))) (limit (tableOf (start .args .id))) (numberOf (start .args .id))
+    (length (start .args .store .now)) (start .pre .0) (start .pre .1) in
+    rw (c₂ .row-start .ensures, c .row-width .ensures, c₁ .table-of .ensures) fits
 
 returns : tie.Need-returns
 returns c =
     let c₁ = c .before in
     let c₂ = c₁ .before in
     let c₃ = c₂ .before in
-    rw
-    (← (c₁ .number-of .ensures), ← (c₃ .table-of .ensures), ← (c₂ .row-width .ensures)) (c .row-of .ensures)
+    let start = c₃ .before .before in
+    c .part-of .ensures ∙ ap₂ (λ (x y : ℕ). part x y (start .args .store .now)) (c₃ .row-start .ensures) (c₁ .row-width .ensures ∙ ap rowWidth
+    (c₂ .table-of .ensures))
 
 pub row-spec : {M : Type 1} → statement M
 row-spec =
     tie.close
-    (tie.spec table-of-requires row-width-requires number-of-requires row-of-requires returns)
+    (tie.spec row-start-requires table-of-requires row-width-requires part-of-requires returns)

@@ -1,8 +1,9 @@
-use Rattle.sheet_read.specs.Held.{roomIn}
 use mathlib.Core.Path.{sym, ap, _∙_, _≡_}
 use Prim.Native.Nat.{ℕ}
 use lib.ListN.{length}
 use Rattle.wire.specs.WireLaws.{field-is}
+use Rattle.reader.specs.ReaderLaws.{step-field}
+use Rattle.sheet_read.specs.Held.{roomIn}
 use Rattle.sheet_read.specs.Reading.{step, sheetTag, takeTagged, takeField}
 use Rattle.sheet_read.proofs.Steps.{as-step, same-step, step-full, step-whole, step-cut, free-room, no-field}
 use native.Mathlib.Omega.{arith}
@@ -45,16 +46,15 @@ returns c =
     let at = start .args .at in
     let phase = start .args .phase in
     let missing = start .args .missing in
-    as-step (takeField s at phase missing) _ (start .args .attributes .now) (start .args .classes .now)
-    (λ x a c′ h. ap (λ turn. step turn x) (c .room-turn .ensures) ∙ step-full s at phase missing h _
-    (c₃ .sheet-tag .ensures ∙ ap sheetTag (c₄ .byte-at .ensures)) _ (c₂ .room-in .ensures)
+    as-step (takeField s at phase missing) _ (start .args .attributes .now) (start .args .classes .now) (λ x a c′ h. ap (λ turn. step turn x)
+    (c .room-turn .ensures) ∙ step-full s at phase missing h _ (c₃ .sheet-tag .ensures ∙ ap sheetTag (c₄ .byte-at .ensures)) _ (c₂ .room-in .ensures)
     (λ q. (let e = c₁ .enum-told2 .given .1 in let no : _≡_ {A = ℕ} 0 1 = cc in omega arith)))
 
-field-at-requires : tie.Need-field-at-requires
-field-at-requires c κs = search needs
+step-at-requires : tie.Need-step-at-requires
+step-at-requires c κs = search needs
 
-enum-known-tag : tie.Need-enum-known-tag
-enum-known-tag c = search needs
+enum-known-field : tie.Need-enum-known-field
+enum-known-field c = search needs
 
 same-length-3 : tie.Need-same-length-3
 same-length-3 c = search needs
@@ -74,9 +74,9 @@ returns-2 c =
     let at = start .args .at in
     let phase = start .args .phase in
     let missing = start .args .missing in
-    as-step (takeField s at phase missing) _ (start .args .attributes .now) (start .args .classes .now)
-    (λ x a c′ h. step-cut s at phase missing h _ (c₄ .sheet-tag .ensures ∙ ap sheetTag (c₅ .byte-at .ensures)) _ (c₃ .room-in .ensures)
-    (c₂ .enum-told .given .1) _ (c₁ .field-at .ensures) (no-field _ (c .match2 .keys2)))
+    as-step (takeField s at phase missing) _ (start .args .attributes .now) (start .args .classes .now) (λ x a c′ h. step-cut s at phase missing h _
+    (c₄ .sheet-tag .ensures ∙ ap sheetTag (c₅ .byte-at .ensures)) _ (c₃ .room-in .ensures) (c₂ .enum-told .given .1) _
+    (step-field s at _ (c₁ .step-at .ensures)) (no-field _ (c .match2 .keys2)))
 
 sheet-tag-requires-2 : tie.Need-sheet-tag-requires-2
 sheet-tag-requires-2 c κs = search needs
@@ -90,19 +90,18 @@ take-tagged-requires c κs =
     let c₅ = c₄ .before .before in
     let c₆ = c₅ .before .before .before in
     let c₇ = c₆ .before in
-    let start = c₇ .before .before .before .before in
-    let s = start .args .s .now in
-    let attributes = start .args .attributes .now in
-    let classes = start .args .classes .now in
-    let w = field-is s (start .args .at) (length s) _ _ _
-    (sym (c₃ .field-at .ensures) ∙ c₂ .tag .given .1) in (
+    let begin = c₇ .before .before .before .before in
+    let s = begin .args .s .now in
+    let at = begin .args .at in
+    let attributes = begin .args .attributes .now in
+    let classes = begin .args .classes .now in
+    let w = field-is s at (length s) _ _ _ (sym (step-field s at _ (c₃ .step-at .ensures)) ∙ c₂ .field .given .1) in (
       (omega (arith, w .start-is, w .stop-is), w .within),
       (
-        start .pre .1 .lent,
-        free-room _ attributes classes (start .pre .1 .few)
-            (ap (λ g. roomIn g attributes classes)
-            (c₁ .sheet-tag2 .ensures ∙ ap sheetTag (w .tag-is ∙ sym (c₇ .byte-at .ensures)) ∙ sym (c₆ .sheet-tag .ensures)) ∙ sym (c₅ .room-in .ensures) ∙
-            c₄ .enum-told .given .1),
+        begin .pre .1 .lent,
+        free-room _ attributes classes (begin .pre .1 .few)
+            (ap (λ g. roomIn g attributes classes) (c₁ .sheet-tag2 .ensures ∙ ap sheetTag (w .tag-is ∙ sym (c₇ .byte-at .ensures)) ∙
+            sym (c₆ .sheet-tag .ensures)) ∙ sym (c₅ .room-in .ensures) ∙ c₄ .enum-told .given .1),
       ),
     )
 
@@ -127,14 +126,10 @@ returns-3 c =
     let at = start .args .at in
     let phase = start .args .phase in
     let missing = start .args .missing in
-    let told = c₃ .tag .given .0 .1 in
-    let x′ = told .1 .0 in
-    same-step
-    (takeTagged (c₂ .sheet-tag2 .result) s at phase missing (c₃ .tag .given .0 .1 .0) x′) (takeField s at phase missing)
-    (λ x a c′ h. ap (λ tag. takeTagged tag s at phase missing (c₃ .tag .given .0 .1 .0) x′ x) (c₂ .sheet-tag2 .ensures) ∙ step-whole s at phase
-    missing h _ (c₇ .sheet-tag .ensures ∙ ap sheetTag (c₈ .byte-at .ensures)) _ (c₆ .room-in .ensures) (c₅ .enum-told .given .1) _ _ _ _
-    (c₄ .field-at .ensures) (c₃ .tag .given .1))
-    (c₁ .take-tagged .ensures)
+    same-step (takeTagged (c₂ .sheet-tag2 .result) s at phase missing (c₃ .field .given .0 .1 .0) (c₃ .field .given .0 .1 .1 .0))
+    (takeField s at phase missing) (λ x a c′ h. ap (λ tag. takeTagged tag s at phase missing (c₃ .field .given .0 .1 .0) (c₃ .field .given .0 .1 .1 .0) x)
+    (c₂ .sheet-tag2 .ensures) ∙ step-whole s at phase missing h _ (c₇ .sheet-tag .ensures ∙ ap sheetTag (c₈ .byte-at .ensures)) _ (c₆ .room-in .ensures)
+    (c₅ .enum-told .given .1) _ _ _ _ (step-field s at _ (c₄ .step-at .ensures)) (c₃ .field .given .1)) (c₁ .take-tagged .ensures)
 
 pub take-field-spec : {M : Type 1} → statement M
 take-field-spec =
@@ -149,8 +144,8 @@ take-field-spec =
     same-length
     same-length-2
     returns
-    field-at-requires
-    enum-known-tag
+    step-at-requires
+    enum-known-field
     same-length-3
     same-length-4
     returns-2

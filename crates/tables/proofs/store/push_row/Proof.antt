@@ -18,7 +18,7 @@ row-count-requires : tie.Need-row-count-requires
 row-count-requires c κs = search needs
 
 row-id-requires : tie.Need-row-id-requires
-row-id-requires c κs = search needs
+row-id-requires c κs = let start = c .before .before .before .before .before in omega (arith, c .before .row-count .ensures, start .pre .1)
 
 put-row-requires : tie.Need-put-row-requires
 put-row-requires c κs =

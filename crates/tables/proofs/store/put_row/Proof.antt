@@ -1,15 +1,19 @@
-use mathlib.Core.Path.{ap, ap₂, _∙_}
-use Prim.Native.Nat.{ℕ, _+_, _*_}
-use native.Mathlib.Omega.{arith}
-use borrow.Author.Needs.{needs}
+use mathlib.Core.Path.{refl, sym, ap, _∙_}
+use Prim.Native.Nat.{ℕ, _+_, _*_, _≤_}
+use lib.ListN.{length}
 use Rattle.prelude.specs.Part.{splice}
 use Rattle.schema.specs.Numbers.{tableOf, numberOf}
 use Rattle.schema.specs.Layout.{rowWidth}
 use Rattle.tables.proofs.Written.{cut-length, row-put}
 use Rattle.tables.specs.Filled.{putIn}
 use Rattle.tables.proofs.Widths.{row-room}
+use native.Mathlib.Omega.{arith}
+use borrow.Author.Needs.{needs}
 use Rattle.tables.proofs.store.put_row.Statement.{statement}
 use Rattle.tables.proofs.store.put_row.Tie as tie
+
+row-start-requires : tie.Need-row-start-requires
+row-start-requires c κs = search needs
 
 table-of-requires : tie.Need-table-of-requires
 table-of-requires c κs = search needs
@@ -17,47 +21,17 @@ table-of-requires c κs = search needs
 row-width-requires : tie.Need-row-width-requires
 row-width-requires c κs = search needs
 
-number-of-requires : tie.Need-number-of-requires
-number-of-requires c κs = search needs
-
-mul-at : tie.Need-mul-at
-mul-at c =
-    let c₁ = c .before in
-    let c₂ = c₁ .before in
-    let start = c₂ .before .before .before in
-    let id = start .args .id in
-    omega (
-      arith,
-      row-room (tableOf id) (numberOf id) (start .args .store .now) _ _ (c₁ .row-width .ensures ∙ ap rowWidth (c₂ .table-of .ensures))
-          (c .number-of .ensures) (start .pre .0) (start .pre .1),
-      start .good .0 .0,
-    )
-
-add-at : tie.Need-add-at
-add-at c =
-    let c₁ = c .before in
-    let c₂ = c₁ .before in
-    let start = c₂ .before .before .before in
-    let id = start .args .id in
-    omega (
-      arith,
-      row-room (tableOf id) (numberOf id) (start .args .store .now) _ _ (c₁ .row-width .ensures ∙ ap rowWidth (c₂ .table-of .ensures))
-          (c .number-of .ensures) (start .pre .0) (start .pre .1),
-      start .good .0 .0,
-    )
-
 add-end : tie.Need-add-end
 add-end c =
     let c₁ = c .before in
     let c₂ = c₁ .before in
     let start = c₂ .before .before .before in
     let id = start .args .id in
-    omega (
-      arith,
-      row-room (tableOf id) (numberOf id) (start .args .store .now) _ _ (c₁ .row-width .ensures ∙ ap rowWidth (c₂ .table-of .ensures))
-          (c .number-of .ensures) (start .pre .0) (start .pre .1),
-      start .good .0 .0,
-    )
+    let store = start .args .store .now in
+    let e = c₂ .row-start .ensures ∙ ap (λ (x : ℕ). 2 + x * numberOf id) (sym (c .row-width .ensures ∙ ap rowWidth (c₁ .table-of .ensures))) in
+    let room : c₂ .row-start .result + c .row-width .result ≤ length store = rw e (row-room (tableOf id) (numberOf id) store (c .row-width .result)
+    (numberOf id) (c .row-width .ensures ∙ ap rowWidth (c₁ .table-of .ensures)) refl (start .pre .0) (start .pre .1)) in omega
+    (arith, room, start .good .0 .0)
 
 sub-copy-padded : tie.Need-sub-copy-padded
 sub-copy-padded c = search needs
@@ -71,12 +45,10 @@ part-copy-padded-end c =
     let c₂ = c₁ .before in
     let start = c₂ .before .before .before in
     let id = start .args .id in
-    omega (
-      arith,
-      row-room (tableOf id) (numberOf id) (start .args .store .now) _ _ (c₁ .row-width .ensures ∙ ap rowWidth (c₂ .table-of .ensures))
-          (c .number-of .ensures) (start .pre .0) (start .pre .1),
-      start .good .0 .0,
-    )
+    let store = start .args .store .now in
+    let e = c₂ .row-start .ensures ∙ ap (λ (x : ℕ). 2 + x * numberOf id) (sym (c .row-width .ensures ∙ ap rowWidth (c₁ .table-of .ensures))) in
+    let room : c₂ .row-start .result + c .row-width .result ≤ length store = rw e (row-room (tableOf id) (numberOf id) store (c .row-width .result)
+    (numberOf id) (c .row-width .ensures ∙ ap rowWidth (c₁ .table-of .ensures)) refl (start .pre .0) (start .pre .1)) in omega (arith, room)
 
 copy-padded-requires : tie.Need-copy-padded-requires
 copy-padded-requires c κs =
@@ -84,17 +56,16 @@ copy-padded-requires c κs =
     let c₂ = c₁ .before in
     let c₃ = c₂ .before in
     let start = c₃ .before .before .before in
-    let store = start .args .store .now in
     let id = start .args .id in
-    let w = c₂ .row-width .result in
-    let k = c₁ .number-of .result in
-    let e = c₂ .row-width .ensures ∙ ap rowWidth
-    (c₃ .table-of .ensures) in omega (
+    let store = start .args .store .now in
+    let e = c₃ .row-start .ensures ∙ ap (λ (x : ℕ). 2 + x * numberOf id) (sym (c₁ .row-width .ensures ∙ ap rowWidth (c₂ .table-of .ensures))) in
+    let room : c₃ .row-start .result + c₁ .row-width .result ≤ length store = rw e (row-room (tableOf id) (numberOf id) store (c₁ .row-width .result)
+    (numberOf id) (c₁ .row-width .ensures ∙ ap rowWidth (c₂ .table-of .ensures)) refl (start .pre .0) (start .pre .1)) in omega (
       arith,
       start .pre .2,
-      e,
-      cut-length (2 + w * k) w store
-          (row-room (tableOf id) (numberOf id) store w k e (c₁ .number-of .ensures) (start .pre .0) (start .pre .1)),
+      (c₁ .row-width .ensures ∙ ap rowWidth (c₂ .table-of .ensures)),
+      cut-length (c₃ .row-start .result) (c₁ .row-width .result) store
+          room,
     )
 
 same-length : tie.Need-same-length
@@ -108,24 +79,22 @@ returns c =
     let c₃ = c₂ .before in
     let c₄ = c₃ .before in
     let start = c₄ .before .before .before in
+    let id = start .args .id in
     let store = start .args .store .now in
     let row = start .args .row .now in
-    let id = start .args .id in
-    let w = c₃ .row-width .result in
-    let k = c₂ .number-of .result in
-    let e = c₃ .row-width .ensures ∙ ap rowWidth (c₄ .table-of .ensures) in row-put (2 + w * k) w store row _
-    (row-room (tableOf id) (numberOf id) store w k e (c₂ .number-of .ensures) (start .pre .0) (start .pre .1)) (omega (arith, start .pre .2, e))
-    (c₁ .copy-padded .ensures) ∙ ap₂ (λ (x y : ℕ). splice (2 + x * y) row store) e (c₂ .number-of .ensures)
+    let e = c₄ .row-start .ensures ∙ ap (λ (x : ℕ). 2 + x * numberOf id) (sym (c₂ .row-width .ensures ∙ ap rowWidth (c₃ .table-of .ensures))) in
+    let room : c₄ .row-start .result + c₂ .row-width .result ≤ length store = rw e (row-room (tableOf id) (numberOf id) store (c₂ .row-width .result)
+    (numberOf id) (c₂ .row-width .ensures ∙ ap rowWidth (c₃ .table-of .ensures)) refl (start .pre .0) (start .pre .1)) in row-put (c₄ .row-start .result)
+    (c₂ .row-width .result) store row _ room (omega (arith, start .pre .2, (c₂ .row-width .ensures ∙ ap rowWidth (c₃ .table-of .ensures))))
+    (c₁ .copy-padded .ensures) ∙ ap (λ (x : ℕ). splice x row store) (c₄ .row-start .ensures)
 
 pub put-row-spec : {M : Type 1} → statement M
 put-row-spec =
     tie.close
     (tie.spec
+    row-start-requires
     table-of-requires
     row-width-requires
-    number-of-requires
-    mul-at
-    add-at
     add-end
     sub-copy-padded
     part-copy-padded-start
