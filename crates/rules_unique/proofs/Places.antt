@@ -8,10 +8,11 @@ use native.Mathlib.Decide.{ℕ-discrete, decLt}
 use native.Mathlib.Nat.{mod-lt, zero-lt-suc}
 use native.Mathlib.Numerals.{add-one}
 use native.Mathlib.Omega.{arith}
+use lib.Bits.{bitAnd, and-mask}
 use lib.ListN.{length, getD}
 use Rattle.prelude.specs.Below.{anyBelow}
 use Rattle.prelude.specs.BelowLaws.{any-false, any-here, last-or-less}
-use Rattle.prelude.specs.SaysLaws.{says-eq, says-lt, says-true, says-false, true-or-false}
+use Rattle.prelude.specs.SaysLaws.{choose, says-eq, says-lt, says-true, says-false, true-or-false}
 use Rattle.sets.specs.Sets.{member, withMember}
 use Rattle.sets.specs.SetsLaws.{bit-with, bit-with-other, says-member}
 use Rattle.schema.specs.declared.number.TableId.{TableId}
@@ -22,26 +23,38 @@ use Rattle.schema.specs.NumbersLaws.{id-table, id-number}
 use Rattle.schema.specs.Row.{nameOf, identifierOf, guidOf}
 use Rattle.schema.specs.AttributeRow.{mapiOf, linkOf}
 use Rattle.schema.specs.Store.{Schema, table}
-use Rattle.rules_names.specs.Name.{folded}
+use Rattle.rules_names.specs.Name.{folded, between}
 use Rattle.rules_unique.specs.declared.Key.{Key}
 use Rattle.rules_unique.specs.declared.Key.the-variants.{Name, Identifier, Guid, Mapi, Link}
 use Rattle.rules_unique.specs.Unique.{everyRow, hasKey, taken, SameKey, Rival}
 use Rattle.rules_unique.specs.UniqueLaws.{says-taken, clash-turned}
-use Rattle.rules_unique.specs.Marks.{absent, anyTaken, keyMark, markCount, markOf, marksWidth, met, placeCount, placeId}
+use Rattle.rules_unique.specs.Marks.{absent, anyTaken, caseless, keyMark, markCount, markOf, marksWidth, met, placeCount, placeId, whole}
 
 -- ---- marks
 
-mark-folded : (n : ℕ) (s t : List ℕ) → ((i : ℕ) → i < n → folded (getD s i 0) ≡ folded (getD t i 0)) → markOf n s ≡ markOf n t
+fold-low : (z : ℕ) → folded z % 32 ≡ z % 32
+unfolding folded
+fold-low z = choose (λ (y : ℕ). y % 32 ≡ z % 32) (between 65 90 z) (λ e. omega arith) (λ e. refl)
+
+-- a letter and the other of its case have the lowest five digits in common
+case-same : (x y : ℕ) → folded x ≡ folded y → bitAnd x caseless ≡ bitAnd y caseless
+case-same x y e = low x ∙ ap (λ (z : ℕ). z % 32) e ∙ sym (low y)
+  where
+    low : (z : ℕ) → bitAnd z caseless ≡ folded z % 32
+    low z = and-mask z 5 ∙ sym (fold-low z)
+
+mark-folded : (n : ℕ) (s t : List ℕ) → ((i : ℕ) → i < n → folded (getD s i 0) ≡ folded (getD t i 0)) → markOf caseless n s ≡ markOf caseless n t
 unfolding markOf
 mark-folded zero s t h = refl
-mark-folded (suc n) s t h = ap₂ (λ (a b : ℕ). (a * 31 + b) % markCount) (mark-folded n s t (λ i l. h i (omega arith))) (h n (omega arith))
+mark-folded (suc n) s t h =
+    ap₂ (λ (a b : ℕ). (a * 31 + b) % markCount) (mark-folded n s t (λ i l. h i (omega arith))) (case-same (getD s n 0) (getD t n 0) (h n (omega arith)))
 
 -- rows with the same key have the same mark, and a value
 mark-same : (key : Key) (a b : List ℕ) → SameKey key a b → keyMark key a ≡ keyMark key b
 unfolding keyMark
-mark-same Name a b s = mark-folded (length (nameOf a)) (nameOf a) (nameOf b) (s .bytes) ∙ ap (λ (n : ℕ). markOf n (nameOf b)) (s .lengths)
-mark-same Identifier a b s = ap (λ (x : List ℕ). markOf (length x) x) s
-mark-same Guid a b s = ap (λ (x : List ℕ). markOf (length x) x) s
+mark-same Name a b s = mark-folded (length (nameOf a)) (nameOf a) (nameOf b) (s .bytes) ∙ ap (λ (n : ℕ). markOf caseless n (nameOf b)) (s .lengths)
+mark-same Identifier a b s = ap (λ (x : List ℕ). markOf whole (length x) x) s
+mark-same Guid a b s = ap (λ (x : List ℕ). markOf whole (length x) x) s
 mark-same Mapi a b s = ap (λ (x : ℕ). x % markCount) (s .1)
 mark-same Link a b s = ap (λ (x : ℕ). x % markCount) (s .1)
 
@@ -53,16 +66,16 @@ present-same Guid a b s = refl
 present-same Mapi a b s = says-false (says-eq (mapiOf a) 0) (s .0)
 present-same Link a b s = says-false (says-eq (linkOf a) 0) (s .0)
 
-mark-lt : (n : ℕ) (s : List ℕ) → markOf n s < markCount
+mark-lt : (mask n : ℕ) (s : List ℕ) → markOf mask n s < markCount
 unfolding markOf
-mark-lt zero s = omega arith
-mark-lt (suc n) s = mod-lt (markOf n s * 31 + folded (getD s n 0)) (zero-lt-suc 16383)
+mark-lt mask zero s = omega arith
+mark-lt mask (suc n) s = mod-lt (markOf mask n s * 31 + bitAnd (getD s n 0) mask) (zero-lt-suc 16383)
 
 key-mark-lt : (key : Key) (row : List ℕ) → keyMark key row < markCount
 unfolding keyMark
-key-mark-lt Name row = mark-lt (length (nameOf row)) (nameOf row)
-key-mark-lt Identifier row = mark-lt (length (identifierOf row)) (identifierOf row)
-key-mark-lt Guid row = mark-lt (length (guidOf row)) (guidOf row)
+key-mark-lt Name row = mark-lt caseless (length (nameOf row)) (nameOf row)
+key-mark-lt Identifier row = mark-lt whole (length (identifierOf row)) (identifierOf row)
+key-mark-lt Guid row = mark-lt whole (length (guidOf row)) (guidOf row)
 key-mark-lt Mapi row = mod-lt (mapiOf row) (zero-lt-suc 16383)
 key-mark-lt Link row = mod-lt (linkOf row) (zero-lt-suc 16383)
 
@@ -233,9 +246,11 @@ module _ (key : Key) (m : Schema) where
           (any-here (taken everyRow key m Classes) k (m .classes .count) h q)
 
 -- the mark of one byte more
-pub mark-more : (s : List ℕ) (i mark b r : ℕ) → mark ≡ markOf i s → b ≡ folded (getD s i 0) → r ≡ (mark * 31 + b) % markCount → r ≡ markOf (i + 1) s
+pub mark-more : (mask : ℕ) (s : List ℕ) (i mark b : ℕ) → mark ≡ markOf mask i s → b ≡ getD s i 0
+    → (mark * 31 + bitAnd b mask) % markCount ≡ markOf mask (i + 1) s
 unfolding markOf
-mark-more s i mark b r e q w = w ∙ ap₂ (λ (x y : ℕ). (x * 31 + y) % markCount) e q ∙ ap (λ (n : ℕ). markOf n s) (sym (add-one i))
+mark-more mask s i mark b e q =
+    ap₂ (λ (x y : ℕ). (x * 31 + bitAnd y mask) % markCount) e q ∙ ap (λ (n : ℕ). markOf mask n s) (sym (add-one i))
 
-pub mark-below : (s : List ℕ) (i mark : ℕ) → mark ≡ markOf i s → mark < markCount
-mark-below s i mark e = rw e (mark-lt i s)
+pub mark-below : (mask : ℕ) (s : List ℕ) (i mark : ℕ) → mark ≡ markOf mask i s → mark < markCount
+mark-below mask s i mark e = rw e (mark-lt mask i s)

@@ -2,6 +2,7 @@
 use mathlib.Core.Bool.{Bool, false, not, cond, _&&_, _||_}
 use mathlib.Core.List.{List}
 use Prim.Native.Nat.{ℕ, zero, suc, _+_, _-_, _*_, _%_}
+use lib.Bits.{bitAnd}
 use lib.Dec.{eqb, ltb}
 use lib.ListN.{length, getD}
 use Rattle.prelude.specs.Below.{anyBelow}
@@ -12,7 +13,6 @@ use Rattle.schema.specs.Numbers.{rowId}
 use Rattle.schema.specs.Row.{nameOf, identifierOf, guidOf}
 use Rattle.schema.specs.AttributeRow.{linkOf, mapiOf}
 use Rattle.schema.specs.Store.{Schema}
-use Rattle.rules_names.specs.Name.{folded}
 use Rattle.rules_unique.specs.declared.Key.{Key}
 use Rattle.rules_unique.specs.declared.Key.the-variants.{Name, Identifier, Guid, Mapi, Link}
 use Rattle.rules_unique.specs.Unique.{everyRow, hasKey, taken}
@@ -24,16 +24,23 @@ markCount = 16384
 abbrev pub marksWidth : ℕ
 marksWidth = 2048
 
--- the mark of the first n bytes of s, A to Z taken for a to z
-unfoldable pub markOf : ℕ → List ℕ → ℕ
-markOf zero s = 0
-markOf (suc n) s = (markOf n s * 31 + folded (getD s n 0)) % markCount
+-- what counts of a byte: all of it, or what a letter has in common with the other of its case
+abbrev pub whole : ℕ
+whole = 255
+
+abbrev pub caseless : ℕ
+caseless = 31
+
+-- the mark of the first n bytes of s, of each of which only some digits count
+unfoldable pub markOf : ℕ → ℕ → List ℕ → ℕ
+markOf mask zero s = 0
+markOf mask (suc n) s = (markOf mask n s * 31 + bitAnd (getD s n 0) mask) % markCount
 
 -- the mark of a row's key
 unfoldable pub keyMark : Key → List ℕ → ℕ
-keyMark Name row = markOf (length (nameOf row)) (nameOf row)
-keyMark Identifier row = markOf (length (identifierOf row)) (identifierOf row)
-keyMark Guid row = markOf (length (guidOf row)) (guidOf row)
+keyMark Name row = markOf caseless (length (nameOf row)) (nameOf row)
+keyMark Identifier row = markOf whole (length (identifierOf row)) (identifierOf row)
+keyMark Guid row = markOf whole (length (guidOf row)) (guidOf row)
 keyMark Mapi row = mapiOf row % markCount
 keyMark Link row = linkOf row % markCount
 

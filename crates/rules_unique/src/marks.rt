@@ -4,7 +4,6 @@ use crate::Key;
 use crate::has_key;
 use crate::is_taken;
 use prelude::number::byte_at;
-use rules_names::fold;
 use schema::attribute::link;
 use schema::attribute::mapi;
 use schema::number::AttributeNumber;
@@ -33,14 +32,20 @@ const MARKS: usize = 16384;
 
 const MARKS_WIDTH: usize = 2048;
 
-// The mark of some bytes, letters taken for small ones.
-fn mark_of(s: &[u8]) -> usize
-    ensures { λ r. ⌜ r ≡ markOf (length (now (s .entry))) (now (s .entry)) ⌝ }
+// What counts of a byte: all of it, or what a letter has in common with the other of its case.
+const WHOLE: u8 = 255;
+
+const CASELESS: u8 = 31;
+
+// The mark of some bytes, of each of which only some digits count.
+fn mark_of(s: &[u8], mask: u8) -> usize
+    ensures { λ r. ⌜ r ≡ markOf mask (length (now (s .entry))) (now (s .entry)) ⌝ }
 {
     let mut mark = 0;
     let mut i = 0;
     while i < s.len() {
-        mark = (mark * 31 + fold(byte_at(s, i)) as usize) % MARKS;
+        let b = byte_at(s, i) & mask;
+        mark = (mark * 31 + b as usize) % MARKS;
         i += 1;
     }
     mark
@@ -52,9 +57,9 @@ fn key_mark(key: Key, row: &[u8]) -> usize
     ensures { λ r. ⌜ r ≡ keyMark key (now (row .entry)) ⌝ }
 {
     match key {
-        Key::Name => mark_of(name(row)),
-        Key::Identifier => mark_of(identifier(row)),
-        Key::Guid => mark_of(guid(row)),
+        Key::Name => mark_of(name(row), CASELESS),
+        Key::Identifier => mark_of(identifier(row), WHOLE),
+        Key::Guid => mark_of(guid(row), WHOLE),
         Key::Mapi => mapi(row) as usize % MARKS,
         Key::Link => link(row) as usize % MARKS,
     }
