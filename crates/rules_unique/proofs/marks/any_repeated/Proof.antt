@@ -118,9 +118,11 @@ loop-again c =
             (start .args .attributes .now) (start .args .classes .now)) (c₆ .loop .p) (c₆ .loop .marks) _ (c₆ .loop .inv .1) marked
             (c₆ .loop .inv .2 .0),
         apart-more (start .args .key) (schemaIn (start .args .attributes .now) (start .args .classes .now)) (c₆ .loop .p)
-            (c₆ .loop .marks) (omega (arith, c₅ .loop-test .taken, c₇ .place-count .ensures)) (c₆ .loop .inv .2 .0) (subst (λ (i : RowId). (met (start .args .key)
+            (c₆ .loop .marks) (omega (arith, c₅ .loop-test .taken, c₇ .place-count .ensures)) (c₆ .loop .inv .2 .0) (subst (λ (i : RowId). (met
+            (start .args .key)
             (table (tableOf i) (schemaIn (start .args .attributes .now) (start .args .classes .now)) .row (numberOf i)) (c₆ .loop .marks) && taken everyRow
-            (start .args .key) (schemaIn (start .args .attributes .now) (start .args .classes .now)) (tableOf i) (numberOf i)) ≡ false) (c₄ .id-at .ensures ∙ ap (λ
+            (start .args .key) (schemaIn (start .args .attributes .now) (start .args .classes .now)) (tableOf i) (numberOf i)) ≡ false)
+            (c₄ .id-at .ensures ∙ ap (λ
             (n : ℕ). placeId n (c₆ .loop .p)) (c₈ .row-count .ensures)) (sym (c₃ .is-repeated .ensures) ∙ c₂ .if1 .left)) (c₆ .loop .inv .2 .1),
       ),
     )
