@@ -1,19 +1,20 @@
 -- A row of the closure store written as three parts, and the store row by row.
 use mathlib.Core.List.{List, [], _++_, append-assoc, append-nil}
-use mathlib.Core.Bool.{Bool}
+use mathlib.Core.Bool.{Bool, cond}
 use mathlib.Core.Path.{_≡_, refl, sym, ap, ap₂, _∙_}
-use Prim.Native.Nat.{ℕ, _+_, _-_, _*_, _≤_, _<_}
+use Prim.Native.Nat.{ℕ, zero, suc, _+_, _-_, _*_, _≤_, _<_}
 use native.Mathlib.Omega.{arith}
 use lib.ListN.{length, take, drop, length-append, length-drop, drop-of-length-le}
 use lib.Seq.{take-at, drop-at, length-take-le}
-use Rattle.prelude.specs.Part.{part, sameBytes, splice, padded}
-use Rattle.prelude.specs.PartLaws.{padded-full, part-all, row-fits, row-length, says-same-bytes}
+use Rattle.prelude.specs.Part.{part, sameBytes, splice, padded, zeros}
+use Rattle.prelude.specs.PartLaws.{padded-full, part-all, part-zeros, row-fits, row-length, says-same-bytes}
 use Rattle.prelude.specs.SaysLaws.{choose, says-iff, says-same}
 use Rattle.prelude.specs.SpliceLaws.{part-splice-after, splice-append, splice-front, splice-length, splice-over, splice-part}
 use Rattle.prelude.specs.LentLaws.{lent-back}
 use Rattle.prelude.specs.Concat.{concatBelow}
 use Rattle.prelude.specs.ConcatLaws.{concat-none, concat-more, concat-length, concat-row, concat-same}
-use Rattle.sets.specs.Sets.{member, setOf}
+use Rattle.sets.specs.Sets.{member, setOf, union}
+use Rattle.sets.specs.SideLaws.{member-zeros}
 use Rattle.sets.specs.SetsLaws.{set-length, union-length}
 use Rattle.schema.specs.Numbers.{classLimit}
 use Rattle.schema.specs.Layout.{classSet, attributeSet, closureLength, closureWidth, mandatoryAt, reachedAt, demandedAt, allowedAt}
@@ -23,7 +24,7 @@ use Rattle.graph.specs.FrontLaws.{fresh-front}
 use Rattle.graph.specs.Graph.{listsMandatory, listsOptional, reaches, demands, allows, demandedSet, closureRow, closureRows, isFresh}
 use Rattle.graph.specs.Collect.{collected, collectedOptional}
 use Rattle.graph.specs.Stages.{comesTo, passedRow, stageRow, stageRows}
-use Rattle.graph.proofs.Warshall.{stage-end, stage-first, stage-more}
+use Rattle.graph.proofs.Warshall.{stage-end, stage-first, stage-more, stage-none}
 use Rattle.graph.proofs.Gather.{demanded-is, allowed-is}
 
 -- ---- one row
@@ -133,8 +134,19 @@ module _ (f : ℕ → List ℕ) (o : List ℕ) (long : closureLength ≤ length 
       ap (λ (s : List ℕ). closureAt s c) p
       ∙ part-splice-after 0 (concatBelow c f) o (rows-fit c (omega arith)) (0 + closureWidth * c) closureWidth (omega (arith, rows-long c (omega arith)))
 
-  pub rowed-end : (c : ℕ) (now : List ℕ) → c ≤ classLimit → classLimit ≤ c → Rowed c now → Rowed classLimit now
-  rowed-end c now h g p = let e : c ≡ classLimit = omega arith in p ∙ ap (λ (n : ℕ). splice 0 (concatBelow n f) o) e
+  pub rowed-end : (n c : ℕ) (now : List ℕ) → c ≤ n → n ≤ c → Rowed c now → Rowed n now
+  rowed-end n c now h g p = let e : c ≡ n = omega arith in p ∙ ap (λ (m : ℕ). splice 0 (concatBelow m f) o) e
+
+  -- rows behind them that f leaves as they are
+  pub rowed-past : (n d : ℕ) (now : List ℕ) → n + d ≤ classLimit → ((c : ℕ) → n ≤ c → c < n + d → f c ≡ closureAt o c) → Rowed n now → Rowed (n + d) now
+  rowed-past n zero now l h p = rowed-end (n + 0) n now (omega arith) (omega arith) p
+  rowed-past n (suc d) now l h p =
+      let q = rowed-past n d now (omega arith) (λ c a b. h c a (omega arith)) p in
+      let long-now : closureLength ≤ length now = omega (arith, long, rowed-length (n + d) now (omega arith) q) in
+      let same : f (n + d) ≡ closureAt now (n + d) = h (n + d) (omega arith) (omega arith) ∙ sym (rowed-kept (n + d) now (omega arith) q) in
+      rowed-end (n + suc d) (n + d + 1) now (omega arith) (omega arith)
+      (rowed-more (n + d) now now (omega arith) q
+      (sym (ap (λ (row : List ℕ). splice (closureWidth * (n + d)) row now) same ∙ splice-row (n + d) now long-now (omega arith))))
 
   -- each row, when all are
   pub rowed-row : (now : List ℕ) → Rowed classLimit now → (c : ℕ) → c < classLimit → closureAt now c ≡ f c
@@ -166,6 +178,14 @@ pub passed-rows : (k : ℕ) (own closure : List ℕ) → closureLength ≤ lengt
     → length (passedRow k own (closureAt closure c)) ≡ closureWidth
 passed-rows k own closure long c l =
     passed-length k own (closureAt closure c) (row-length 0 closureWidth classLimit c closure (omega arith) l)
+
+-- a class without a row gets nothing
+pub passed-none : (k : ℕ) (own row : List ℕ) → row ≡ zeros closureWidth → passedRow k own row ≡ row
+unfolding passedRow
+passed-none k own row e =
+    ap (λ (q : Bool). cond q (union row own) row)
+    (ap (λ (r : List ℕ). member (part reachedAt classSet r) k) e ∙ ap (λ (r : List ℕ). member r k) (part-zeros reachedAt classSet closureWidth (omega arith))
+    ∙ member-zeros classSet k)
 
 -- the test, of a row that was looked up
 pub passed-test : (row found : List ℕ) (k : ℕ) (set : List ℕ) (r : Bool) → found ≡ row → set ≡ part reachedAt classSet found → r ≡ member set k
@@ -205,19 +225,32 @@ module _ (t : Table) (o : List ℕ) (long : closureLength ≤ length o) where
   unfolding stageRows closureRows
   staged-over k now r p q = rowed-over (stageRow t k) o long (λ c l. stage-length t k c) (closureRow t) now r (λ c l. closure-row-length t c) p q
 
-  -- class k has passed on what it has
+  -- class k has passed on what it has to each class that has a row
   pub staged-more : t .count ≤ classLimit → (k : ℕ) (now r : List ℕ) → k < t .count → Staged k now
-      → r ≡ splice 0 (concatBelow classLimit (λ c. passedRow k (closureAt now k) (closureAt now c))) now → Staged (k + 1) r
+      → r ≡ splice 0 (concatBelow (t .count) (λ c. passedRow k (closureAt now k) (closureAt now c))) now → Staged (k + 1) r
   unfolding stageRows
   staged-more few k now r l p q =
       rowed-over (stageRow t k) o long (λ c m. stage-length t k c) (stageRow t (k + 1)) now r (λ c m. stage-length t (k + 1) c) p
-      (q ∙ ap (λ (v : List ℕ). splice 0 v now) (concat-same classLimit (λ c. passedRow k (closureAt now k) (closureAt now c)) (stageRow t (k + 1)) each))
+      (all ∙ ap (λ (v : List ℕ). splice 0 v now) (concat-same classLimit passed (stageRow t (k + 1)) each))
     where
+      passed : ℕ → List ℕ
+      passed c = passedRow k (closureAt now k) (closureAt now c)
+
+      long-now : closureLength ≤ length now
+      long-now = omega (arith, long, staged-length k now p)
+
       row : (c : ℕ) → c < classLimit → closureAt now c ≡ stageRow t k c
       row = rowed-row (stageRow t k) o long (λ c m. stage-length t k c) now p
 
-      each : (c : ℕ) → c < classLimit → passedRow k (closureAt now k) (closureAt now c) ≡ stageRow t (k + 1) c
+      each : (c : ℕ) → c < classLimit → passed c ≡ stageRow t (k + 1) c
       each c m = ap₂ (passedRow k) (row k (omega arith)) (row c m) ∙ stage-more t few k c l
+
+      all : r ≡ splice 0 (concatBelow classLimit passed) now
+      all =
+          let e : t .count + (classLimit - t .count) ≡ classLimit = omega arith in
+          rowed-past passed now long-now (passed-rows k (closureAt now k) now long-now) (t .count) (classLimit - t .count) r (omega arith)
+          (λ c a b. passed-none k (closureAt now k) (closureAt now c) (row c (omega arith) ∙ stage-none t k c a)) q
+          ∙ ap (λ (n : ℕ). splice 0 (concatBelow n passed) now) e
 
   pub staged-end : (k : ℕ) (now : List ℕ) → k ≡ t .count → Staged k now → now ≡ splice 0 (closureRows t) o
   unfolding stageRows closureRows

@@ -68,7 +68,7 @@ pub fn refresh_all(classes: &[u8], closure: &mut [u8])
     let n = row_count(TableId::Classes, classes);
     let mut k = 0;
     while k < n {
-        pass_on(closure, ClassNumber(k));
+        pass_on(closure, n, ClassNumber(k));
         k += 1;
     }
 }

@@ -127,27 +127,27 @@ fn pass_to(closure: &mut [u8], k: usize, own: &[u8], c: ClassNumber)
     }
 }
 
-// Every class that has come to class k gets what k has.
-fn pass_to_all(closure: &mut [u8], k: usize, own: &[u8])
-    requires { ⌜ (closureLength ≤ length (now closure)) × (length (now own) ≡ closureWidth) ⌝ }
-    ensures { λ _. ⌜ now (closure .exit) ≡ splice 0 (concatBelow classLimit (λ c. passedRow k (now (own .entry)) (closureAt (now (closure .entry)) c)))
+// Each of the first n classes that has come to class k gets what k has.
+fn pass_to_all(closure: &mut [u8], n: usize, k: usize, own: &[u8])
+    requires { ⌜ (closureLength ≤ length (now closure)) × (length (now own) ≡ closureWidth) × (n ≤ classLimit) ⌝ }
+    ensures { λ _. ⌜ now (closure .exit) ≡ splice 0 (concatBelow n (λ c. passedRow k (now (own .entry)) (closureAt (now (closure .entry)) c)))
         (now (closure .entry)) ⌝ }
 {
     let mut c = 0;
-    while c < ClassNumber::LIMIT {
+    while c < n {
         pass_to(closure, k, own, ClassNumber(c));
         c += 1;
     }
 }
 
 // The same, of what k has in the store itself.
-pub fn pass_on(closure: &mut [u8], k: ClassNumber)
-    requires { ⌜ (closureLength ≤ length (now closure)) × (k .0 < classLimit) ⌝ }
+pub fn pass_on(closure: &mut [u8], n: usize, k: ClassNumber)
+    requires { ⌜ (closureLength ≤ length (now closure)) × (k .0 < classLimit) × (n ≤ classLimit) ⌝ }
     ensures { λ _. ⌜ now (closure .exit)
-        ≡ splice 0 (concatBelow classLimit (λ c. passedRow (k .0) (closureAt (now (closure .entry)) (k .0)) (closureAt (now (closure .entry)) c)))
+        ≡ splice 0 (concatBelow n (λ c. passedRow (k .0) (closureAt (now (closure .entry)) (k .0)) (closureAt (now (closure .entry)) c)))
         (now (closure .entry)) ⌝ }
 {
     let mut own = [0u8; CLOSURE_WIDTH];
     copy_padded(&mut own, closure_row(closure, k));
-    pass_to_all(closure, k.0, &own);
+    pass_to_all(closure, n, k.0, &own);
 }

@@ -1,12 +1,13 @@
 use Rattle.graph.proofs.Rows.{staged-again, staged-length, staged-more, staged-end, staged-over}
-use Rattle.graph.specs.Stages.{stageRows}
+use Rattle.graph.specs.Stages.{passedRow, stageRows}
 use Rattle.schema.specs.Layout.{closureLength}
 use Rattle.prelude.specs.Part.{splice}
+use Rattle.prelude.specs.Concat.{concatBelow}
 use lib.ListN.{length}
-use Prim.Native.Nat.{_+_, _≤_, _-_}
-use mathlib.Core.Path.{_≡_, refl, _∙_}
+use Prim.Native.Nat.{ℕ, _+_, _≤_, _-_}
+use mathlib.Core.Path.{_≡_, refl, ap, _∙_}
 use Rattle.schema.specs.declared.number.TableId.the-variants.{Classes}
-use Rattle.schema.specs.Store.{tableIn}
+use Rattle.schema.specs.Store.{closureAt, tableIn}
 use native.Mathlib.Omega.{arith}
 use borrow.Author.Needs.{needs}
 use Rattle.graph.proofs.closure.refresh_all.Statement.{statement}
@@ -54,6 +55,7 @@ pass-on-requires c κs =
       ),
       omega
           (arith, c₁ .loop-test .taken, c₃ .row-count .ensures, start .pre .0 .few),
+      omega (arith, c₃ .row-count .ensures, start .pre .0 .few),
     )
 
 add-k : tie.Need-add-k Inv-loop μ-loop
@@ -77,7 +79,9 @@ loop-again c =
           (start .args .classes .now)) (start .args .closure .now) (start .pre .1) 0 (c₅ .write-firsts .last .1 .0) (c₅ .write-firsts .ensures),
     )) in
     let next = staged-more (tableIn Classes (start .args .classes .now)) (c₅ .write-firsts .last .1 .0) long (start .pre .0 .few) (c₃ .loop .k)
-    (c₃ .loop .closure) _ (omega (arith, c₂ .loop-test .taken, c₄ .row-count .ensures)) (c₃ .loop .inv .2) (c₁ .pass-on .ensures) in (
+    (c₃ .loop .closure) _ (omega (arith, c₂ .loop-test .taken, c₄ .row-count .ensures)) (c₃ .loop .inv .2) (c₁ .pass-on .ensures ∙ ap (λ (m : ℕ). splice 0
+    (concatBelow m (λ i. passedRow (c₃ .loop .k) (closureAt (c₃ .loop .closure) (c₃ .loop .k)) (closureAt (c₃ .loop .closure) i))) (c₃ .loop .closure))
+    (c₄ .row-count .ensures)) in (
       omega (arith, c₂ .loop-test .taken),
       staged-length (tableIn Classes (start .args .classes .now)) (c₅ .write-firsts .last .1 .0) long
           (c₃ .loop .k + 1) _ next,

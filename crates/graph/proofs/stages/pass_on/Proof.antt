@@ -43,6 +43,7 @@ pass-to-all-requires c κs =
           (start .args .closure .now) (start .args .k .0)) (row-length 0 closureWidth classLimit (start .args .k .0) (start .args .closure .now) (omega
           (arith, start .pre .0)) (start .pre .1))) ∙ row-length 0 closureWidth classLimit (start .args .k .0) (start .args .closure .now) (omega
           (arith, start .pre .0)) (start .pre .1),
+      start .pre .2,
     )
 
 same-length : tie.Need-same-length
@@ -54,7 +55,7 @@ returns c =
     let c₂ = c₁ .before .before .before .before in
     let c₃ = c₂ .before in
     let start = c₃ .before .before .before .before in
-    c₁ .pass-to-all .ensures ∙ ap (λ (own : List ℕ). splice 0 (concatBelow classLimit (λ i. passedRow (start .args .k .0) own (closureAt
+    c₁ .pass-to-all .ensures ∙ ap (λ (own : List ℕ). splice 0 (concatBelow (start .args .n) (λ i. passedRow (start .args .k .0) own (closureAt
     (start .args .closure .now) i))) (start .args .closure .now)) (c₂ .copy-padded .ensures ∙ ap (padded closureWidth) (c₃ .closure-row .ensures)
     ∙ padded-full closureWidth (closureAt (start .args .closure .now) (start .args .k .0)) (row-length 0 closureWidth classLimit (start .args .k .0)
     (start .args .closure .now) (omega (arith, start .pre .0)) (start .pre .1)))

@@ -2,7 +2,6 @@ use Rattle.graph.proofs.Rows.{passed-rows, rowed-none, rowed-more, rowe
 use Rattle.graph.specs.Stages.{passedRow}
 use Rattle.schema.specs.Store.{closureAt}
 use Rattle.schema.specs.Layout.{closureWidth}
-use Rattle.schema.specs.Numbers.{classLimit}
 use Rattle.prelude.specs.Part.{splice}
 use Rattle.prelude.specs.Concat.{concatBelow}
 use lib.ListN.{length}
@@ -15,11 +14,11 @@ use Rattle.graph.proofs.stages.pass_to_all.Statement.{statement}
 use Rattle.graph.proofs.stages.pass_to_all.Tie as tie
 
 abbrev Inv-loop : tie.InvT-loop
-Inv-loop closure₀ k own c₀ closure c = (c ≤ classLimit) × (length closure ≡ length closure₀) × (closure ≡ splice 0 (concatBelow c (λ i. passedRow k own
+Inv-loop closure₀ n k own c₀ closure c = (c ≤ n) × (length closure ≡ length closure₀) × (closure ≡ splice 0 (concatBelow c (λ i. passedRow k own
     (closureAt closure₀ i))) closure₀)
 
 abbrev μ-loop : tie.MeasureT-loop
-μ-loop closure₀ k own c₀ closure c = classLimit - c
+μ-loop closure₀ n k own c₀ closure c = n - c
 
 loop-holds : tie.Need-loop-holds Inv-loop μ-loop
 loop-holds c =
@@ -31,7 +30,11 @@ loop-holds c =
     )
 
 pass-to-requires : tie.Need-pass-to-requires Inv-loop μ-loop
-pass-to-requires c κs = search needs
+pass-to-requires c κs =
+    let c₁ = c .before in
+    let c₂ = c₁ .before in
+    let start = c₂ .before .before .before in
+    (omega (arith, start .pre .0, c₂ .loop .inv .1), omega (arith, c₁ .loop-test .taken, start .pre .2), start .pre .1)
 
 add-c : tie.Need-add-c Inv-loop μ-loop
 add-c c = search needs
@@ -47,14 +50,15 @@ loop-again c =
     let start = c₃ .before .before .before in
     let next = rowed-more (λ i. passedRow (start .args .k) (start .args .own .now) (closureAt (start .args .closure .now) i)) (start .args .closure .now)
     (start .pre .0) (passed-rows (start .args .k) (start .args .own .now) (start .args .closure .now) (start .pre .0)) (c₃ .loop .c) (c₃ .loop .closure) _
-    (omega (arith, c₂ .loop-test .taken)) (c₃ .loop .inv .2) (c₁ .pass-to .ensures ∙ ap (λ (row : List ℕ). splice (closureWidth * c₃ .loop .c) (passedRow
-    (start .args .k) (start .args .own .now) row) (c₃ .loop .closure)) (rowed-kept (λ i. passedRow (start .args .k) (start .args .own .now) (closureAt
-    (start .args .closure .now) i)) (start .args .closure .now) (start .pre .0) (passed-rows (start .args .k) (start .args .own .now)
-    (start .args .closure .now) (start .pre .0)) (c₃ .loop .c) (c₃ .loop .closure) (omega (arith, c₂ .loop-test .taken)) (c₃ .loop .inv .2))) in (
+    (omega (arith, c₂ .loop-test .taken, start .pre .2)) (c₃ .loop .inv .2) (c₁ .pass-to .ensures ∙ ap (λ (row : List ℕ). splice
+    (closureWidth * c₃ .loop .c) (passedRow (start .args .k) (start .args .own .now) row) (c₃ .loop .closure)) (rowed-kept (λ i. passedRow (start .args .k)
+    (start .args .own .now) (closureAt (start .args .closure .now) i)) (start .args .closure .now) (start .pre .0) (passed-rows (start .args .k)
+    (start .args .own .now) (start .args .closure .now) (start .pre .0)) (c₃ .loop .c) (c₃ .loop .closure) (omega
+    (arith, c₂ .loop-test .taken, start .pre .2)) (c₃ .loop .inv .2))) in (
       omega (arith, c₂ .loop-test .taken),
       rowed-length (λ i. passedRow (start .args .k) (start .args .own .now) (closureAt (start .args .closure .now) i))
           (start .args .closure .now) (start .pre .0) (passed-rows (start .args .k) (start .args .own .now) (start .args .closure .now) (start .pre .0))
-          (c₃ .loop .c + 1) _ (omega (arith, c₂ .loop-test .taken)) next,
+          (c₃ .loop .c + 1) _ (omega (arith, c₂ .loop-test .taken, start .pre .2)) next,
       next,
     )
 
@@ -68,8 +72,8 @@ returns c =
     let c₁ = c .before in
     let start = c₁ .before .before .before in
     rowed-end (λ i. passedRow (start .args .k) (start .args .own .now) (closureAt (start .args .closure .now) i)) (start .args .closure .now)
-    (start .pre .0) (passed-rows (start .args .k) (start .args .own .now) (start .args .closure .now) (start .pre .0)) (c₁ .loop .c) (c₁ .loop .closure)
-    (c₁ .loop .inv .0) (omega (arith, c .loop-test .left)) (c₁ .loop .inv .2)
+    (start .pre .0) (passed-rows (start .args .k) (start .args .own .now) (start .args .closure .now) (start .pre .0)) (start .args .n) (c₁ .loop .c)
+    (c₁ .loop .closure) (c₁ .loop .inv .0) (omega (arith, c .loop-test .left)) (c₁ .loop .inv .2)
 
 pub pass-to-all-spec : {M : Type 1} → statement M
 pass-to-all-spec =

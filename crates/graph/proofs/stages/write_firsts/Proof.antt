@@ -65,7 +65,7 @@ returns c =
     let c₁ = c .before in
     let start = c₁ .before .before .before in
     rowed-end (stageRow (tableIn Classes (start .args .classes .now)) 0) (start .args .closure .now) (start .pre .1) (λ i l. stage-length (tableIn Classes
-    (start .args .classes .now)) 0 i) (c₁ .loop .c) (c₁ .loop .closure) (c₁ .loop .inv .0) (omega (arith, c .loop-test .left)) (c₁ .loop .inv .2)
+    (start .args .classes .now)) 0 i) classLimit (c₁ .loop .c) (c₁ .loop .closure) (c₁ .loop .inv .0) (omega (arith, c .loop-test .left)) (c₁ .loop .inv .2)
 
 pub write-firsts-spec : {M : Type 1} → statement M
 write-firsts-spec =
