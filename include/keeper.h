@@ -52,9 +52,9 @@ extern "C" {
 #define KEEPER_LONGEST_SHEET 410756
 
 /*
- * So many bytes of stack are enough for every call. This is measured, not proved: the most was some 36,400 bytes, for
- * a plain change of a full schema in which each class names all others; a quick change takes at most as much, and but
- * for removals some 5,800 (docs/LAYOUT.md).
+ * So many bytes of stack are enough for every call. This is measured, not proved: the most was some 46,100 bytes, for
+ * a plain change of a full schema in which every list is nearly full; a quick change takes some 36,200 for a removal,
+ * and else some 5,700 (docs/LAYOUT.md).
  */
 #define KEEPER_STACK 65536
 

@@ -5,3 +5,5 @@ pub mod Visit
 pub mod Gather
 pub mod Rows
 pub mod Chain
+pub mod Warshall
+pub mod Firsts

@@ -8,6 +8,7 @@ pub mod GraphLaws
 pub mod ChangeLaws
 pub mod Visit
 pub mod Collect
+pub mod Stages
 pub mod Depth
 pub mod DepthLaws
 pub mod Changes

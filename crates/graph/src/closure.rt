@@ -2,18 +2,23 @@
 use crate::collect::write_mandatory;
 use crate::collect::write_optional;
 use crate::reach::reached;
+use crate::stages::pass_on;
+use crate::stages::write_firsts;
 use prelude::part::copy_padded;
+use prelude::part::part_of;
 use prelude::part::same;
 use schema::layout::ALLOWED;
+use schema::layout::CLOSURE_LENGTH;
 use schema::layout::CLOSURE_WIDTH;
 use schema::layout::DEMANDED;
 use schema::number::ClassNumber;
-use schema::store::closure_row;
+use schema::number::TableId;
 use schema::store::closure_start;
+use schema::store::row_count;
 ghost use mathlib.Core.Path.{_≡_};
 ghost use Prim.Native.Nat.{_*_, _≤_, _<_};
 ghost use lib.ListN.{length};
-ghost use Rattle.prelude.specs.Part.{splice, sameBytes};
+ghost use Rattle.prelude.specs.Part.{splice};
 ghost use Rattle.schema.specs.Numbers.{classLimit};
 ghost use Rattle.schema.specs.Layout.{attributeSet, closureWidth, closureLength};
 ghost use Rattle.schema.specs.Store.{tableIn};
@@ -60,21 +65,13 @@ pub fn refresh_all(classes: &[u8], closure: &mut [u8])
     requires { ⌜ closureLength ≤ length (now closure) ⌝ }
     ensures { λ _. ⌜ now (closure .exit) ≡ splice 0 (closureRows (tableIn Classes (now (classes .entry)))) (now (closure .entry)) ⌝ }
 {
-    let mut c = 0;
-    while c < ClassNumber::LIMIT {
-        refresh(classes, ClassNumber(c), closure);
-        c += 1;
+    write_firsts(classes, closure);
+    let n = row_count(TableId::Classes, classes);
+    let mut k = 0;
+    while k < n {
+        pass_on(closure, n, ClassNumber(k));
+        k += 1;
     }
-}
-
-// Whether a row is the three kept sets of c.
-fn row_is_fresh(classes: &[u8], c: ClassNumber, row: &[u8]) -> bool
-    requires { ⌜ Readable (now classes) ⌝ }
-    ensures { λ r. ⌜ r ≡ sameBytes (now (row .entry)) (closureRow (tableIn Classes (now (classes .entry))) (c .0)) ⌝ }
-{
-    let mut fresh = [0u8; CLOSURE_WIDTH];
-    write_row(classes, c, &mut fresh);
-    same(row, &fresh)
 }
 
 // Whether the closure store is that worked out afresh.
@@ -83,16 +80,7 @@ pub fn is_fresh(classes: &[u8], closure: &[u8]) -> bool
     requires { ⌜ closureLength ≤ length (now closure) ⌝ }
     ensures { λ r. ⌜ r ≡ isFresh (tableIn Classes (now (classes .entry))) (now (closure .entry)) ⌝ }
 {
-    let mut c = 0;
-    while c < ClassNumber::LIMIT {
-        if !row_is_fresh(
-            classes,
-            ClassNumber(c),
-            closure_row(closure, ClassNumber(c)),
-        ) {
-            return false;
-        }
-        c += 1;
-    }
-    true
+    let mut fresh = [0u8; CLOSURE_LENGTH];
+    refresh_all(classes, &mut fresh);
+    same(part_of(closure, 0, CLOSURE_LENGTH), &fresh)
 }

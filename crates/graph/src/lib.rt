@@ -4,3 +4,4 @@ pub mod collect;
 pub mod demand;
 pub mod depth;
 pub mod reach;
+pub mod stages;

@@ -42,35 +42,41 @@ pub fn clear(d: &mut [u8])
     }
 }
 
-// Whether a and b are the same bytes.
+// Whether a and b are the same bytes. The lengths come first, then the last bytes: identifiers begin alike and differ at their end.
 pub fn same(a: &[u8], b: &[u8]) -> bool
     ensures { λ r. ⌜ r ≡ sameBytes (now (a .entry)) (now (b .entry)) ⌝ }
 {
     if a.len() != b.len() {
         return false;
     }
-    let mut i = 0;
-    while i < a.len() {
+    let mut i = a.len();
+    while 0 < i {
+        i -= 1;
         if a[i] != b[i] {
             return false;
         }
-        i += 1;
     }
     true
 }
 
-// Whether every byte of s is zero.
+// Whether every byte of s is zero. The first byte tells most cells that have a value; all others are gathered and tested once, since a loop without a
+// way out is one that the compiler can do many bytes at a time.
 pub fn is_zero(s: &[u8]) -> bool
     ensures { λ r. ⌜ r ≡ isZero (now (s .entry)) ⌝ }
 {
+    if s.len() == 0 {
+        return true;
+    }
+    if s[0] != 0 {
+        return false;
+    }
+    let mut all = 0u8;
     let mut i = 0;
     while i < s.len() {
-        if s[i] != 0 {
-            return false;
-        }
+        all = all | s[i];
         i += 1;
     }
-    true
+    all == 0
 }
 
 // Copies bytes to a place, and gives the place after them.

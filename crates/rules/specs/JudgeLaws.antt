@@ -41,7 +41,7 @@ module _ (r : Rule) (m : Schema) (else : Answer) where
   unfolding judgeRule
   judge-class e f = table-miss r m (judgeTable r m Classes else) Attributes e ∙ table-hit r m else Classes f
 
-  judge-neither : breaksIn r m Attributes ≡ false → breaksIn r m Classes ≡ false → judgeRule r m else ≡ else
+  pub judge-neither : breaksIn r m Attributes ≡ false → breaksIn r m Classes ≡ false → judgeRule r m else ≡ else
   unfolding judgeRule
   judge-neither e f = table-miss r m (judgeTable r m Classes else) Attributes e ∙ table-miss r m else Classes f
 

@@ -3,6 +3,7 @@ pub mod Rules
 pub mod RulesLaws
 pub mod Judge
 pub mod JudgeLaws
+pub mod Clear
 pub mod Meets
 pub mod MeetsLaws
 pub mod SameLaws

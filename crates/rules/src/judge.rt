@@ -3,9 +3,16 @@ use crate::row::Added;
 use crate::row::ORDER;
 use crate::row::is_breaking;
 use prelude::number::byte_at;
+use rules_unique::Key;
+use rules_unique::marks::any_taken;
 use schema::answer::Answer;
 use schema::number::TableId;
 use schema::number::row_id;
+use schema::refusal::GUID_TAKEN;
+use schema::refusal::IDENTIFIER_TAKEN;
+use schema::refusal::LINK_TAKEN;
+use schema::refusal::MAPI_TAKEN;
+use schema::refusal::NAME_TAKEN;
 use schema::store::row_count;
 use schema::store::store_of;
 ghost use mathlib.Core.Path.{_≡_};
@@ -14,6 +21,7 @@ ghost use Rattle.schema.specs.Store.{schemaIn};
 ghost use Rattle.tables.specs.Shaped.{Shaped};
 ghost use Rattle.rules.specs.Rules.{schemaRules, numbered, rulesOf};
 ghost use Rattle.rules.specs.Judge.{firstRow, judgeRule, judgeRules, judged};
+ghost use Rattle.rules.specs.Clear.{isClear};
 
 // The lowest row of a table that breaks the rule of a number, or how many there are.
 fn first_row<'a>(
@@ -37,11 +45,29 @@ fn first_row<'a>(
     count
 }
 
+// Whether the rule of a number is one of those that compare rows by a key, and no key is taken.
+fn is_clear<'a>(added: Added, attributes: &'a [u8], classes: &'a [u8], number: u8) -> bool
+    requires { ⌜ Shaped (now attributes) (now classes) ⌝ }
+    ensures { λ r. ⌜ r ≡ isClear added (schemaIn (now (attributes .entry)) (now (classes .entry))) number ⌝ }
+{
+    match number {
+        NAME_TAKEN => !any_taken(attributes, classes, Key::Name),
+        IDENTIFIER_TAKEN => !any_taken(attributes, classes, Key::Identifier),
+        GUID_TAKEN => !any_taken(attributes, classes, Key::Guid),
+        MAPI_TAKEN => !any_taken(attributes, classes, Key::Mapi),
+        LINK_TAKEN => !any_taken(attributes, classes, Key::Link),
+        _ => false,
+    }
+}
+
 // The lowest row that breaks the rule of a number, attributes first.
 fn judge_rule<'a>(added: Added, attributes: &'a [u8], classes: &'a [u8], number: u8) -> Answer
     requires { ⌜ Shaped (now attributes) (now classes) ⌝ }
     ensures { λ r. ⌜ r ≡ judgeRule (numbered (schemaRules added) number) (schemaIn (now (attributes .entry)) (now (classes .entry))) passed ⌝ }
 {
+    if is_clear(added, attributes, classes, number) {
+        return Answer::passed();
+    }
     let a = first_row(added, attributes, classes, number, TableId::Attributes);
     if a < row_count(TableId::Attributes, attributes) {
         return Answer::broken_by(number, row_id(TableId::Attributes, a));

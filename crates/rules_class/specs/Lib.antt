@@ -1,4 +1,5 @@
 -- Rules of a class row: what it names is live, earlier and of the right category; its chain; its naming attribute.
+pub mod Blank
 pub mod Live
 pub mod LiveLaws
 pub mod Category

@@ -1,6 +1,12 @@
 // Rules 19, 20 and 21: the categories of the classes that a class names.
+use crate::blank::is_blank;
 use schema::class::category;
+use schema::class::fixed_auxiliary;
+use schema::class::fixed_superior;
+use schema::class::open_auxiliary;
+use schema::class::open_superior;
 use schema::class::superclass;
+use schema::layout::CLASS_SET;
 use schema::number::ClassNumber;
 use schema::number::ClassRead;
 use schema::number::TableId;
@@ -11,13 +17,15 @@ use schema::store::row_count;
 use tables::named::ClassList;
 use tables::named::is_listed;
 ghost use mathlib.Core.Path.{_≡_};
-ghost use Prim.Native.Nat.{_≤_, _<_};
+ghost use Prim.Native.Nat.{_+_, _*_, _≤_, _<_};
 ghost use lib.ListN.{length};
-ghost use Rattle.schema.specs.Layout.{classWidth};
+ghost use Rattle.prelude.specs.Below.{anyBelow};
+ghost use Rattle.schema.specs.Layout.{classSet, classWidth};
 ghost use Rattle.schema.specs.Store.{tableIn};
 ghost use Rattle.schema.specs.declared.number.TableId.the-variants.{Classes};
 ghost use Rattle.tables.specs.Shaped.{TableShaped};
 ghost use Rattle.rules_class.specs.Category.{listCategory, otherCategory, wronglyListed, categoryWrong, inheritance, rootInheritance};
+ghost use Rattle.rules_class.specs.Blank.{listsNone};
 ghost use Rattle.rules_class.specs.Category.{inheritanceOf, inheritanceNumber, inheritanceWrong};
 
 // "category (0 88 class, 1 structural, 2 abstract, 3 auxiliary)"
@@ -74,17 +82,46 @@ fn is_wrongly_listed(kind: ClassList, classes: &[u8], row: &[u8], c: ClassNumber
     has_other_category(kind, classes, c)
 }
 
-// Whether a row breaks rule 19 or, for its possible superiors, rule 20.
+// Whether no list of the kind holds one of the eight classes of a byte.
+fn lists_none(kind: ClassList, row: &[u8], at: usize) -> bool
+    requires { ⌜ (classWidth ≤ length (now row)) × (at < classSet) ⌝ }
+    ensures { λ r. ⌜ r ≡ listsNone kind (now (row .entry)) at ⌝ }
+{
+    match kind {
+        ClassList::Auxiliaries => is_blank(fixed_auxiliary(row), open_auxiliary(row), at),
+        ClassList::Superiors => is_blank(fixed_superior(row), open_superior(row), at),
+    }
+}
+
+// Whether a list of the kind wrongly holds one of the eight classes of a byte.
+fn wrong_in(kind: ClassList, classes: &[u8], row: &[u8], at: usize) -> bool
+    requires { ⌜ TableShaped Classes (now classes) × (classWidth ≤ length (now row)) × (at < classSet) ⌝ }
+    ensures { λ r. ⌜ r ≡ anyBelow 8 (λ i. wronglyListed kind (tableIn Classes (now (classes .entry))) (now (row .entry)) (at * 8 + i)) ⌝ }
+{
+    if lists_none(kind, row, at) {
+        return false;
+    }
+    let mut i = 0;
+    while i < 8 {
+        if is_wrongly_listed(kind, classes, row, ClassNumber(at * 8 + i)) {
+            return true;
+        }
+        i += 1;
+    }
+    false
+}
+
+// Whether a row breaks rule 19 or, for its possible superiors, rule 20. Most bytes of the lists are zero: they are passed over.
 pub fn category_wrong(kind: ClassList, classes: &[u8], row: &[u8]) -> bool
     requires { ⌜ TableShaped Classes (now classes) × (classWidth ≤ length (now row)) ⌝ }
     ensures { λ r. ⌜ r ≡ categoryWrong kind (tableIn Classes (now (classes .entry))) (now (row .entry)) ⌝ }
 {
-    let mut n = 0;
-    while n < ClassNumber::LIMIT {
-        if is_wrongly_listed(kind, classes, row, ClassNumber(n)) {
+    let mut at = 0;
+    while at < CLASS_SET {
+        if wrong_in(kind, classes, row, at) {
             return true;
         }
-        n += 1;
+        at += 1;
     }
     false
 }

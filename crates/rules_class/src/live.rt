@@ -1,8 +1,17 @@
 // Rules 17, 18 and 23: what a class row names is live, its superclass is earlier, and its naming attribute can name.
+use crate::blank::is_blank;
+use prelude::number::byte_at;
 use schema::attribute::is_single_valued;
 use schema::attribute::syntax;
 use schema::class::Naming;
+use schema::class::fixed_auxiliary;
+use schema::class::fixed_optional;
+use schema::class::fixed_superior;
+use schema::class::mandatory;
 use schema::class::naming_attribute;
+use schema::class::open_auxiliary;
+use schema::class::open_optional;
+use schema::class::open_superior;
 use schema::number::ClassNumber;
 use schema::number::RowId;
 use schema::number::TableId;
@@ -17,14 +26,16 @@ use tables::named::is_listed;
 use tables::named::is_naming;
 use tables::named::superclass_number;
 ghost use mathlib.Core.Path.{_≡_};
-ghost use Prim.Native.Nat.{_≤_, _<_};
+ghost use Prim.Native.Nat.{_+_, _*_, _≤_, _<_};
 ghost use lib.ListN.{length};
-ghost use Rattle.schema.specs.Numbers.{tableOf, numberOf};
-ghost use Rattle.schema.specs.Layout.{classWidth};
+ghost use Rattle.prelude.specs.Below.{anyBelow};
+ghost use Rattle.schema.specs.Numbers.{limit, tableOf, numberOf};
+ghost use Rattle.schema.specs.Layout.{attributeSet, classSet, classWidth};
 ghost use Rattle.schema.specs.ClassRow.{namingOf};
 ghost use Rattle.schema.specs.Store.{tableIn};
 ghost use Rattle.schema.specs.declared.number.TableId.the-variants.{Attributes, Classes};
 ghost use Rattle.tables.specs.Shaped.{TableShaped};
+ghost use Rattle.rules_class.specs.Blank.{namedElsewhere, namesNone};
 ghost use Rattle.rules_class.specs.Live.{namesDead, notLive, superclassLate, classWrong, listsItself, namingWrong};
 
 // Whether the row names a row that is not live for it.
@@ -38,18 +49,87 @@ fn names_dead(store: &[u8], row: &[u8], id: RowId) -> bool
     !is_live(store, row, id)
 }
 
-// Whether the row names a row of a table that is not live for it: rule 17, and rule 18 in part.
+// Whether the naming attribute of a row is none of the eight of a byte.
+fn named_elsewhere(row: &[u8], at: usize) -> bool
+    requires { ⌜ classWidth ≤ length (now row) ⌝ }
+    ensures { λ r. ⌜ r ≡ namedElsewhere (namingOf (now (row .entry))) at ⌝ }
+{
+    let named = naming_attribute(row);
+    match named {
+        Naming::By(n) => n.0 / 8 != at,
+        Naming::Absent => true,
+    }
+}
+
+// Whether a row names none of the eight attributes of a byte.
+fn names_no_attribute(row: &[u8], at: usize) -> bool
+    requires { ⌜ (classWidth ≤ length (now row)) × (at < attributeSet) ⌝ }
+    ensures { λ r. ⌜ r ≡ namesNone Attributes (now (row .entry)) at ⌝ }
+{
+    if !is_blank(mandatory(row), fixed_optional(row), at) {
+        return false;
+    }
+    if byte_at(open_optional(row), at) != 0 {
+        return false;
+    }
+    named_elsewhere(row, at)
+}
+
+// Whether a row names none of the eight classes of a byte.
+fn names_no_class(row: &[u8], at: usize) -> bool
+    requires { ⌜ (classWidth ≤ length (now row)) × (at < classSet) ⌝ }
+    ensures { λ r. ⌜ r ≡ namesNone Classes (now (row .entry)) at ⌝ }
+{
+    if !is_blank(fixed_auxiliary(row), open_auxiliary(row), at) {
+        return false;
+    }
+    if !is_blank(fixed_superior(row), open_superior(row), at) {
+        return false;
+    }
+    superclass_number(row) / 8 != at
+}
+
+// Whether a row names none of the eight rows of a byte.
+fn names_none(table: TableId, row: &[u8], at: usize) -> bool
+    requires { ⌜ (classWidth ≤ length (now row)) × (at * 8 < limit table) ⌝ }
+    ensures { λ r. ⌜ r ≡ namesNone table (now (row .entry)) at ⌝ }
+{
+    match table {
+        TableId::Attributes => names_no_attribute(row, at),
+        TableId::Classes => names_no_class(row, at),
+    }
+}
+
+// Whether the row names one of the eight rows of a byte that is not live for it.
+fn dead_in(table: TableId, store: &[u8], row: &[u8], at: usize) -> bool
+    requires { ⌜ TableShaped table (now store) × (classWidth ≤ length (now row)) × (at * 8 < limit table) ⌝ }
+    ensures { λ r. ⌜ r ≡ anyBelow 8 (λ i. namesDead table (tableIn table (now (store .entry))) (now (row .entry)) (at * 8 + i)) ⌝ }
+{
+    if names_none(table, row, at) {
+        return false;
+    }
+    let mut i = 0;
+    while i < 8 {
+        if names_dead(store, row, row_id(table, at * 8 + i)) {
+            return true;
+        }
+        i += 1;
+    }
+    false
+}
+
+// Whether the row names a row of a table that is not live for it: rule 17, and rule 18 in part. Most bytes of the lists are zero: they are passed over.
 pub fn not_live(table: TableId, store: &[u8], row: &[u8]) -> bool
     requires { ⌜ TableShaped table (now store) × (classWidth ≤ length (now row)) ⌝ }
     ensures { λ r. ⌜ r ≡ notLive table (tableIn table (now (store .entry))) (now (row .entry)) ⌝ }
 {
-    let limit = row_limit(table);
-    let mut n = 0;
-    while n < limit {
-        if names_dead(store, row, row_id(table, n)) {
+    let bytes = row_limit(table) / 8;
+    let mut at = 0;
+    while at < bytes {
+        if dead_in(table, store, row, at) {
             return true;
         }
-        n += 1;
+        at += 1;
     }
     false
 }

@@ -1,4 +1,6 @@
 // What no two rows may share: rules 13, 15, 16, 24 and 28. Names and identifiers are compared in place, as parts of the lent stores.
+pub mod marks;
+
 use prelude::part::same;
 use rules_names::same_name;
 use schema::attribute::link;
@@ -32,7 +34,7 @@ pub enum Key {
 }
 
 // Whether the rows of a table have the key.
-fn has_key(key: Key, table: TableId) -> bool
+pub fn has_key(key: Key, table: TableId) -> bool
     ensures { λ r. ⌜ r ≡ hasKey key table ⌝ }
 {
     match table {

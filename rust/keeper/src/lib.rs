@@ -31,7 +31,7 @@ pub const CLOSURE_LENGTH: usize = 10_240;
 /// whose output is too short says so (number 31).
 pub const LONGEST_SHEET: usize = 4 + 256 * 224 + 128 * 2761;
 /// So many bytes of stack are enough for every call. This is measured, not
-/// proved: the most was some 36,400 (docs/LAYOUT.md).
+/// proved: the most was some 46,100 (docs/LAYOUT.md).
 pub const STACK: usize = 64 * 1024;
 /// The number of an answer that refuses nothing.
 pub const DONE: u64 = 0;

@@ -1,31 +1,57 @@
-use mathlib.Core.Path.{_≡_, sym}
-use mathlib.Core.Bool.{true}
-use Prim.Native.Nat.{_≤_, _-_}
+use mathlib.Core.Bool.{_&&_}
+use mathlib.Core.List.{List}
+use mathlib.Core.Path.{_≡_, sym, ap, _∙_}
+use Prim.Native.Nat.{ℕ, _+_, _≤_, _-_}
+use native.Mathlib.Numerals.{add-one}
+use native.Mathlib.Omega.{arith}
 use borrow.Author.Needs.{needs}
+use lib.Bits.{bitOr, or-zero-l, or-add-and, and-le-l, and-le-r}
 use lib.Dec.{eqb}
 use lib.ListN.{length, getD}
 use Rattle.prelude.specs.Part.{isZero}
 use Rattle.prelude.specs.Below.{allBelow}
-use Rattle.prelude.specs.BelowLaws.{all-zero, all-more, all-not, all-end}
-use Rattle.prelude.specs.SaysLaws.{says-eq, says-true, says-false}
+use Rattle.prelude.specs.BelowLaws.{all-zero, all-not}
+use Rattle.prelude.specs.SaysLaws.{says-eq, says-and, says-iff, says-same, says-false}
 use Rattle.prelude.proofs.part.is_zero.Statement.{statement}
 use Rattle.prelude.proofs.part.is_zero.Tie as tie
 
 abbrev Inv-loop : tie.InvT-loop
-Inv-loop s i₀ i = (i ≤ length s) × (allBelow i (λ k. eqb (getD s k 0) 0) ≡ true)
+Inv-loop s all₀ i₀ all i = (i ≤ length s) × (eqb all 0 ≡ allBelow i (λ k. eqb (getD s k 0) 0))
 
 abbrev μ-loop : tie.MeasureT-loop
-μ-loop s i₀ i = length s - i
+μ-loop s all₀ i₀ all i = length s - i
 
-loop-holds : tie.Need-loop-holds Inv-loop μ-loop
-loop-holds c = (search needs, all-zero _)
+-- bytes gathered are zero where each is
+gathered : (a b : ℕ) → eqb (bitOr a b) 0 ≡ eqb a 0 && eqb b 0
+gathered a b =
+    says-same
+    (says-iff (says-eq (bitOr a b) 0) (
+      λ e. (omega (arith, or-add-and a b, and-le-r a b), omega (arith, or-add-and a b, and-le-l a b)),
+      λ h. rw (h .0, h .1) (or-zero-l 0),
+    ))
+    (says-and (says-eq a 0) (says-eq b 0))
 
-shared-slice-read-if1 : tie.Need-shared-slice-read-if1 Inv-loop μ-loop
-shared-slice-read-if1 c = search needs
+-- a turn of the loop
+turn : (s : List ℕ) (i all : ℕ) → eqb all 0 ≡ allBelow i (λ k. eqb (getD s k 0) 0) → eqb (bitOr all (getD s i 0)) 0 ≡ allBelow (i + 1) (λ k. eqb (getD s k 0) 0)
+unfolding allBelow
+turn s i all h = gathered all (getD s i 0) ∙ rw (h, add-one)
 
 returns : tie.Need-returns Inv-loop μ-loop
 unfolding isZero
-returns c = sym (all-not _ (c .before .before .before .loop .i) _ (search needs) (says-false (says-eq _ _) (c .if1 .taken)))
+returns c = rw (c .if1 .taken) (sym (all-zero _))
+
+shared-slice-read-if2 : tie.Need-shared-slice-read-if2 Inv-loop μ-loop
+shared-slice-read-if2 c = search needs
+
+returns-2 : tie.Need-returns-2 Inv-loop μ-loop
+unfolding isZero
+returns-2 c = sym (all-not _ 0 _ (omega (arith, c .before .before .if1 .left)) (says-false (says-eq _ _) (c .if2 .taken)))
+
+loop-holds : tie.Need-loop-holds Inv-loop μ-loop
+loop-holds c = (search needs, sym (all-zero _))
+
+shared-slice-read-all : tie.Need-shared-slice-read-all Inv-loop μ-loop
+shared-slice-read-all c = search needs
 
 add-i : tie.Need-add-i Inv-loop μ-loop
 add-i c = search needs
@@ -34,13 +60,20 @@ loop-less : tie.Need-loop-less Inv-loop μ-loop
 loop-less c = search needs
 
 loop-again : tie.Need-loop-again Inv-loop μ-loop
-loop-again c = (search needs, all-more _ _ (c .before .before .before .loop .inv .1) (says-true (says-eq _ _) (c .if1 .left)))
+loop-again c =
+    let c₁ = c .before .before in
+    let start = c₁ .before .before .before .before in
+    let l = c₁ .loop in (search needs, turn (start .args .s .now) (l .i) (l .all) (l .inv .1))
 
-returns-2 : tie.Need-returns-2 Inv-loop μ-loop
+returns-3 : tie.Need-returns-3 Inv-loop μ-loop
 unfolding isZero
-returns-2 c =
+returns-3 c =
     let c₁ = c .before in
-    sym (all-end _ (c₁ .loop .i) _ (search needs) (search needs) (c₁ .loop .inv .1))
+    let start = c₁ .before .before .before .before in
+    let s = start .args .s .now in
+    let l = c₁ .loop in
+    let e : l .i ≡ length s = omega (arith, l .inv .0, c .loop-test .left) in
+    l .inv .1 ∙ ap (λ (n : ℕ). allBelow n (λ k. eqb (getD s k 0) 0)) e
 
 pub is-zero-spec : {M : Type 1} → statement M
 is-zero-spec =
@@ -48,10 +81,12 @@ is-zero-spec =
     (tie.spec
     Inv-loop
     μ-loop
-    loop-holds
-    shared-slice-read-if1
     returns
+    shared-slice-read-if2
+    returns-2
+    loop-holds
+    shared-slice-read-all
     add-i
     loop-less
     loop-again
-    returns-2)
+    returns-3)

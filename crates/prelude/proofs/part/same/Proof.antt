@@ -1,7 +1,7 @@
 use mathlib.Core.Path.{_≡_, sym, ap}
 use mathlib.Core.List.{List}
 use Prim.Native.Nat.{ℕ, _≤_, _<_, _-_}
-use borrow.Author.Count.{below-none, below-more}
+use native.Mathlib.Decide.{ℕ-discrete}
 use lib.ListN.{length, getD}
 use lib.Seq.{ext-getD}
 use Rattle.prelude.specs.SaysLaws.{says-true, says-false}
@@ -11,17 +11,32 @@ use borrow.Author.Needs.{needs}
 use Rattle.prelude.proofs.part.same.Statement.{statement}
 use Rattle.prelude.proofs.part.same.Tie as tie
 
+-- the bytes from i on are the same
+abbrev From : List ℕ → List ℕ → ℕ → Type 0
+From a b i = (k : ℕ) → i ≤ k → k < length a → getD a k 0 ≡ getD b k 0
+
 abbrev Inv-loop : tie.InvT-loop
-Inv-loop a b i₀ i = (i ≤ length a) × ((k : ℕ) → k < i → getD a k 0 ≡ getD b k 0)
+Inv-loop a b i₀ i = (i ≤ length a) × From a b i
 
 abbrev μ-loop : tie.MeasureT-loop
-μ-loop a b i₀ i = length a - i
+μ-loop a b i₀ i = i
+
+-- one byte more, in front
+from-more : (a b : List ℕ) (i : ℕ) → getD a (i - 1) 0 ≡ getD b (i - 1) 0 → From a b i → From a b (i - 1)
+from-more a b i e h k l m = go (ℕ-discrete k (i - 1))
+  where
+    go : Dec (k ≡ i - 1) → getD a k 0 ≡ getD b k 0
+    go (yes q) = rw q e
+    go (no d) = h k (omega arith) m
 
 returns : tie.Need-returns Inv-loop μ-loop
 returns c = sym (says-false (says-same-bytes _ _) (λ e. c .if1 .taken (ap length e)))
 
 loop-holds : tie.Need-loop-holds Inv-loop μ-loop
-loop-holds c = (search needs, below-none _)
+loop-holds c = (search needs, λ k l m. absurd (omega arith))
+
+sub-i : tie.Need-sub-i Inv-loop μ-loop
+sub-i c = search needs
 
 shared-slice-read-if2 : tie.Need-shared-slice-read-if2 Inv-loop μ-loop
 shared-slice-read-if2 c = search needs
@@ -31,24 +46,23 @@ shared-slice-read-if2-2 c = search needs
 
 returns-2 : tie.Need-returns-2 Inv-loop μ-loop
 returns-2 c =
-    sym (says-false (says-same-bytes _ _) (λ e. c .if2 .taken (ap (λ (l : List ℕ). getD l (c .before .before .before .before .loop .i) 0) e)))
-
-add-i : tie.Need-add-i Inv-loop μ-loop
-add-i c = search needs
+    sym (says-false (says-same-bytes _ _) (λ e. c .if2 .taken (ap (λ (l : List ℕ). getD l (c .before .before .before .before .loop .i - 1) 0) e)))
 
 loop-less : tie.Need-loop-less Inv-loop μ-loop
 loop-less c = search needs
 
 loop-again : tie.Need-loop-again Inv-loop μ-loop
-loop-again c = (search needs, below-more _ _ (c .before .before .before .before .loop .inv .1) (c .if2 .left))
+loop-again c =
+    let c₁ = c .before .before .before .before in
+    let start = c₁ .before .before in
+    let l = c₁ .loop in (search needs, from-more (start .args .a .now) (start .args .b .now) (l .i) (c .if2 .left) (l .inv .1))
 
 returns-3 : tie.Need-returns-3 Inv-loop μ-loop
 returns-3 c =
     let c₁ = c .before in
     let c₂ = c₁ .before in
-    let start = c₂ .before in
-    let h : length (start .args .a .now) ≤ c₁ .loop .i = omega arith in sym
-    (says-true (says-same-bytes _ _) (ext-getD 0 _ _ (c₂ .if1 .left) (λ k l. c₁ .loop .inv .1 k (omega arith))))
+    let h : c₁ .loop .i ≤ 0 = omega arith in sym
+    (says-true (says-same-bytes _ _) (ext-getD 0 _ _ (c₂ .if1 .left) (λ k l. c₁ .loop .inv .1 k (omega arith) (omega arith))))
 
 pub same-spec : {M : Type 1} → statement M
 same-spec =
@@ -58,10 +72,10 @@ same-spec =
     μ-loop
     returns
     loop-holds
+    sub-i
     shared-slice-read-if2
     shared-slice-read-if2-2
     returns-2
-    add-i
     loop-less
     loop-again
     returns-3)

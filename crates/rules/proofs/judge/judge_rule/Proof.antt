@@ -1,13 +1,28 @@
-use mathlib.Core.Path.{_∙_}
-use Rattle.rules.specs.Rules.{schemaRules}
-use Rattle.rules.specs.JudgeLaws.{answer-attribute, answer-class, answer-none}
-use Rattle.schema.specs.Store.{schemaIn}
-use Rattle.schema.specs.declared.number.TableId.the-variants.{Attributes, Classes}
+use Rattle.rules.proofs.Calm.{clear-passed}
 use Rattle.rules.proofs.Asked.{broken-at}
+use Rattle.schema.specs.declared.number.TableId.the-variants.{Attributes, Classes}
+use Rattle.schema.specs.Store.{schemaIn}
+use Rattle.rules.specs.JudgeLaws.{answer-attribute, answer-class, answer-none}
+use Rattle.rules.specs.Rules.{schemaRules}
+use mathlib.Core.Path.{sym, _∙_}
 use native.Mathlib.Omega.{arith}
 use borrow.Author.Needs.{needs}
 use Rattle.rules.proofs.judge.judge_rule.Statement.{statement}
 use Rattle.rules.proofs.judge.judge_rule.Tie as tie
+
+is-clear-requires : tie.Need-is-clear-requires
+is-clear-requires c κs = search needs
+
+passed-requires : tie.Need-passed-requires
+passed-requires c κs = search needs
+
+returns : tie.Need-returns
+returns c =
+    let c₁ = c .before in
+    let c₂ = c₁ .before in
+    let start = c₂ .before .before .before in
+    c .passed .ensures ∙ sym (clear-passed (start .args .added) (schemaIn (start .args .attributes .now) (start .args .classes .now)) (start .args .number)
+    (sym (c₂ .is-clear .ensures) ∙ c₁ .if1 .taken))
 
 first-row-requires : tie.Need-first-row-requires
 first-row-requires c κs = search needs
@@ -24,17 +39,16 @@ row-id-requires c κs =
 broken-by-requires : tie.Need-broken-by-requires
 broken-by-requires c κs = search needs
 
-returns : tie.Need-returns
-returns c =
+returns-2 : tie.Need-returns-2
+returns-2 c =
     let c₁ = c .before in
     let c₂ = c₁ .before in
     let c₃ = c₂ .before in
     let c₄ = c₃ .before in
-    let start = c₄ .before .before .before in
-    let number = start .args .number in
-    c .broken-by .ensures ∙ broken-at Attributes (c₄ .first-row .result) (c₁ .row-id .ensures) number ∙ answer-attribute
-    (schemaRules (start .args .added)) number (schemaIn (start .args .attributes .now) (start .args .classes .now)) (c₄ .first-row .result)
-    (c₄ .first-row .ensures) (omega (arith, c₃ .row-count .ensures, c₂ .if1 .taken))
+    let start = c₄ .before .before .before .before .before in
+    c .broken-by .ensures ∙ broken-at Attributes (c₄ .first-row .result) (c₁ .row-id .ensures) (start .args .number) ∙ answer-attribute (schemaRules
+    (start .args .added)) (start .args .number) (schemaIn (start .args .attributes .now) (start .args .classes .now)) (c₄ .first-row .result)
+    (c₄ .first-row .ensures) (omega (arith, c₃ .row-count .ensures, c₂ .if2 .taken))
 
 first-row-requires-2 : tie.Need-first-row-requires-2
 first-row-requires-2 c κs = search needs
@@ -51,26 +65,6 @@ row-id-requires-2 c κs =
 broken-by-requires-2 : tie.Need-broken-by-requires-2
 broken-by-requires-2 c κs = search needs
 
-returns-2 : tie.Need-returns-2
-returns-2 c =
-    let c₁ = c .before in
-    let c₂ = c₁ .before in
-    let c₃ = c₂ .before in
-    let c₄ = c₃ .before in
-    let c₅ = c₄ .before in
-    let c₆ = c₅ .before in
-    let c₇ = c₆ .before in
-    let start = c₇ .before .before .before in
-    let number = start .args .number in
-    c .broken-by2 .ensures ∙ broken-at Classes
-    (c₄ .first-row2 .result) (c₁ .row-id2 .ensures) number ∙ answer-class (schemaRules (start .args .added)) number
-    (schemaIn (start .args .attributes .now) (start .args .classes .now)) (c₇ .first-row .result) (c₇ .first-row .ensures)
-    (omega (arith, c₆ .row-count .ensures, c₅ .if1 .left)) (c₄ .first-row2 .result) (c₄ .first-row2 .ensures)
-    (omega (arith, c₃ .row-count2 .ensures, c₂ .if2 .taken))
-
-passed-requires : tie.Need-passed-requires
-passed-requires c κs = search needs
-
 returns-3 : tie.Need-returns-3
 returns-3 c =
     let c₁ = c .before in
@@ -79,25 +73,45 @@ returns-3 c =
     let c₄ = c₃ .before in
     let c₅ = c₄ .before in
     let c₆ = c₅ .before in
-    let start = c₆ .before .before .before in
-    c .passed .ensures ∙ answer-none (schemaRules (start .args .added)) (start .args .number)
-    (schemaIn (start .args .attributes .now) (start .args .classes .now)) (c₆ .first-row .result) (c₆ .first-row .ensures)
-    (omega (arith, c₅ .row-count .ensures, c₄ .if1 .left)) (c₃ .first-row2 .result) (c₃ .first-row2 .ensures)
-    (omega (arith, c₂ .row-count2 .ensures, c₁ .if2 .left))
+    let c₇ = c₆ .before in
+    let start = c₇ .before .before .before .before .before in
+    c .broken-by2 .ensures ∙ broken-at Classes (c₄ .first-row2 .result) (c₁ .row-id2 .ensures) (start .args .number) ∙ answer-class (schemaRules
+    (start .args .added)) (start .args .number) (schemaIn (start .args .attributes .now) (start .args .classes .now)) (c₇ .first-row .result)
+    (c₇ .first-row .ensures) (omega (arith, c₆ .row-count .ensures, c₅ .if2 .left)) (c₄ .first-row2 .result) (c₄ .first-row2 .ensures) (omega
+    (arith, c₃ .row-count2 .ensures, c₂ .if3 .taken))
+
+passed-requires-2 : tie.Need-passed-requires-2
+passed-requires-2 c κs = search needs
+
+returns-4 : tie.Need-returns-4
+returns-4 c =
+    let c₁ = c .before in
+    let c₂ = c₁ .before in
+    let c₃ = c₂ .before in
+    let c₄ = c₃ .before in
+    let c₅ = c₄ .before in
+    let c₆ = c₅ .before in
+    let start = c₆ .before .before .before .before .before in
+    c .passed2 .ensures ∙ answer-none (schemaRules (start .args .added)) (start .args .number) (schemaIn (start .args .attributes .now)
+    (start .args .classes .now)) (c₆ .first-row .result) (c₆ .first-row .ensures) (omega (arith, c₅ .row-count .ensures, c₄ .if2 .left))
+    (c₃ .first-row2 .result) (c₃ .first-row2 .ensures) (omega (arith, c₂ .row-count2 .ensures, c₁ .if3 .left))
 
 pub judge-rule-spec : {M : Type 1} → statement M
 judge-rule-spec =
     tie.close
     (tie.spec
+    is-clear-requires
+    passed-requires
+    returns
     first-row-requires
     row-count-requires
     row-id-requires
     broken-by-requires
-    returns
+    returns-2
     first-row-requires-2
     row-count-requires-2
     row-id-requires-2
     broken-by-requires-2
-    returns-2
-    passed-requires
-    returns-3)
+    returns-3
+    passed-requires-2
+    returns-4)

@@ -1,0 +1,90 @@
+use Rattle.graph.proofs.Rows.{passed-rows, rowed-none, rowed-more, rowed-kept, rowed-length, rowed-end}
+use Rattle.graph.specs.Stages.{passedRow}
+use Rattle.schema.specs.Store.{closureAt}
+use Rattle.schema.specs.Layout.{closureWidth}
+use Rattle.prelude.specs.Part.{splice}
+use Rattle.prelude.specs.Concat.{concatBelow}
+use lib.ListN.{length}
+use Prim.Native.Nat.{ℕ, _+_, _*_, _≤_, _-_}
+use mathlib.Core.Path.{_≡_, refl, ap, _∙_}
+use mathlib.Core.List.{List}
+use native.Mathlib.Omega.{arith}
+use borrow.Author.Needs.{needs}
+use Rattle.graph.proofs.stages.pass_to_all.Statement.{statement}
+use Rattle.graph.proofs.stages.pass_to_all.Tie as tie
+
+abbrev Inv-loop : tie.InvT-loop
+Inv-loop closure₀ n k own c₀ closure c = (c ≤ n) × (length closure ≡ length closure₀) × (closure ≡ splice 0 (concatBelow c (λ i. passedRow k own
+    (closureAt closure₀ i))) closure₀)
+
+abbrev μ-loop : tie.MeasureT-loop
+μ-loop closure₀ n k own c₀ closure c = n - c
+
+loop-holds : tie.Need-loop-holds Inv-loop μ-loop
+loop-holds c =
+    let start = c .before .before in (
+      search needs,
+      refl,
+      rowed-none (λ i. passedRow (start .args .k) (start .args .own .now) (closureAt (start .args .closure .now) i))
+          (start .args .closure .now) (start .pre .0) (passed-rows (start .args .k) (start .args .own .now) (start .args .closure .now) (start .pre .0)),
+    )
+
+pass-to-requires : tie.Need-pass-to-requires Inv-loop μ-loop
+pass-to-requires c κs =
+    let c₁ = c .before in
+    let c₂ = c₁ .before in
+    let start = c₂ .before .before .before in
+    (omega (arith, start .pre .0, c₂ .loop .inv .1), omega (arith, c₁ .loop-test .taken, start .pre .2), start .pre .1)
+
+add-c : tie.Need-add-c Inv-loop μ-loop
+add-c c = search needs
+
+loop-less : tie.Need-loop-less Inv-loop μ-loop
+loop-less c = search needs
+
+loop-again : tie.Need-loop-again Inv-loop μ-loop
+loop-again c =
+    let c₁ = c .before .before in
+    let c₂ = c₁ .before .before in
+    let c₃ = c₂ .before in
+    let start = c₃ .before .before .before in
+    let next = rowed-more (λ i. passedRow (start .args .k) (start .args .own .now) (closureAt (start .args .closure .now) i)) (start .args .closure .now)
+    (start .pre .0) (passed-rows (start .args .k) (start .args .own .now) (start .args .closure .now) (start .pre .0)) (c₃ .loop .c) (c₃ .loop .closure) _
+    (omega (arith, c₂ .loop-test .taken, start .pre .2)) (c₃ .loop .inv .2) (c₁ .pass-to .ensures ∙ ap (λ (row : List ℕ). splice
+    (closureWidth * c₃ .loop .c) (passedRow (start .args .k) (start .args .own .now) row) (c₃ .loop .closure)) (rowed-kept (λ i. passedRow (start .args .k)
+    (start .args .own .now) (closureAt (start .args .closure .now) i)) (start .args .closure .now) (start .pre .0) (passed-rows (start .args .k)
+    (start .args .own .now) (start .args .closure .now) (start .pre .0)) (c₃ .loop .c) (c₃ .loop .closure) (omega
+    (arith, c₂ .loop-test .taken, start .pre .2)) (c₃ .loop .inv .2))) in (
+      omega (arith, c₂ .loop-test .taken),
+      rowed-length (λ i. passedRow (start .args .k) (start .args .own .now) (closureAt (start .args .closure .now) i))
+          (start .args .closure .now) (start .pre .0) (passed-rows (start .args .k) (start .args .own .now) (start .args .closure .now) (start .pre .0))
+          (c₃ .loop .c + 1) _ (omega (arith, c₂ .loop-test .taken, start .pre .2)) next,
+      next,
+    )
+
+same-length : tie.Need-same-length Inv-loop μ-loop
+same-length c =
+    let c₁ = c .before in
+    c₁ .loop .inv .1
+
+returns : tie.Need-returns Inv-loop μ-loop
+returns c =
+    let c₁ = c .before in
+    let start = c₁ .before .before .before in
+    rowed-end (λ i. passedRow (start .args .k) (start .args .own .now) (closureAt (start .args .closure .now) i)) (start .args .closure .now)
+    (start .pre .0) (passed-rows (start .args .k) (start .args .own .now) (start .args .closure .now) (start .pre .0)) (start .args .n) (c₁ .loop .c)
+    (c₁ .loop .closure) (c₁ .loop .inv .0) (omega (arith, c .loop-test .left)) (c₁ .loop .inv .2)
+
+pub pass-to-all-spec : {M : Type 1} → statement M
+pass-to-all-spec =
+    tie.close
+    (tie.spec
+    Inv-loop
+    μ-loop
+    loop-holds
+    pass-to-requires
+    add-c
+    loop-less
+    loop-again
+    same-length
+    returns)

@@ -1,0 +1,38 @@
+use Rattle.rules_unique.specs.Marks.{met}
+use mathlib.Core.Path.{sym, _∙_}
+use borrow.Author.Needs.{needs}
+use Rattle.rules_unique.proofs.marks.is_met.Statement.{statement}
+use Rattle.rules_unique.proofs.marks.is_met.Tie as tie
+
+is-absent-requires : tie.Need-is-absent-requires
+is-absent-requires c κs = search needs
+
+returns : tie.Need-returns
+unfolding met
+returns c =
+    let c₁ = c .before in
+    rw (sym (c₁ .is-absent .ensures) ∙ c .if1 .taken)
+
+key-mark-requires : tie.Need-key-mark-requires
+key-mark-requires c κs = search needs
+
+has-requires : tie.Need-has-requires
+has-requires c κs = search needs
+
+returns-2 : tie.Need-returns-2
+unfolding met
+returns-2 c =
+    let c₁ = c .before in
+    let c₂ = c₁ .before in
+    let c₃ = c₂ .before in
+    rw (sym (c₃ .is-absent .ensures) ∙ c₂ .if1 .left, ← (c₁ .key-mark .ensures)) (c .has .ensures)
+
+pub is-met-spec : {M : Type 1} → statement M
+is-met-spec =
+    tie.close
+    (tie.spec
+    is-absent-requires
+    returns
+    key-mark-requires
+    has-requires
+    returns-2)
