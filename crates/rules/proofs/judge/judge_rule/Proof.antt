@@ -33,8 +33,8 @@ row-count-requires c κs = search needs
 row-id-requires : tie.Need-row-id-requires
 row-id-requires c κs =
     let c₁ = c .before in
-    let start = c₁ .before .before .before .before in
-    omega (arith, c .if1 .taken, c₁ .row-count .ensures, start .pre .attributes .few)
+    let start = c₁ .before .before .before .before .before .before in
+    omega (arith, c .if2 .taken, c₁ .row-count .ensures, start .pre .attributes .few)
 
 broken-by-requires : tie.Need-broken-by-requires
 broken-by-requires c κs = search needs
@@ -59,8 +59,8 @@ row-count-requires-2 c κs = search needs
 row-id-requires-2 : tie.Need-row-id-requires-2
 row-id-requires-2 c κs =
     let c₁ = c .before in
-    let start = c₁ .before .before .before .before .before .before .before in
-    omega (arith, c .if2 .taken, c₁ .row-count2 .ensures, start .pre .classes .few)
+    let start = c₁ .before .before .before .before .before .before .before .before .before in
+    omega (arith, c .if3 .taken, c₁ .row-count2 .ensures, start .pre .classes .few)
 
 broken-by-requires-2 : tie.Need-broken-by-requires-2
 broken-by-requires-2 c κs = search needs
