@@ -103,7 +103,8 @@ module _ (m : Schema) (kept : AllKept Nothing m) (room : m .classes .count < cla
   -- rule 18 of class x
   sound : ¬ (NotLive Classes c (c .row x) ⊎ ¬ (SuperclassEarly x (c .row x)))
   unfolding numbered
-  sound = says-fails (says-class-wrong c x) (sym (class-nothing c x) ∙ each-numbered (Kept m) (schemaRules Nothing) kept refusal.classNotLive (λ t j q. refl) Classes x l)
+  sound = says-fails (says-class-wrong c x)
+      (sym (class-nothing c x) ∙ each-numbered (Kept m) (schemaRules Nothing) kept refusal.classNotLive (λ t j q. refl) Classes x l)
 
   not-superclass : ¬ (superclassOf (c .row x) ≡ c .count)
   not-superclass e = sound (inr (λ early. ⊎-elim (λ q. omega (arith, q .1)) (λ q. omega arith) early))

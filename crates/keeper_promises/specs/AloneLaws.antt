@@ -73,7 +73,8 @@ module _ (r : List ℕ) {m n : Schema} (s : SameRows m n) (few : m .classes .cou
       entry Auxiliary e =
           let same = kept refl e in
           rw e (ap₂ (λ (x y : List ℕ). not (subset (part demandedAt attributeSet x) (part demandedAt attributeSet y)))
-          (same .entry (omega (arith, few, entry-class r m (none-zero (changedCases AddEntry r m) none) e))) (same .target (omega (arith, few, asked-there AddEntry r m z refl))))
+          (same .entry (omega (arith, few, entry-class r m (none-zero (changedCases AddEntry r m) none) e)))
+          (same .target (omega (arith, few, asked-there AddEntry r m z refl))))
   differs-same RemoveEntry z kept none =
       ap₂ (λ (x y : List ℕ). not (sameBytes x y)) (demanded-same (s Classes) (targetOf r))
       (demanded-same (after-same RemoveEntry r s z Classes) (targetOf r))
