@@ -9,7 +9,6 @@ use lib.ListN.{length, getD, drop}
 use Rattle.prelude.specs.Part.{part, splice, zeros, Bytes}
 use Rattle.prelude.specs.PartLaws.{part-at, zeros-length}
 use Rattle.prelude.specs.SpliceLaws.{splice-after, splice-length}
-use Rattle.prelude.specs.SaysLaws.{says-eq}
 use Rattle.wire.specs.Wire.{fieldAt, fieldBytes}
 use Rattle.schema.specs.declared.number.TableId.{TableId}
 use Rattle.schema.specs.declared.number.TableId.the-variants.{Attributes, Classes}
@@ -36,13 +35,10 @@ use Rattle.rows_read.specs.WellFormed.{wellFormed}
 use Rattle.rows_read.specs.WellFormedLaws.{finished-same, formed-parts}
 use Rattle.change_read.specs.declared.read.Change.{Change}
 use Rattle.change_read.specs.declared.read.Change.the-variants.{Add, SetRange, Rename, Deactivate, Reactivate, AddEntry, RemoveEntry}
-use Rattle.change_read.specs.declared.read.Tagged.{Tagged}
-use Rattle.change_read.specs.declared.read.Tagged.the-variants.{Known, Unknown}
-use Rattle.change_read.specs.Reading.{changeOf, formatOf, scratch}
+use Rattle.change_read.specs.Reading.{formatOf, scratch}
 use Rattle.change_read.specs.ChangeLaws.{Reads, Fields, change-bytes, change-fields, change-length, change-parts}
 use Rattle.change_read.specs.ChangeLaws.{change-whole, change-written, format-fits-row, scratch-length}
 use Rattle.change_read.specs.AdditionLaws.{row-added}
-use Rattle.change_read.specs.Stopping.{changeTag}
 use Rattle.change_read.specs.TagLaws.{known-named}
 use Rattle.change_read.specs.Written.{WellFormedChange, changeBytes}
 use Rattle.change_read.specs.WrittenLaws.{change-back, zeros-behind}

@@ -1,33 +1,28 @@
 -- Reading a change comes to what `ChangeStops` says, and to nothing else.
-use mathlib.Core.Bool.{cond}
 use mathlib.Core.List.{List}
 use mathlib.Core.Logic.{_↔_, _⊎_, ⊎-elim}
-use mathlib.Core.Path.{_≡_, ap, ap₂, refl, subst, sym, _∙_}
+use mathlib.Core.Path.{_≡_, ap, refl, subst, sym, _∙_}
 use Prim.Native.Nat.{ℕ, _+_, _≤_, _<_}
 use native.Mathlib.Omega.{arith}
-use lib.Dec.{eqb}
 use lib.ListN.{getD, length}
 use Rattle.prelude.specs.BigEndian.{bigEndian}
-use Rattle.prelude.specs.SaysLaws.{choose, says-eq, says-false, says-le, says-split, says-true}
+use Rattle.prelude.specs.SaysLaws.{says-eq, says-false, says-le, says-split, says-true}
 use Rattle.wire.specs.Wire.{fieldAt}
-use Rattle.wire.specs.WireLaws.{field-end, field-past, field-short, field-whole}
+use Rattle.wire.specs.WireLaws.{field-end}
 use Rattle.wire.specs.declared.FieldRead.{FieldRead}
-use Rattle.schema.specs.declared.number.TableId.the-variants.{Attributes, Classes}
 use Rattle.rows_read.specs.PlaceLaws.{field-cut, field-stands}
 use Rattle.rows_read.specs.declared.read.RowRead.{RowRead}
 use Rattle.rows_read.specs.ObjectClass.{readRow}
 use Rattle.rows_read.specs.StoppingLaws.{value-stops}
 use Rattle.rows_read.specs.Stopping.{FieldCut, FieldStands}
 use Rattle.change_read.specs.declared.read.Change.{Change}
-use Rattle.change_read.specs.declared.read.Change.the-variants.{Add, SetRange, Rename, Deactivate, Reactivate, AddEntry, RemoveEntry}
 use Rattle.change_read.specs.declared.read.Tagged.{Tagged}
 use Rattle.change_read.specs.declared.read.Tagged.the-variants.{Known, Unknown}
 use Rattle.change_read.specs.declared.read.ChangeRead.{ChangeRead}
 use Rattle.change_read.specs.declared.read.ChangeRead.the-variants.{Read, Bad}
 use Rattle.change_read.specs.Reading.{changeOf, fieldOut, formatOf, readChange, readValue, scratch, taggedOut, wholeRead}
 use Rattle.change_read.specs.TagLaws.{Kind, aChange, kind, none, tag-known}
-use Rattle.change_read.specs.Stopping.{CarriedStops, ChangeStands, ChangeStops, changeTag}
-use Rattle.wire.specs.declared.FieldRead.the-variants as fields
+use Rattle.change_read.specs.Stopping.{CarriedStops, ChangeStands, ChangeStops}
 use Rattle.rows_read.specs.declared.read.RowRead.the-variants as rows
 
 module _ (s : List ℕ) where

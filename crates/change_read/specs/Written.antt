@@ -6,13 +6,11 @@ use Prim.Native.Nat.{ℕ, _-_}
 use lib.ListN.{length, drop}
 use Rattle.prelude.specs.Part.{Bytes, zeros}
 use Rattle.wire.specs.Wire.{fieldBytes}
-use Rattle.schema.specs.declared.number.TableId.the-variants.{Attributes, Classes}
 use Rattle.schema.specs.Layout.{classWidth}
 use Rattle.rows_format.specs.Columns.{wellFormedBy, writeBy}
 use Rattle.rows_format.specs.Formats.{columnsOf, formatWidth}
 use Rattle.rows_read.specs.ObjectClass.{finished}
 use Rattle.change_read.specs.declared.read.Change.{Change}
-use Rattle.change_read.specs.declared.read.Change.the-variants.{Add, SetRange, Rename, Deactivate, Reactivate, AddEntry, RemoveEntry}
 use Rattle.change_read.specs.Reading.{formatOf}
 use Rattle.change_read.specs.Stopping.{changeTag}
 

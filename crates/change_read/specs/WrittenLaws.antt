@@ -1,6 +1,6 @@
 -- A well-formed change that is written is read as that change; and what is read is well-formed, so every change that can be read comes of one that is written.
 use mathlib.Core.List.{List, [], append-nil}
-use mathlib.Core.Path.{_≡_, refl, sym, ap, _∙_}
+use mathlib.Core.Path.{_≡_, sym, ap, _∙_}
 use Prim.Native.Nat.{ℕ, _+_, _-_, _≤_}
 use native.Mathlib.Omega.{arith}
 use lib.ListN.{length, drop}
@@ -10,7 +10,6 @@ use Rattle.prelude.specs.Part.{zeros}
 use Rattle.prelude.specs.PartLaws.{zeros-add, zeros-length}
 use Rattle.wire.specs.Wire.{fieldAt, fieldBytes, headerBytes}
 use Rattle.wire.specs.WireLaws.{field-length, field-read, header-length}
-use Rattle.schema.specs.declared.number.TableId.the-variants.{Attributes, Classes}
 use Rattle.schema.specs.Layout.{classWidth}
 use Rattle.rows_format.specs.declared.format.Format.{Format}
 use Rattle.rows_format.specs.Columns.{writeBy}
@@ -20,10 +19,8 @@ use Rattle.rows_read.specs.Reading.{out}
 use Rattle.rows_read.specs.ObjectClass.{readRow}
 use Rattle.rows_read.specs.RoundTripLaws.{written-value-read}
 use Rattle.change_read.specs.declared.read.Change.{Change}
-use Rattle.change_read.specs.declared.read.Change.the-variants.{Add, SetRange, Rename, Deactivate, Reactivate, AddEntry, RemoveEntry}
-use Rattle.change_read.specs.declared.read.Tagged.the-variants.{Known}
 use Rattle.change_read.specs.declared.read.ChangeRead.the-variants.{Read}
-use Rattle.change_read.specs.Reading.{changeOf, formatOf, scratch, wholeRead, readValue, taggedOut, fieldOut, readChange}
+use Rattle.change_read.specs.Reading.{formatOf, scratch, wholeRead, readValue, taggedOut, fieldOut, readChange}
 use Rattle.change_read.specs.ChangeLaws.{Reads, format-fits-row, scratch-length}
 use Rattle.change_read.specs.Stopping.{changeTag}
 use Rattle.change_read.specs.TagLaws.{tag-known}

@@ -39,7 +39,6 @@ use Rattle.keeper_promises.specs.PlainLaws.{left-made, number-is, plain-
 use Rattle.keeper_promises.specs.Promises.{InOrder}
 use Rattle.keeper_promises.specs.QuickFrontLaws.{row-zero}
 use Rattle.keeper_promises.specs.QuickLaws.{quick-kept, quick-shaped, quick-bad}
-use Rattle.schema.specs.Refusals as refusal
 
 -- ---- stores in order hold a schema that the laws of the model speak of
 

@@ -54,7 +54,6 @@ use Rattle.keeper_promises.specs.PlainFrontLaws.{made-alike}
 use Rattle.keeper_promises.specs.Promises.{Alike, SomeShort}
 use Rattle.keeper_promises.specs.QuickFrontLaws.{Made, allowed, done-reads, made, room, row-zero}
 use Rattle.keeper_promises.specs.QuickLaws.{quick-kept}
-use Rattle.schema.specs.Refusals as refusal
 
 -- the row of a class replaced in a closure store, as the first bytes show it
 replaced-front : (n : ℕ) (new k : List ℕ) → n < classLimit → closureLength ≤ length k → length new ≡ closureWidth

@@ -6,7 +6,6 @@ use native.Mathlib.Decide.{ℕ-discrete, decLe}
 use native.Mathlib.Omega.{arith}
 use lib.ListN.{getD}
 use Rattle.prelude.specs.BigEndian.{bigEndian}
-use Rattle.wire.specs.declared.FieldRead.{FieldRead}
 use Rattle.wire.specs.Wire.{fieldAt, valueEnd}
 use Rattle.wire.specs.WireLaws.{field-end, field-short, field-past, field-whole}
 use Rattle.rows_read.specs.Stopping.{FieldStands, FieldCut}

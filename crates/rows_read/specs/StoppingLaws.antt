@@ -5,7 +5,7 @@ use mathlib.Core.List.{List, [], _∷_, List·Memᴰ, List·Memᴰ·head, List·
 use mathlib.Core.Logic.{_⊎_, inl, inr, ⊎-elim, _↔_}
 use mathlib.Core.Path.{_≡_, refl, sym, _∙_}
 use Prim.Native.Nat.{ℕ, zero, suc, _+_, _≤_, _<_}
-use native.Mathlib.Decide.{ℕ-discrete, decLe, decLt}
+use native.Mathlib.Decide.{ℕ-discrete, decLt}
 use native.Mathlib.Numerals.{add-one}
 use native.Mathlib.Omega.{arith}
 use lib.Dec.{leb}
@@ -14,8 +14,7 @@ use Rattle.prelude.specs.Below.{Some}
 use Rattle.prelude.specs.BelowLaws.{last-or-less, says-any}
 use Rattle.prelude.specs.Says.{Says}
 use Rattle.prelude.specs.SaysLaws.{says-and, says-or, says-le, says-eq, says-test, says-split, says-iff, says-never, says-fails, neither, true-or-false}
-use Rattle.wire.specs.Wire.{fieldAt, valueEnd}
-use Rattle.wire.specs.WireLaws.{field-end, field-short, field-past, field-whole}
+use Rattle.wire.specs.Wire.{fieldAt}
 use Rattle.schema.specs.declared.number.TableId.{TableId}
 use Rattle.schema.specs.declared.number.TableId.the-variants.{Attributes, Classes}
 use Rattle.rows_format.specs.declared.column.Column.{Column}
@@ -35,7 +34,7 @@ use Rattle.rows_read.specs.ReadingLaws.{read-next, read-stop, read-lefto
 use Rattle.rows_read.specs.PlaceLaws.{Place, ends, is-cut, stands, place}
 use Rattle.rows_read.specs.OneStopLaws.{one-stop}
 use Rattle.rows_read.specs.ObjectClass.{readRow, finish}
-use Rattle.rows_read.specs.Stopping.{FieldStands, FieldCut, columnAt, valueAt, ColumnStands, After, AcceptedTo, Unacceptable, Needed, ValueStops}
+use Rattle.rows_read.specs.Stopping.{FieldStands, columnAt, valueAt, ColumnStands, After, AcceptedTo, Unacceptable, Needed, ValueStops}
 use Rattle.rows_read.specs.Stopping.AcceptedTo.{none, more}
 use Rattle.rows_read.specs.Stopping.Unacceptable.{cut, unknown, late, wrong}
 use Rattle.rows_read.specs.Stopping.ValueStops.{read, missing, refused}

@@ -2,15 +2,12 @@
 use mathlib.Core.Bool.{Bool, false, true, false≢true}
 use mathlib.Core.List.{List, _++_, _∷_, []}
 use mathlib.Core.Logic.{_↔_, ⊎-elim}
-use mathlib.Core.Path.{_≡_, ap, ap₂, refl, sym, _∙_}
+use mathlib.Core.Path.{_≡_, ap, refl, _∙_}
 use Prim.Native.Nat.{ℕ, suc, _+_, _-_, _≤_, _<_}
 use native.Mathlib.Omega.{arith}
 use lib.ListN.{getD, length, length-append}
 use Rattle.prelude.specs.Says.{Says}
 use Rattle.prelude.specs.SaysLaws.{says-and, says-eq, says-false, says-iff, says-split}
-use Rattle.prelude.specs.BigEndian.{bigEndian}
-use Rattle.wire.specs.Wire.{fieldAt}
-use Rattle.wire.specs.WireLaws.{field-past, field-short, field-whole}
 use Rattle.schema.specs.declared.number.TableId.{TableId}
 use Rattle.schema.specs.declared.number.TableId.the-variants.{Attributes, Classes}
 use Rattle.schema.specs.Numbers.{limit}
@@ -19,7 +16,6 @@ use Rattle.rows_read.specs.declared.read.RowRead.{RowRead}
 use Rattle.rows_read.specs.Reading.{out}
 use Rattle.rows_read.specs.StoppingLaws.{value-stops}
 use Rattle.rows_read.specs.PlaceLaws.{field-stands}
-use Rattle.rows_read.specs.Stopping.{FieldCut, FieldStands}
 use Rattle.sheet_read.specs.declared.read.Phase.{Phase}
 use Rattle.sheet_read.specs.declared.read.Phase.the-variants.{Start, InRows}
 use Rattle.sheet_read.specs.declared.read.SheetTag.the-variants.{Heading, Row, Unknown}
