@@ -17,6 +17,8 @@ pub mod QuickSets
 pub mod KeptLaws
 pub mod ThirtyLaws
 pub mod QuickSetsLaws
+pub mod QuickAnswers
+pub mod QuickAnswersLaws
 pub mod Promises
 pub mod Demand3
 pub mod Demand3Laws

@@ -7,7 +7,7 @@ use native.Mathlib.Decide.{ℕ-discrete}
 use native.Mathlib.Omega.{arith}
 use Rattle.prelude.specs.First.{Case, Rising, _when_, firstOf}
 use Rattle.prelude.specs.FirstLaws.{among-above, first-among, other-first}
-use Rattle.prelude.specs.SaysLaws.{says-eq, says-split}
+use Rattle.prelude.specs.SaysLaws.{says-split}
 use Rattle.schema.specs.declared.answer.Answer.{Answer}
 use Rattle.schema.specs.declared.number.TableId.{TableId}
 use Rattle.schema.specs.declared.number.TableId.the-variants.{Attributes, Classes}
@@ -30,7 +30,8 @@ use Rattle.rules.specs.Judge.{brokenCases}
 use Rattle.rules.specs.JudgeLaws.{judged-number}
 use Rattle.tables_shape.specs.ShapeLaws.{says-formed}
 use Rattle.change_asked.specs.Asked.{askedCases}
-use Rattle.change_model.specs.Model.{answerBy, changeCases, changeNumber, changedCases}
+use Rattle.change_model.specs.ModelLaws.{answer-number}
+use Rattle.change_model.specs.Model.{changeCases, changeNumber, changedCases}
 use Rattle.keeper.specs.Answering.{InShape, firstAnswer}
 use Rattle.keeper.specs.Order.{orderAnswers}
 use Rattle.keeper.specs.Load.{emptied, load}
@@ -72,11 +73,6 @@ order-or-not s = go (ℕ-discrete (firstAnswer (orderAnswers s) passed .number) 
     go : Dec (firstAnswer (orderAnswers s) passed .number ≡ 0) → InOrder s ⊎ (¬ InOrder s)
     go (yes e) = inl (passes-order s e)
     go (no d) = inr (λ h. d (ap (λ (a : Answer). a .number) (order-passes s h)))
-
--- the answer of a change that reads has its number
-number-by : (change : Change) (r : List ℕ) (m : Schema) (n : ℕ) → answerBy change r m n .number ≡ n
-unfolding answerBy
-number-by change r m n = ⊎-elim (λ e. rw (e .0) (sym (e .1))) (λ e. rw (e .0)) (says-split (says-eq n 0))
 
 -- ---- load
 
@@ -200,7 +196,7 @@ module _ (x : List ℕ) (s : Stores) where
   quick-number h change e =
       let k : ℕ = quickNumber change carried (schemaOf s) (s .closure) in
       let is : quickChange x s .answer .number ≡ k =
-      ap (λ (a : Answer). a .number) (quick-shaped x s h ∙ ap (λ (y : ChangeRead). quickTo y carried s) e) ∙ number-by change carried (schemaOf s) k in
+      ap (λ (a : Answer). a .number) (quick-shaped x s h ∙ ap (λ (y : ChangeRead). quickTo y carried s) e) ∙ answer-number change carried (schemaOf s) k in
       rw is (first-above 4 (askedCases change carried (schemaOf s) ++ (changedCases change carried (schemaOf s)
       ++ ((refusal.mandatoryDiffers when quickDiffers change carried (schemaOf s) (s .closure)) ∷ []))) (omega arith))
 

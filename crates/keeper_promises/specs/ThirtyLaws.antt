@@ -92,7 +92,7 @@ says-other t u k = says-iff (says-not (says-same-sets attributeSet (demands t k)
   )),
 )
 
-says-thirty : (change : Change) (r : List ℕ) (s : Stores) → Says (quickDiffers change r (schemaOf s) (s .closure)) (Thirty change r s)
+pub says-thirty : (change : Change) (r : List ℕ) (s : Stores) → Says (quickDiffers change r (schemaOf s) (s .closure)) (Thirty change r s)
 says-thirty (Add t) r s = says-never
 says-thirty SetRange r s = says-never
 says-thirty (Rename t) r s = says-never
@@ -146,20 +146,20 @@ module _ (x : List ℕ) (s : Stores) (change : Change) (r : List ℕ) (reads : R
   abbrev m : Schema
   m = schemaOf s
 
-  abbrev thirtyCase : Case
+  abbrev pub thirtyCase : Case
   thirtyCase = refusal.mandatoryDiffers when quickDiffers change r m (s .closure)
 
-  abbrev before : List Case
+  abbrev pub before : List Case
   before = askedCases change r m ++ changedCases change r m
 
-  number-is : InShape s → quickChange x s .answer .number ≡ firstOf (before ++ (thirtyCase ∷ []))
+  pub number-is : InShape s → quickChange x s .answer .number ≡ firstOf (before ++ (thirtyCase ∷ []))
   unfolding quickNumber
   number-is shape =
       ap (λ (a : Answer). a .number) (quick-shaped x s shape ∙ ap (λ (o : ChangeOut). quickTo (o .answer) (o .row) s) reads)
       ∙ answer-number change r m (quickNumber change r m (s .closure))
       ∙ ap firstOf (sym (append-assoc (askedCases change r m) (changedCases change r m) (thirtyCase ∷ [])))
 
-  numbers-rise : Rising 0 (before ++ (thirtyCase ∷ []))
+  pub numbers-rise : Rising 0 (before ++ (thirtyCase ∷ []))
   numbers-rise = omega arith
 
   pub gives-thirty : InShape s → (quickChange x s .answer .number ≡ 30) ↔ (Unrefused x s change r × Thirty change r s)
