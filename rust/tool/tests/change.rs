@@ -303,6 +303,64 @@ rename attribute soilPh soilAcidity
     let _ = fs::remove_dir_all(folder);
 }
 
+/// On the command line `#` begins no comment: what stands before it is another
+/// name or number, which nobody asked for.
+#[test]
+fn a_word_of_the_command_line_is_never_cut() {
+    let change = "rename attribute soilType soil#2";
+    let words = "refused 12, name invalid: attribute 23 `soil#2`: its name";
+    assert_eq!(said(change), format!("{words} ({change})"));
+    let plain: Vec<&str> = change.split(' ').collect();
+    let (ran, _) = changed("forest.sheet", &plain);
+    assert!(ran.text().starts_with(words), "{}", ran.text());
+    let guid = "guid 000102030405060708090a0b0c0d0e0f";
+    let change = format!("add attribute soil#2 2.999; {guid}; syntax 9 2");
+    let words =
+        "refused 12, name invalid: attribute 57 `soil#2`: its name (add attribute soil#2 2.999)";
+    assert_eq!(said(&change), words);
+    let change = format!("add attribute soilPh 2.999; {guid}; syntax 9 2; upper 30#0");
+    let (ran, _) = changed("forest.sheet", &[&change]);
+    let words = "add attribute soilPh 2.999: line 4: upper: not a number that fits\n";
+    assert!(ran.text().contains(words), "{}", ran.text());
+    let words = [
+        "change",
+        "samples/forest.sheet",
+        "range attribute standAge 0 30#0",
+    ];
+    assert_eq!(
+        refused(2, &words),
+        "`30#0`: a number of 32 bits or `none` must stand here\n"
+    );
+}
+
+/// The time grows with the length of a list, not with its square.
+#[test]
+fn a_row_of_two_million_lines_is_read() {
+    let folder = folder("long");
+    let row = "add attribute x 2.999\nguid 000102030405060708090a0b0c0d0e0f\nsyntax 9 2\n";
+    let lines = row.to_owned() + &"single\n\n".repeat(1_000_000);
+    let list = kept(&folder, "changes", lines.as_bytes());
+    let words = [
+        "change",
+        "--dry-run",
+        "--from",
+        &list,
+        "samples/forest.sheet",
+    ];
+    assert!(done(&words).starts_with("done: add attribute x 2.999 (attribute 57 `x`)\n"));
+    let list = kept(&folder, "changes", (lines + "double\n").as_bytes());
+    let ran = ran(&[
+        "change",
+        "--dry-run",
+        "--from",
+        &list,
+        "samples/forest.sheet",
+    ]);
+    let words = "add attribute x 2.999: line 2000004: double: not a line of this row\n";
+    assert!(ran.text().contains(words), "{}", ran.text());
+    let _ = fs::remove_dir_all(folder);
+}
+
 #[test]
 fn comments_of_a_text_stay() {
     let (_, bytes) = changed(

@@ -1,7 +1,7 @@
 //! The differences that changes can make, one step each.
 
 use super::keys::{Key, keys, keys_of};
-use crate::changes::Change;
+use crate::changes::{Block, Change};
 use crate::rows::{List, RowId, Schema, Table};
 use crate::text::block;
 
@@ -158,7 +158,6 @@ fn added(new: &Schema, key: Key, with_lists: bool) -> Option<Change> {
     }
     Some(Change::Add {
         table: key.table,
-        block: block(&schema, row),
-        above: 0,
+        block: Block::of(&block(&schema, row)),
     })
 }
