@@ -125,7 +125,7 @@ impl Session {
         io.out.flush()?;
         let locked_to_save = locked.filter(|_| tally.counts());
         if let Some(locked) = locked_to_save {
-            locked.replace(&self.rewritten()?)?;
+            locked.replace(&self.rewritten()?, io.err)?;
         }
         let Tally { made, refused, .. } = tally;
         let words = match (locked_to_save.is_some(), tally.counts()) {
