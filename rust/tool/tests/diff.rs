@@ -106,6 +106,77 @@ rename attribute keeper-1 siteIndexM
     assert_eq!(said, expected);
 }
 
+/// A name that is never free is not waited for under another.
+#[test]
+fn names_are_given_up_for_a_moment_only() {
+    let renamed = |text: &str, from: &str, to: &str| {
+        let words = text.split_inclusive(char::is_whitespace).map(|word| {
+            let name = word.trim_end();
+            if name == from {
+                word.replacen(from, to, 1)
+            } else {
+                word.to_owned()
+            }
+        });
+        words.collect::<String>()
+    };
+    // The name of a base row, which cannot be renamed.
+    let text = renamed(&renamed(&forest(), "street", "road"), "soilType", "street");
+    let expected = "# cannot be changed: rename attribute street road: 8, base row
+# cannot be changed: rename attribute soilType street: 13, name taken
+";
+    assert_eq!(diff(&text), (1, expected.to_owned()));
+    // The same, and two names that can change places.
+    let text = renamed(&renamed(&text, "standAge", "@"), "siteIndexM", "standAge");
+    let text = renamed(&text, "@", "siteIndexM");
+    let places = "rename attribute standAge keeper-1
+rename attribute siteIndexM standAge
+rename attribute keeper-1 siteIndexM
+";
+    assert_eq!(diff(&text), (1, places.to_owned() + expected));
+    // The names of a base row and of another change places.
+    let text = renamed(&renamed(&forest(), "street", "@"), "soilType", "street");
+    let expected = "# cannot be changed: rename attribute street soilType: 8, base row
+# cannot be changed: rename attribute soilType street: 13, name taken
+";
+    assert_eq!(
+        diff(&renamed(&text, "@", "soilType")),
+        (1, expected.to_owned())
+    );
+    // The name of a row that the new schema does not have.
+    let text = forest();
+    let text = text.split("\nclass oldHabitat").next().unwrap();
+    let expected = "# cannot be changed: class 24 `oldHabitat`: no change removes a row
+# cannot be changed: rename class felling oldHabitat: 13, name taken
+";
+    assert_eq!(
+        diff(&renamed(text, "felling", "oldHabitat")),
+        (1, expected.to_owned())
+    );
+}
+
+/// Names that are given up for a moment are free in both schemas.
+#[test]
+fn a_name_for_a_moment_is_nobodys() {
+    let old = forest().replace("soilType", "keeper-1");
+    let new = old
+        .replace("standAge", "@")
+        .replace("siteIndexM", "standAge");
+    let new = new
+        .replace("@", "siteIndexM")
+        .replace("outline", "KEEPER-2");
+    let folder = folder("moment");
+    let old = kept(&folder, "old", old.as_bytes());
+    let said = fed(&["diff", &old, "-"], new.as_bytes());
+    assert_eq!(said.code, 0, "{}", said.text());
+    assert!(
+        said.text().contains("rename attribute standAge keeper-3\n"),
+        "{}",
+        said.text()
+    );
+    let _ = fs::remove_dir_all(folder);
+}
+
 /// Classes that list each other are added one after the other, then joined.
 #[test]
 fn added_classes_may_list_each_other() {

@@ -37,7 +37,7 @@ fn act(arguments: &Arguments, io: &mut Io) -> Result<(), Failure> {
     }
     let old = Opened::read(old, io.input)?;
     let new = Opened::read(new, io.input)?;
-    let played = played(&old.schema, old.stores, &new.schema)?;
+    let played = played(&old.schema, &old.stores, &new.schema)?;
     let changes = played.changes.iter().map(|change| match change {
         Change::Add { block, .. } => format!("add {}", block.text()),
         _ => format!("{}\n", change.words()),
