@@ -105,6 +105,45 @@ fn rows_are_added_by_lines_of_the_text_form() {
     assert_eq!(said(&change), words);
 }
 
+const TOP: &str =
+    "add class top 2.5.6.0; guid 000102030405060708090a0b0c0d0e0f; abstract; under top";
+
+/// A class may name itself, and the first one does.
+#[test]
+fn the_first_class_is_added_under_itself() {
+    let folder = folder("first");
+    let file = kept(&folder, "empty.schema", b"# nothing\n");
+    let words = done(&["change", &file, TOP]);
+    assert!(
+        words.starts_with("done: add class top 2.5.6.0 (class 0 `top`)\n"),
+        "{words}"
+    );
+    let text = "# nothing
+
+class top 2.5.6.0
+  guid 00010203-0405-0607-0809-0a0b0c0d0e0f
+  abstract
+  under top
+";
+    assert_eq!(fs::read_to_string(&file).unwrap(), text);
+    let guid = "guid 0f0e0d0c0b0a09080706050403020100";
+    for (lines, words) in [
+        ("under top; in place", "it lists itself"),
+        (
+            "under place",
+            "it names class 25 `place`, which does not come before it, as superclass",
+        ),
+    ] {
+        let change = format!("add class place 2.999; {guid}; structural; {lines}");
+        let words = format!("class 25 `place`: {words} (add class place 2.999)");
+        assert_eq!(
+            said(&change),
+            format!("refused 18, class not live: {words}")
+        );
+    }
+    let _ = fs::remove_dir_all(folder);
+}
+
 /// Changes that are refused, and with which words.
 const REFUSALS: &[(&str, &str)] = &[
     (

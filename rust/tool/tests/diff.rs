@@ -190,3 +190,26 @@ fn added_classes_may_list_each_other() {
     assert_eq!(code, 0, "{said}");
     assert!(said.contains("add auxiliary one other\n"), "{said}");
 }
+
+/// The first class stands under itself; a class that lists itself is added first.
+#[test]
+fn added_classes_may_name_themselves() {
+    let top =
+        "class top 2.5.6.0\n  guid 000102030405060708090a0b0c0d0e0f\n  abstract\n  under top\n";
+    let place =
+        "class place 2.999\n  guid 0f0e0d0c0b0a09080706050403020100\n  structural\n  under top\n";
+    let folder = folder("themselves");
+    let empty = kept(&folder, "empty", b"# nothing\n");
+    let said = fed(
+        &["diff", &empty, "-"],
+        format!("{top}{place}  in place\n").as_bytes(),
+    );
+    assert_eq!(said.code, 0, "{}", said.text());
+    let list = kept(&folder, "changes", &said.out);
+    let expected = format!("add {top}add {place}add superior place place\n");
+    assert_eq!(said.text().replace('-', ""), expected);
+    done(&["change", "--from", &list, &empty]);
+    let said = fed(&["diff", &empty, "-"], (top.to_owned() + place).as_bytes());
+    assert_eq!(said.text(), "remove superior place place\n");
+    let _ = fs::remove_dir_all(folder);
+}

@@ -1,9 +1,10 @@
 //! A change as the bytes that the keeper reads (docs/FORMAT.md).
 
 use super::{Block, Change, NOWHERE};
-use crate::rows::{Schema, Table};
+use crate::rows::{RowId, Schema, Table};
 use crate::sheet::{attribute_fields, class_fields, field};
 use crate::text::{Names, attribute, class};
+use sheet_text::Source;
 
 /// The bytes of a change to a schema. A target or entry that is nowhere gets a
 /// number without a row, so that the keeper refuses it; a row that cannot be
@@ -60,12 +61,25 @@ fn number(schema: &Schema, table: Table, name: &str) -> u16 {
         .unwrap_or(NOWHERE)
 }
 
+/// The names of all rows and of a class that is to be added, which may name itself:
+/// the first class stands under itself.
+fn names_with(source: &Source, schema: &Schema) -> Names {
+    let mut names = Names::of(schema);
+    if let Ok((name, _)) = source.head() {
+        names.insert(RowId::class(schema.classes.len()), name);
+    }
+    names
+}
+
 /// An added row; a fault is told by its line in the list of changes.
 fn added(table: Table, block: &Block, schema: &Schema) -> Result<Vec<u8>, String> {
     let source = block.source().map_err(|fault| fault.to_string())?;
     let row = match table {
         Table::Attributes => attribute(&source).map(|row| (0x40, attribute_fields(&row))),
-        Table::Classes => class(&source, &Names::of(schema)).map(|row| (0x41, class_fields(&row))),
+        Table::Classes => {
+            let names = names_with(&source, schema);
+            class(&source, &names).map(|row| (0x41, class_fields(&row)))
+        }
     };
     let (tag, value) = row.map_err(|fault| fault.to_string())?;
     field(tag, &value?)
