@@ -213,3 +213,76 @@ fn added_classes_may_name_themselves() {
     assert_eq!(said.text(), "remove superior place place\n");
     let _ = fs::remove_dir_all(folder);
 }
+
+/// An added row comes last, so one that stands further up is never quite there.
+#[test]
+fn another_order_is_named() {
+    let attribute =
+        "attribute soilPh 2.999.1\n  guid 00000000-0000-0000-0000-000000000001\n  syntax 9 2\n";
+    let text = forest().replacen(
+        "attribute soilType ",
+        &format!("{attribute}\nattribute soilType "),
+        1,
+    );
+    let order = "# cannot be changed: the attribute rows stand in another order\n";
+    assert_eq!(diff(&text), (1, format!("add {attribute}{order}")));
+    let folder = folder("order");
+    let file = copied(&folder, "forest.schema");
+    let list = kept(&folder, "changes", diff(&text).1.as_bytes());
+    done(&["change", "--from", &list, &file]);
+    let again = fed(&["diff", &file, "-"], text.as_bytes());
+    assert_eq!((again.code, again.text().as_str()), (1, order));
+    let _ = fs::remove_dir_all(folder);
+}
+
+/// New rows are added in their order, though the first lists the second.
+#[test]
+fn the_order_of_added_rows_stays() {
+    let class = |name: &str, number: u8| {
+        format!("\nclass {name} 2.999.{number}\n guid {number:032x}\n auxiliary\n under top\n")
+    };
+    let text = forest() + &class("one", 1) + " aux other\n" + &class("other", 2);
+    let (code, said) = diff(&text);
+    assert_eq!(code, 0, "{said}");
+    let places = [
+        "add class one ",
+        "add class other ",
+        "add auxiliary one other\n",
+    ];
+    let places = places.map(|words| said.find(words).unwrap());
+    assert!(places.is_sorted(), "{said}");
+    // One that cannot be added does not stop those behind it.
+    let text = forest() + &class("one", 1) + " base\n" + &class("other", 2);
+    let (code, said) = diff(&format!("{text} aux located\n"));
+    assert_eq!(code, 1, "{said}");
+    assert!(
+        said.starts_with("add class other ") && said.contains("\n  aux located\n"),
+        "{said}"
+    );
+    let refused = "# cannot be changed: add class one 2.999.1: 9, added base row\n";
+    assert!(said.ends_with(&format!("\n{refused}")), "{said}");
+    let (code, said) = diff(&format!("{text} aux one\n"));
+    assert_eq!(code, 1, "{said}");
+    let entry =
+        "# cannot be changed: add auxiliary other one: a row that it names cannot be added\n";
+    assert!(
+        said.ends_with(&format!("\n  under top\n{refused}{entry}")),
+        "{said}"
+    );
+}
+
+/// An added class names rows by the names that they have then, though they are to
+/// have others and cannot.
+#[test]
+fn an_added_class_names_the_right_rows() {
+    let text = forest()
+        .replacen("\nattribute street ", "\nattribute road ", 1)
+        .replacen("system-may street ", "system-may road ", 1)
+        .replacen("\nattribute soilType ", "\nattribute street ", 1)
+        .replacen("slopePercent soilType\n", "slopePercent street\n", 1);
+    let class = "\nclass place 2.999\n guid 00000000000000000000000000000001\n structural\n under top\n may street\n";
+    let (code, said) = diff(&(text + class));
+    assert_eq!(code, 1, "{said}");
+    assert!(said.starts_with("add class place 2.999\n"), "{said}");
+    assert!(said.contains("\n  may soilType\n"), "{said}");
+}

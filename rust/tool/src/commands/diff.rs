@@ -14,8 +14,8 @@ pub const COMMAND: Command = Command {
     help: "Rows with one schemaIDGUID count as the same row. The changes are printed as
 keeper change --from takes them; each was made to OLD by the keeper, in this
 order. What no change can do, or what the keeper refuses, stands behind # and
-`cannot be changed`, and gives exit code 1. Where nothing differs, nothing is
-printed.
+`cannot be changed`, and gives exit code 1; so does another order of the rows,
+among which an added row comes last. Where nothing differs, nothing is printed.
 
 Example:
 
