@@ -29,7 +29,8 @@ fn changed(sample: &str, words: &[&str]) -> (Ran, Vec<u8>) {
     (ran, bytes)
 }
 
-/// What one change says, and that the file is changed exactly if it is made.
+/// What one change says, and that the file is changed exactly if it is made. The
+/// exit code is 2 where the keeper was not asked.
 fn said(change: &str) -> String {
     let mut lines = Vec::new();
     for (sample, options) in [("forest.sheet", vec![]), ("forest.schema", vec!["--whole"])] {
@@ -44,7 +45,13 @@ fn said(change: &str) -> String {
             "nothing is changed\n"
         };
         assert_eq!(end, expected, "{text}");
-        assert_eq!(is_same, ran.code == 1, "{text}");
+        assert_eq!(is_same, ran.code != 0, "{text}");
+        let code = match line.split(' ').next() {
+            Some("done:") => 0,
+            Some("refused") => 1,
+            _ => 2,
+        };
+        assert_eq!(ran.code, code, "{text}");
         lines.push(line.to_owned());
     }
     assert_eq!(
@@ -98,7 +105,8 @@ fn rows_are_added_by_lines_of_the_text_form() {
     let words = "done: add class nursery 1.3.6.1.4.1.32473.6.22.9 (class 25 `nursery`)";
     assert_eq!(said(&change), words);
     let change = format!("add class nursery 2.999; {guid}; structural; under parcel; may nothing");
-    let words = "refused before the keeper was asked: add class nursery 2.999: line 5: may: no attribute is named nothing";
+    let words =
+        "cannot be used: add class nursery 2.999: line 5: may: no attribute is named nothing";
     assert_eq!(said(&change), words);
     let change = format!("add class nursery 2.999; {guid}; base; structural; under parcel");
     let words = "refused 9, added base row: the row to be added has `base`, or 16 among its flags (add class nursery 2.999)";
@@ -337,9 +345,32 @@ rename attribute soilPh soilAcidity
     );
     let bad = kept(&folder, "bad", b"\nadd attribute x 2.999\n\n guid 00\n");
     let ran = ran(&["change", "--from", &bad, &file]);
-    let words = "refused before the keeper was asked: add attribute x 2.999: line 2: attribute: syntax is missing\n";
+    let words = "cannot be used: add attribute x 2.999: line 2: attribute: syntax is missing\n";
     assert!(ran.text().starts_with(words), "{}", ran.text());
     let _ = fs::remove_dir_all(folder);
+}
+
+/// What the program itself does not understand gives 2, also beside what the
+/// keeper refuses.
+#[test]
+fn a_row_that_is_not_understood_is_told() {
+    let row = "add attribute x 2.999; guid zz; syntax 9 2";
+    let (ran, _) = changed("forest.sheet", &[row]);
+    let words = "cannot be used: add attribute x 2.999: line 2: guid: not whole bytes in hex digits
+FILE: nothing is changed
+";
+    assert_eq!((ran.code, ran.text().as_str()), (2, words));
+    let advice = "keeper change --help says how a change is written\n";
+    assert_eq!(ran.err, advice);
+    let (ran, _) = changed("forest.sheet", &["--each", SOUND, TAKEN, row]);
+    assert_eq!(ran.code, 2);
+    assert!(
+        ran.text().ends_with("FILE: saved with 1 of 3 changes\n"),
+        "{}",
+        ran.text()
+    );
+    let explain = "keeper explain 13 says what can be done\n";
+    assert_eq!(ran.err, format!("{explain}{advice}"));
 }
 
 /// On the command line `#` begins no comment: what stands before it is another

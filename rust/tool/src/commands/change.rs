@@ -39,7 +39,8 @@ FILE, a sheet or the text form, is replaced only when all is done, by a new file
 that is flushed and renamed: a cut of power leaves the old or the new one.
 Comments of the text form stay. LDIF is not changed: import it first.
 
-Exit codes: 0 all made, 1 a change was refused, 2 cannot be read or used.
+Exit codes: 0 all made, 1 a change was refused, 2 cannot be read or used, also
+where that is only one of the changes.
 
 Example:
 
