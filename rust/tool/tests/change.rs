@@ -350,6 +350,43 @@ rename attribute soilPh soilAcidity
     let _ = fs::remove_dir_all(folder);
 }
 
+/// What a diff prints can always be fed back, also where it is nothing, or only
+/// what cannot be changed.
+#[test]
+fn a_list_may_hold_no_change() {
+    let folder = folder("none");
+    let file = copied(&folder, "forest.schema");
+    for text in [
+        "",
+        "\n",
+        "# cannot be changed: the attribute rows stand in another order\n",
+    ] {
+        let list = kept(&folder, "changes", text.as_bytes());
+        let nothing = format!("{file}: nothing is changed\n");
+        assert_eq!(done(&["change", "--from", &list, &file]), nothing);
+        let ran = fed(&["change", "--from", "-", &file], text.as_bytes());
+        assert_eq!((ran.code, ran.text()), (0, nothing), "{}", ran.err);
+    }
+    assert!(fs::read(&file).unwrap() == fs::read("samples/forest.schema").unwrap());
+    let words = refused(2, &["change", "--dry-run", "--from", "-", "-"]);
+    assert_eq!(
+        words,
+        "only one of CHANGES and FILE can be standard input\n"
+    );
+    let list = kept(&folder, "changes", b"# nothing\n");
+    assert_eq!(
+        ran(&["change", "--from", &list, "samples/refused.sheet"]).code,
+        1
+    );
+    let list = kept(&folder, "changes", &vec![b'\n'; (16 << 20) + 1]);
+    let words = refused(2, &["change", "--from", &list, &file]);
+    assert!(
+        words.ends_with("is longer than 16777216 bytes, the most that is read\n"),
+        "{words}"
+    );
+    let _ = fs::remove_dir_all(folder);
+}
+
 /// What the program itself does not understand gives 2, also beside what the
 /// keeper refuses.
 #[test]

@@ -100,9 +100,7 @@ fn the_changes_of_a_diff_lead_to_the_other_schema() {
         if diff.code == 0 {
             led += 1;
             let list = kept(&folder, "changes", diff.text().as_bytes());
-            if !diff.text().is_empty() {
-                done(&["change", "--from", &list, &old]);
-            }
+            done(&["change", "--from", &list, &old]);
             assert_eq!(done(&["diff", &old, &new]), "", "{number}");
             assert!(
                 fs::read(&old).unwrap() == fs::read(&new).unwrap(),
