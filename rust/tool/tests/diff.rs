@@ -106,20 +106,19 @@ rename attribute keeper-1 siteIndexM
     assert_eq!(said, expected);
 }
 
+/// A text with another word wherever one stands.
+fn renamed(text: &str, from: &str, to: &str) -> String {
+    let words = text.split_inclusive(char::is_whitespace);
+    let new = |word: &str| match word.trim_end() == from {
+        true => word.replacen(from, to, 1),
+        false => word.to_owned(),
+    };
+    words.map(new).collect()
+}
+
 /// A name that is never free is not waited for under another.
 #[test]
 fn names_are_given_up_for_a_moment_only() {
-    let renamed = |text: &str, from: &str, to: &str| {
-        let words = text.split_inclusive(char::is_whitespace).map(|word| {
-            let name = word.trim_end();
-            if name == from {
-                word.replacen(from, to, 1)
-            } else {
-                word.to_owned()
-            }
-        });
-        words.collect::<String>()
-    };
     // The name of a base row, which cannot be renamed.
     let text = renamed(&renamed(&forest(), "street", "road"), "soilType", "street");
     let expected = "# cannot be changed: rename attribute street road: 8, base row
