@@ -35,18 +35,7 @@ pub struct Given {
 impl Given {
     /// Reads a file, or standard input for `-`.
     pub fn read(path: &OsStr, input: &mut dyn Read) -> Result<Given, Failure> {
-        let name = match path == "-" {
-            true => "standard input".to_owned(),
-            false => path.to_string_lossy().into_owned(),
-        };
-        let cannot = |error| Failure::unusable(format!("{name}: cannot be read: {error}"));
-        let mut bytes = Vec::new();
-        let limit = u64::try_from(LONGEST).unwrap_or(u64::MAX) + 1;
-        let read = match path == "-" {
-            true => input.take(limit).read_to_end(&mut bytes),
-            false => File::open(path).and_then(|file| file.take(limit).read_to_end(&mut bytes)),
-        };
-        read.map_err(cannot)?;
+        let (name, bytes) = named_bytes(path, input)?;
         Given::of(name, bytes)
     }
 
@@ -70,6 +59,36 @@ impl Given {
     pub fn text(&self) -> String {
         text(&self.bytes)
     }
+}
+
+/// A text that is no schema and may be empty, from a file or from standard input,
+/// with its name.
+pub fn read_text(path: &OsStr, input: &mut dyn Read) -> Result<(String, String), Failure> {
+    let (name, bytes) = named_bytes(path, input)?;
+    match bytes.len() > LONGEST {
+        true => Err(Failure::unusable(format!(
+            "{name}: is longer than {LONGEST} bytes, the most that is read"
+        ))),
+        false => Ok((printable(&name), text(&bytes))),
+    }
+}
+
+/// The name and the bytes of a file, or of standard input for `-`; of one that is
+/// too long a byte more than the most.
+fn named_bytes(path: &OsStr, input: &mut dyn Read) -> Result<(String, Vec<u8>), Failure> {
+    let name = match path == "-" {
+        true => "standard input".to_owned(),
+        false => path.to_string_lossy().into_owned(),
+    };
+    let cannot = |error| Failure::unusable(format!("{name}: cannot be read: {error}"));
+    let mut bytes = Vec::new();
+    let limit = u64::try_from(LONGEST).unwrap_or(u64::MAX) + 1;
+    let read = match path == "-" {
+        true => input.take(limit).read_to_end(&mut bytes),
+        false => File::open(path).and_then(|file| file.take(limit).read_to_end(&mut bytes)),
+    };
+    read.map_err(cannot)?;
+    Ok((name, bytes))
 }
 
 fn text(bytes: &[u8]) -> String {

@@ -2,9 +2,11 @@
 //! two keepers never replace it at once.
 
 use crate::failure::Failure;
-use std::fs::{self, File, TryLockError};
+use crate::words::printable;
+use std::ffi::OsString;
+use std::fs::{self, File, Metadata, Permissions, TryLockError};
 use std::io::{self, Read, Write};
-use std::os::unix::fs::{MetadataExt, chown};
+use std::os::unix::fs::{MetadataExt, OpenOptionsExt, PermissionsExt, fchown};
 use std::path::{Path, PathBuf};
 
 /// A file that nobody else with a lock may replace, until this goes.
@@ -17,7 +19,7 @@ pub struct Locked {
 impl Locked {
     /// Locks a file. Where another keeper holds it, this is told and waited for.
     pub fn new(path: &Path, err: &mut dyn Write) -> Result<Locked, Failure> {
-        let name = path.to_string_lossy().into_owned();
+        let name = printable(&path.to_string_lossy());
         let unusable = |words: String| Failure::unusable(format!("{name}: {words}"));
         let cannot = |error: io::Error| unusable(format!("cannot be read: {error}"));
         // What a link leads to is replaced, not the link.
@@ -46,12 +48,11 @@ impl Locked {
     }
 
     /// Puts a new file in place of the old one: written beside it, flushed to the
-    /// disk, and renamed.
-    pub fn replace(&self, bytes: &[u8]) -> Result<(), Failure> {
+    /// disk, and renamed. Rights that could not be kept are told.
+    pub fn replace(&self, bytes: &[u8], err: &mut dyn Write) -> Result<(), Failure> {
         let beside = self.beside();
-        let replaced = self
-            .write(&beside, bytes)
-            .and_then(|()| fs::rename(&beside, &self.path));
+        let written = self.write(&beside, bytes);
+        let replaced = written.and_then(|kept| fs::rename(&beside, &self.path).map(|()| kept));
         let failure = |error| {
             let _ = fs::remove_file(&beside);
             Failure::unusable(format!(
@@ -59,7 +60,10 @@ impl Locked {
                 self.name
             ))
         };
-        replaced.map_err(failure)?;
+        if !replaced.map_err(failure)? {
+            let words = "its group cannot be kept, so no group has rights to it any more";
+            let _ = writeln!(err, "{}: {words}", self.name);
+        }
         // The file is the new one; that its name is on the disk is asked for too.
         let folder = self.path.parent().map(File::open);
         if let Some(Ok(folder)) = folder {
@@ -71,20 +75,41 @@ impl Locked {
     /// The new file's name until it is whole. Under the lock no other keeper has
     /// it, so one that was left behind can go.
     fn beside(&self) -> PathBuf {
-        let name = self.path.file_name().unwrap_or_default().to_string_lossy();
-        self.path.with_file_name(format!(".{name}.keeper-new"))
+        let mut name = OsString::from(".");
+        name.push(self.path.file_name().unwrap_or_default());
+        name.push(".keeper-new");
+        self.path.with_file_name(name)
     }
 
-    fn write(&self, beside: &Path, bytes: &[u8]) -> io::Result<()> {
+    /// Writes the new file; whether all rights of the old one were kept. Owner and
+    /// rights are set through the open file: under its name somebody who may write
+    /// to the folder could have put a link by then.
+    fn write(&self, beside: &Path, bytes: &[u8]) -> io::Result<bool> {
         let _ = fs::remove_file(beside);
-        let mut file = File::options().write(true).create_new(true).open(beside)?;
-        let old = self.file.metadata()?;
-        file.set_permissions(old.permissions())?;
-        // Only who may do so can give the file to its old owner.
-        let _ = chown(beside, Some(old.uid()), Some(old.gid()));
+        let mut options = File::options();
+        options.write(true).create_new(true).mode(0o600);
+        let mut file = options.open(beside)?;
+        let kept = hand_over(&file, &self.file.metadata()?)?;
         file.write_all(bytes)?;
-        file.sync_all()
+        file.sync_all()?;
+        Ok(kept)
     }
+}
+
+/// Gives a new file the owner, the group and the rights of an old one, as far as
+/// whoever runs this may do so; whether all rights were kept. Only an administrator
+/// can give a file to another owner, but its owner can give it to a group of his.
+/// Another group does not get the rights of the old one.
+fn hand_over(file: &File, old: &Metadata) -> io::Result<bool> {
+    let (owner, group) = (Some(old.uid()), Some(old.gid()));
+    let has_group = fchown(file, owner, group).or_else(|_| fchown(file, None, group));
+    let rights = old.mode() & 0o777;
+    let kept = match has_group {
+        Ok(()) => rights,
+        Err(_) => rights & 0o707,
+    };
+    file.set_permissions(Permissions::from_mode(kept))?;
+    Ok(kept == rights)
 }
 
 fn lock(file: &File, name: &str, err: &mut dyn Write) -> io::Result<()> {

@@ -29,7 +29,8 @@ fn changed(sample: &str, words: &[&str]) -> (Ran, Vec<u8>) {
     (ran, bytes)
 }
 
-/// What one change says, and that the file is changed exactly if it is made.
+/// What one change says, and that the file is changed exactly if it is made. The
+/// exit code is 2 where the keeper was not asked.
 fn said(change: &str) -> String {
     let mut lines = Vec::new();
     for (sample, options) in [("forest.sheet", vec![]), ("forest.schema", vec!["--whole"])] {
@@ -44,7 +45,13 @@ fn said(change: &str) -> String {
             "nothing is changed\n"
         };
         assert_eq!(end, expected, "{text}");
-        assert_eq!(is_same, ran.code == 1, "{text}");
+        assert_eq!(is_same, ran.code != 0, "{text}");
+        let code = match line.split(' ').next() {
+            Some("done:") => 0,
+            Some("refused") => 1,
+            _ => 2,
+        };
+        assert_eq!(ran.code, code, "{text}");
         lines.push(line.to_owned());
     }
     assert_eq!(
@@ -98,11 +105,51 @@ fn rows_are_added_by_lines_of_the_text_form() {
     let words = "done: add class nursery 1.3.6.1.4.1.32473.6.22.9 (class 25 `nursery`)";
     assert_eq!(said(&change), words);
     let change = format!("add class nursery 2.999; {guid}; structural; under parcel; may nothing");
-    let words = "refused before the keeper was asked: add class nursery 2.999: line 5: may: no attribute is named nothing";
+    let words =
+        "cannot be used: add class nursery 2.999: line 5: may: no attribute is named nothing";
     assert_eq!(said(&change), words);
     let change = format!("add class nursery 2.999; {guid}; base; structural; under parcel");
     let words = "refused 9, added base row: the row to be added has `base`, or 16 among its flags (add class nursery 2.999)";
     assert_eq!(said(&change), words);
+}
+
+const TOP: &str =
+    "add class top 2.5.6.0; guid 000102030405060708090a0b0c0d0e0f; abstract; under top";
+
+/// A class may name itself, and the first one does.
+#[test]
+fn the_first_class_is_added_under_itself() {
+    let folder = folder("first");
+    let file = kept(&folder, "empty.schema", b"# nothing\n");
+    let words = done(&["change", &file, TOP]);
+    assert!(
+        words.starts_with("done: add class top 2.5.6.0 (class 0 `top`)\n"),
+        "{words}"
+    );
+    let text = "# nothing
+
+class top 2.5.6.0
+  guid 00010203-0405-0607-0809-0a0b0c0d0e0f
+  abstract
+  under top
+";
+    assert_eq!(fs::read_to_string(&file).unwrap(), text);
+    let guid = "guid 0f0e0d0c0b0a09080706050403020100";
+    for (lines, words) in [
+        ("under top; in place", "it lists itself"),
+        (
+            "under place",
+            "it names class 25 `place`, which does not come before it, as superclass",
+        ),
+    ] {
+        let change = format!("add class place 2.999; {guid}; structural; {lines}");
+        let words = format!("class 25 `place`: {words} (add class place 2.999)");
+        assert_eq!(
+            said(&change),
+            format!("refused 18, class not live: {words}")
+        );
+    }
+    let _ = fs::remove_dir_all(folder);
 }
 
 /// Changes that are refused, and with which words.
@@ -266,41 +313,57 @@ fn a_dry_run_saves_nothing() {
     assert!(ran.text().ends_with("standard input: nothing is changed\n"));
 }
 
+/// What the program itself does not understand gives 2, also beside what the
+/// keeper refuses.
 #[test]
-fn changes_stand_in_a_file_with_comments() {
-    let folder = folder("from");
-    let file = copied(&folder, "forest.schema");
-    let changes = b"# The autumn's changes.
-add attribute soilPh 1.3.6.1.4.1.32473.6.1.9   # in tenths
-  guid 00010203-0405-0607-0809-0a0b0c0d0e0f
-
-  # Single-valued, of course.
-  syntax 9 2
-  single
-add optional located soilPh
-rename attribute soilPh soilAcidity
+fn a_row_that_is_not_understood_is_told() {
+    let row = "add attribute x 2.999; guid zz; syntax 9 2";
+    let (ran, _) = changed("forest.sheet", &[row]);
+    let words = "cannot be used: add attribute x 2.999: line 2: guid: not whole bytes in hex digits
+FILE: nothing is changed
 ";
-    let list = kept(&folder, "changes", changes);
-    let said = done(&["change", "--from", &list, &file]);
-    assert_eq!(said.lines().count(), 4);
-    assert!(done(&["show", &file, "stand"]).contains("\n  soilAcidity         through located\n"));
-    let bad = kept(
-        &folder,
-        "bad",
-        b"range attribute standAge 0 900\n\nrange attribute standAge zero\n",
-    );
-    let words = refused(2, &["change", "--from", &bad, &file]);
+    assert_eq!((ran.code, ran.text().as_str()), (2, words));
+    let advice = "keeper change --help says how a change is written\n";
+    assert_eq!(ran.err, advice);
+    let (ran, _) = changed("forest.sheet", &["--each", SOUND, TAKEN, row]);
+    assert_eq!(ran.code, 2);
     assert!(
-        words.starts_with(&format!(
-            "{bad}: line 3: `range attribute standAge zero` is not complete"
-        )),
-        "{words}"
+        ran.text().ends_with("FILE: saved with 1 of 3 changes\n"),
+        "{}",
+        ran.text()
     );
-    let bad = kept(&folder, "bad", b"\nadd attribute x 2.999\n\n guid 00\n");
-    let ran = ran(&["change", "--from", &bad, &file]);
-    let words = "refused before the keeper was asked: add attribute x 2.999: line 2: attribute: syntax is missing\n";
+    let explain = "keeper explain 13 says what can be done\n";
+    assert_eq!(ran.err, format!("{explain}{advice}"));
+}
+
+/// On the command line `#` begins no comment: what stands before it is another
+/// name or number, which nobody asked for.
+#[test]
+fn a_word_of_the_command_line_is_never_cut() {
+    let change = "rename attribute soilType soil#2";
+    let words = "refused 12, name invalid: attribute 23 `soil#2`: its name";
+    assert_eq!(said(change), format!("{words} ({change})"));
+    let plain: Vec<&str> = change.split(' ').collect();
+    let (ran, _) = changed("forest.sheet", &plain);
     assert!(ran.text().starts_with(words), "{}", ran.text());
-    let _ = fs::remove_dir_all(folder);
+    let guid = "guid 000102030405060708090a0b0c0d0e0f";
+    let change = format!("add attribute soil#2 2.999; {guid}; syntax 9 2");
+    let words =
+        "refused 12, name invalid: attribute 57 `soil#2`: its name (add attribute soil#2 2.999)";
+    assert_eq!(said(&change), words);
+    let change = format!("add attribute soilPh 2.999; {guid}; syntax 9 2; upper 30#0");
+    let (ran, _) = changed("forest.sheet", &[&change]);
+    let words = "add attribute soilPh 2.999: line 4: upper: not a number that fits\n";
+    assert!(ran.text().contains(words), "{}", ran.text());
+    let words = [
+        "change",
+        "samples/forest.sheet",
+        "range attribute standAge 0 30#0",
+    ];
+    assert_eq!(
+        refused(2, &words),
+        "`30#0`: a number of 32 bits or `none` must stand here\n"
+    );
 }
 
 #[test]

@@ -5,6 +5,7 @@
 mod common;
 
 use common::{done, fed, folder};
+use generate::{Random, sheets};
 use std::fs;
 use std::path::Path;
 use std::process::Command;
@@ -82,30 +83,68 @@ fn a_class_says_whence_its_attributes_come() {
     assert!(old.contains(r#"<span class="mark gone">defunct</span>"#));
 }
 
-/// Boxes of one column do not lie over each other, and all lie in the picture.
-#[test]
-fn boxes_of_the_picture_stand_apart() {
-    let html = forest();
-    let number = |tag: &str, name: &str| -> usize {
-        let rest = tag.split(&format!(" {name}=\"")).nth(1).unwrap();
-        rest.split('"').next().unwrap().parse().unwrap()
-    };
-    let boxes: Vec<[usize; 4]> = html
+/// The value of a tag's attribute, as a number.
+fn number(tag: &str, name: &str) -> u32 {
+    let rest = tag.split(&format!(" {name}=\"")).nth(1).unwrap();
+    rest.split('"').next().unwrap().parse().unwrap()
+}
+
+/// The boxes of a picture lie in it, and none over another; how many there are.
+fn boxes_apart(html: &str) -> usize {
+    let picture = html.split("<svg").nth(1).unwrap();
+    let [width, height] = ["width", "height"].map(|name| number(picture, name));
+    let boxes: Vec<[u32; 4]> = html
         .split("<rect")
         .skip(1)
         .map(|tag| ["x", "y", "width", "height"].map(|name| number(tag, name)))
         .collect();
-    assert_eq!(boxes.len(), 25);
-    let apart = |one: &[usize; 4], other: &[usize; 4]| {
+    let apart = |one: &[u32; 4], other: &[u32; 4]| {
         let beside =
             |at: usize| one[at] + one[at + 2] <= other[at] || other[at] + other[at + 2] <= one[at];
         beside(0) || beside(1)
     };
     for (at, one) in boxes.iter().enumerate() {
-        assert!(
-            boxes[at + 1..].iter().all(|other| apart(one, other)),
-            "{one:?}"
-        );
+        let is_inside = one[0] + one[2] <= width && one[1] + one[3] <= height;
+        assert!(is_inside, "{one:?}");
+        let others = &boxes[at + 1..];
+        assert!(others.iter().all(|other| apart(one, other)), "{one:?}");
+    }
+    boxes.len()
+}
+
+#[test]
+fn boxes_of_the_picture_stand_apart() {
+    assert_eq!(boxes_apart(&forest()), 25);
+    for number in 0..150 {
+        let sheet = sheets::sound(&mut Random::nth(24, number));
+        let page = fed(&["page", "-"], &sheet);
+        assert_eq!(page.code, 0, "{}", page.err);
+        boxes_apart(&page.text());
+    }
+}
+
+/// A box that is higher than the first of those under it, whose middle is far up
+/// or far down.
+#[test]
+fn high_boxes_stand_apart() {
+    let class = |name: &str, number: usize, kind: &str, above: &str| {
+        format!("class {name} 2.5.{number}\n guid {number:032x}\n {kind}\n under {above}\n")
+    };
+    for order in [["a", "b"], ["b", "a"]] {
+        let names = (1..=6).flat_map(|at| order.map(|name| format!("{name}{at}")));
+        let names: Vec<String> = names.collect();
+        let top = class("top", 0, "abstract", "top");
+        let mut text = format!("{top} aux {}\n", names.join(" "));
+        for (at, name) in names.iter().enumerate() {
+            let above = match at / 2 {
+                0 => "top".to_owned(),
+                depth => format!("b{depth}"),
+            };
+            text += &class(name, at + 1, "auxiliary", &above);
+        }
+        let page = fed(&["page", "-"], text.as_bytes());
+        assert_eq!(page.code, 0, "{}", page.err);
+        assert_eq!(boxes_apart(&page.text()), 13);
     }
 }
 

@@ -30,7 +30,6 @@ fn assert_words(ran: &Ran, input: &str) {
         0 => {}
         1 => {
             let is_told = NAMED.iter().any(|named| said.contains(named.as_str()))
-                || said.contains("before the keeper was asked: ")
                 || said.contains("# cannot be changed: ");
             assert!(is_told, "{input}: {said}");
         }

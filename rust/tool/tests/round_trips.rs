@@ -6,6 +6,7 @@ mod common;
 
 use common::{done, fed, folder, kept};
 use generate::{Random, changes, schemas, sheets};
+use std::collections::{BTreeMap, BTreeSet};
 use std::fs;
 use tool::stores::Stores;
 
@@ -100,9 +101,7 @@ fn the_changes_of_a_diff_lead_to_the_other_schema() {
         if diff.code == 0 {
             led += 1;
             let list = kept(&folder, "changes", diff.text().as_bytes());
-            if !diff.text().is_empty() {
-                done(&["change", "--from", &list, &old]);
-            }
+            done(&["change", "--from", &list, &old]);
             assert_eq!(done(&["diff", &old, &new]), "", "{number}");
             assert!(
                 fs::read(&old).unwrap() == fs::read(&new).unwrap(),
@@ -117,5 +116,73 @@ fn the_changes_of_a_diff_lead_to_the_other_schema() {
         }
     }
     assert!(led * 20 >= total * 19, "{led} of {total}");
+    let _ = fs::remove_dir_all(folder);
+}
+
+/// A text with some rows' names given to others, each where it stands as a name.
+fn mixed(random: &mut Random, text: &str) -> String {
+    let is_head = |line: &&str| line.starts_with("attribute ") || line.starts_with("class ");
+    let heads = text.lines().filter(is_head);
+    let names: Vec<&str> = heads
+        .filter_map(|head| head.split_whitespace().nth(1))
+        .collect();
+    let some = (0..1 + random.below(5)).filter_map(|_| random.pick(&names).copied());
+    let some: BTreeSet<&str> = some.collect();
+    let others = some.iter().cycle().skip(1);
+    let new_names: BTreeMap<&str, &str> = some.iter().copied().zip(others.copied()).collect();
+    let new_name = |name: &str| new_names.get(name).map_or(name, |name| name).to_owned();
+    let line = |line: &str| {
+        let mut words: Vec<String> = line.split_whitespace().map(str::to_owned).collect();
+        let names = match words.first().map(String::as_str) {
+            Some("attribute" | "class") => 1..2,
+            Some("under" | "naming" | "must" | "may" | "aux" | "in") => 1..words.len(),
+            Some("system-may" | "system-aux" | "system-in") => 1..words.len(),
+            _ => 0..0,
+        };
+        for word in &mut words[names] {
+            *word = new_name(word);
+        }
+        words.join(" ") + "\n"
+    };
+    text.lines().map(line).collect()
+}
+
+/// Whatever a diff tells, made to the first schema, leaves nothing that changes
+/// could do, and no row under a name for a moment.
+#[test]
+fn a_diff_tells_all_that_can_be_done() {
+    let folder = folder("mixed");
+    let (mut led, mut left) = (0, 0);
+    for number in 0..300 {
+        let mut random = Random::nth(25, number);
+        let sheet = sheets::sound(&mut random);
+        let text = fed(&["export", "--text", "-"], &sheet).text();
+        let mut new = mixed(&mut random, &text);
+        let guid = "guid 00112233445566778899aabbccddeeff";
+        let row = format!("attribute added 2.999.1.2.3\n{guid}\nsyntax 9 2\n");
+        match random.below(3) {
+            0 => new += &row,
+            1 => new = row + &new,
+            _ => {}
+        }
+        if text.is_empty() || fed(&["check", "-"], new.as_bytes()).code != 0 {
+            continue;
+        }
+        let old = kept(&folder, "old.sheet", &sheet);
+        let diff = fed(&["diff", &old, "-"], new.as_bytes());
+        let list = kept(&folder, "changes", &diff.out);
+        done(&["change", "--from", &list, &old]);
+        let again = fed(&["diff", &old, "-"], new.as_bytes());
+        assert_eq!(again.code, diff.code, "{number}: {}", diff.text());
+        let is_left = |line: &str| line.starts_with("# cannot be changed: ");
+        assert!(
+            again.text().lines().all(is_left),
+            "{number}: {}",
+            again.text()
+        );
+        assert!(!done(&["list", &old]).contains("keeper-"), "{number}");
+        *(if diff.code == 0 { &mut led } else { &mut left }) += 1;
+    }
+    assert!(led > 50 && left > 50, "{led} {left}");
     let _ = fs::remove_dir_all(folder);
 }

@@ -5,10 +5,13 @@ mod common;
 
 use common::{copied, done, folder, kept};
 use generate::Random;
+use std::ffi::OsStr;
 use std::fs;
-use std::os::unix::fs::{MetadataExt, PermissionsExt, symlink};
-use std::os::unix::process::ExitStatusExt;
-use std::process::{Command, Stdio};
+use std::os::unix::ffi::OsStrExt;
+use std::os::unix::fs::{MetadataExt, PermissionsExt, chown, symlink};
+use std::os::unix::process::{CommandExt, ExitStatusExt};
+use std::path::Path;
+use std::process::{Command, Output, Stdio};
 use std::time::Duration;
 
 fn keeper() -> Command {
@@ -199,5 +202,69 @@ fn a_link_and_the_rights_of_a_file_stay() {
     kept(&folder, ".forest.sheet.keeper-new", b"half");
     done(&["change", &file, BACK]);
     assert!(fs::read(&file).unwrap() == fs::read("samples/forest.sheet").unwrap());
+    let _ = fs::remove_dir_all(folder);
+}
+
+/// A user and a group of this number, and groups that he is not in.
+const SOMEBODY: u32 = 65_534;
+const FOREIGN: u32 = 54_321;
+const FOLDERS: u32 = 12_345;
+
+/// A save by somebody of a file that another user owns, in a folder whose new
+/// files get the folder's group; none where only an administrator could try it.
+fn saved_by_somebody(folder: &Path, group: u32, rights: u32) -> Option<(Output, fs::Metadata)> {
+    let keeper = folder.join("keeper");
+    fs::copy(env!("CARGO_BIN_EXE_keeper"), &keeper).unwrap();
+    let file = copied(folder, "forest.sheet");
+    chown(folder, None, Some(FOLDERS)).ok()?;
+    fs::set_permissions(folder, fs::Permissions::from_mode(0o2777)).unwrap();
+    chown(&file, Some(1), Some(group)).ok()?;
+    fs::set_permissions(&file, fs::Permissions::from_mode(rights)).unwrap();
+    let mut keeper = Command::new(keeper);
+    keeper.uid(SOMEBODY).gid(SOMEBODY);
+    let output = keeper.args(["change", &file, THERE]).output().ok()?;
+    Some((output, fs::metadata(&file).unwrap()))
+}
+
+#[test]
+fn the_group_stays_or_no_group_gets_its_rights() {
+    let folder = folder("group");
+    let lost = "its group cannot be kept, so no group has rights to it any more";
+    for (group, rights, left, words) in [
+        (SOMEBODY, 0o660, (SOMEBODY, 0o660), ""),
+        (FOREIGN, 0o604, (FOLDERS, 0o604), ""),
+        (FOREIGN, 0o664, (FOLDERS, 0o604), lost),
+    ] {
+        let Some((output, file)) = saved_by_somebody(&folder, group, rights) else {
+            eprintln!("no file may be given to another user here: nothing is tested");
+            break;
+        };
+        let said = String::from_utf8_lossy(&output.stderr).into_owned();
+        assert_eq!(output.status.code(), Some(0), "{said}");
+        assert_eq!((file.gid(), file.mode() & 0o7777), left, "{said}");
+        assert!(
+            said.contains(words) && said.is_empty() == words.is_empty(),
+            "{said}"
+        );
+    }
+    let _ = fs::remove_dir_all(folder);
+}
+
+/// Files whose names are no UTF-8 do not share the name beside them.
+#[test]
+fn names_of_any_bytes_are_kept_apart() {
+    let folder = folder("bytes");
+    let file = folder.join(OsStr::from_bytes(b"a\xFF"));
+    fs::copy("samples/forest.sheet", &file).unwrap();
+    // What another file's keeper would write; as a folder it cannot be removed.
+    for other in [
+        b".a\xFE.keeper-new".as_slice(),
+        ".a\u{FFFD}.keeper-new".as_bytes(),
+    ] {
+        fs::create_dir(folder.join(OsStr::from_bytes(other))).unwrap();
+    }
+    let status = keeper().arg("change").arg(&file).arg(THERE).status();
+    assert_eq!(status.unwrap().code(), Some(0));
+    assert!(fs::read(&file).unwrap() != fs::read("samples/forest.sheet").unwrap());
     let _ = fs::remove_dir_all(folder);
 }

@@ -16,7 +16,7 @@ const CALLS: [&str; 12] = [
     "read",
     "unlink",
     "fchmod",
-    "chown",
+    "fchown",
     "write",
     "fsync",
     "close",
@@ -81,6 +81,40 @@ fn at_every_call(name: &str, what: &str) -> Vec<(Option<i32>, bool)> {
     }
     let _ = fs::remove_dir_all(folder);
     ends
+}
+
+/// Owner and rights are set through the open file, which nobody else may read
+/// before, and never by a name, behind which a link could have been put.
+#[test]
+fn a_save_sets_owner_and_rights_of_the_open_file_alone() {
+    if !has_strace() {
+        return;
+    }
+    let folder = folder("handle");
+    let file = copied(&folder, "forest.sheet");
+    let calls = folder.join("calls");
+    let status = Command::new("strace")
+        .args(["-f", "-e", "trace=%desc,%file", "-o"])
+        .arg(&calls)
+        .args([env!("CARGO_BIN_EXE_keeper"), "change", &file, THERE])
+        .stdout(Stdio::null())
+        .status();
+    assert!(status.unwrap().success());
+    let calls = fs::read_to_string(&calls).unwrap();
+    let new = |line: &&str| line.contains(".forest.sheet.keeper-new");
+    let by_name: Vec<&str> = calls.lines().filter(new).collect();
+    assert_eq!(by_name.len(), 3, "removed, made and renamed: {by_name:?}");
+    assert!(by_name[0].contains("unlink"), "{by_name:?}");
+    assert!(
+        by_name[1].contains("O_EXCL") && by_name[1].contains(", 0600)"),
+        "{by_name:?}"
+    );
+    assert!(by_name[2].contains("rename"), "{by_name:?}");
+    assert!(
+        calls.contains("fchown(") && calls.contains("fchmod("),
+        "{calls}"
+    );
+    let _ = fs::remove_dir_all(folder);
 }
 
 #[test]

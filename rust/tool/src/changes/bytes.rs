@@ -1,7 +1,7 @@
 //! A change as the bytes that the keeper reads (docs/FORMAT.md).
 
-use super::{Change, NOWHERE};
-use crate::rows::{Schema, Table};
+use super::{Block, Change, NOWHERE};
+use crate::rows::{RowId, Schema, Table};
 use crate::sheet::{attribute_fields, class_fields, field};
 use crate::text::{Names, attribute, class};
 use sheet_text::Source;
@@ -13,11 +13,7 @@ pub fn bytes(change: &Change, schema: &Schema) -> Result<Vec<u8>, String> {
     let number = |table, name: &str| number(schema, table, name).to_be_bytes();
     let target = |table, name: &str| field(0x20, &number(table, name));
     let (tag, value) = match change {
-        Change::Add {
-            table,
-            block,
-            above,
-        } => return added(*table, block, *above, schema),
+        Change::Add { table, block } => return added(*table, block, schema),
         Change::Range { name, lower, upper } => {
             let ends = [end(0x0A, *lower)?, end(0x0B, *upper)?].concat();
             (0x42, [target(Table::Attributes, name)?, ends].concat())
@@ -65,17 +61,25 @@ fn number(schema: &Schema, table: Table, name: &str) -> u16 {
         .unwrap_or(NOWHERE)
 }
 
-/// An added row; a fault is told by its line in the file of changes.
-fn added(table: Table, block: &str, above: usize, schema: &Schema) -> Result<Vec<u8>, String> {
-    let lines = "\n".repeat(above) + block;
-    let sources = Source::all(&lines).map_err(|fault| fault.to_string())?;
-    let source = sources.first().ok_or_else(|| "no row".to_owned())?;
-    if let Some(second) = sources.get(1) {
-        return Err(second.head.fault("a second row in one change").to_string());
+/// The names of all rows and of a class that is to be added, which may name itself:
+/// the first class stands under itself.
+fn names_with(source: &Source, schema: &Schema) -> Names {
+    let mut names = Names::of(schema);
+    if let Ok((name, _)) = source.head() {
+        names.insert(RowId::class(schema.classes.len()), name);
     }
+    names
+}
+
+/// An added row; a fault is told by its line in the list of changes.
+fn added(table: Table, block: &Block, schema: &Schema) -> Result<Vec<u8>, String> {
+    let source = block.source().map_err(|fault| fault.to_string())?;
     let row = match table {
-        Table::Attributes => attribute(source).map(|row| (0x40, attribute_fields(&row))),
-        Table::Classes => class(source, &Names::of(schema)).map(|row| (0x41, class_fields(&row))),
+        Table::Attributes => attribute(&source).map(|row| (0x40, attribute_fields(&row))),
+        Table::Classes => {
+            let names = names_with(&source, schema);
+            class(&source, &names).map(|row| (0x41, class_fields(&row)))
+        }
     };
     let (tag, value) = row.map_err(|fault| fault.to_string())?;
     field(tag, &value?)

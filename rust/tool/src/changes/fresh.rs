@@ -8,20 +8,16 @@ use std::io::{self, Read};
 /// Changes in which each line `guid new` has got a GUID of its own.
 pub fn with_guids(mut changes: Vec<Change>) -> Result<Vec<Change>, String> {
     for change in &mut changes {
-        if let Change::Add { block, .. } = change {
-            let lines: Result<Vec<String>, io::Error> = block.lines().map(with_guid).collect();
-            let lines = lines.map_err(|error| format!("no new GUID can be had: {error}"))?;
-            *block = lines.join("\n") + "\n";
+        let Change::Add { block, .. } = change else {
+            continue;
+        };
+        let asks = |line: &&mut String| line.split_whitespace().eq(["guid", "new"]);
+        for line in block.lines_mut().filter(asks) {
+            let guid = random().map_err(|error| format!("no new GUID can be had: {error}"))?;
+            *line = format!("guid {}", guid_text(&guid));
         }
     }
     Ok(changes)
-}
-
-fn with_guid(line: &str) -> Result<String, io::Error> {
-    match line.split_whitespace().eq(["guid", "new"]) {
-        true => Ok(format!("guid {}", guid_text(&random()?))),
-        false => Ok(line.to_owned()),
-    }
 }
 
 /// A GUID of version 4 (RFC 9562): random but for the bits that say so.

@@ -2,11 +2,13 @@
 //! that a refusal can be told in words.
 
 mod after;
+mod block;
 mod bytes;
 mod fresh;
 mod parse;
 
 pub use after::after;
+pub use block::Block;
 pub use bytes::bytes;
 pub use fresh::with_guids;
 pub use parse::{parse_file, parse_words};
@@ -25,9 +27,7 @@ pub enum Change {
         /// To which table.
         table: Table,
         /// Head and lines of the row.
-        block: String,
-        /// The line at which it begins in the file of changes, less one.
-        above: usize,
+        block: Block,
     },
     /// An attribute's range to be set; an end that is not given becomes absent.
     Range {
@@ -73,10 +73,7 @@ impl Change {
     /// The change in one line of words.
     pub fn words(&self) -> String {
         match self {
-            Change::Add { block, .. } => {
-                let head = block.lines().find(|line| !line.trim().is_empty());
-                format!("add {}", head.unwrap_or_default().trim())
-            }
+            Change::Add { block, .. } => format!("add {}", block.head()),
             Change::Range { name, lower, upper } => {
                 format!(
                     "range attribute {name} {} {}",

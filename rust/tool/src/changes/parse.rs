@@ -1,32 +1,25 @@
 //! Words as changes.
 
-use super::{Change, LISTS};
+use super::{Block, Change, LISTS};
 use crate::rows::{List, Table};
 
-/// The changes of a file: a line each, but for added rows, whose lines follow.
-/// A fault is told with its line.
+/// The changes of a file, in which `#` begins a comment.
 pub fn parse_file(text: &str) -> Result<Vec<Change>, String> {
+    let said = text.lines().map(|line| line.split('#').next());
+    parse_lines(said.map(Option::unwrap_or_default))
+}
+
+/// The changes of lines without comments: a line each, but for added rows, whose
+/// lines follow. A fault is told with its line.
+fn parse_lines<'a>(lines: impl Iterator<Item = &'a str>) -> Result<Vec<Change>, String> {
     let mut changes: Vec<Change> = Vec::new();
-    for (above, line) in text.lines().enumerate() {
-        let said = line.split('#').next().unwrap_or_default();
-        let words: Vec<_> = said.split_whitespace().collect();
-        let fault = |fault: String| format!("line {}: {fault}", above + 1);
+    for (at, line) in (1..).zip(lines) {
+        let words: Vec<_> = line.split_whitespace().collect();
+        let fault = |fault: String| format!("line {at}: {fault}");
         match (words.first(), changes.last_mut()) {
             (None, _) => {}
-            (Some(word), _) if is_verb(word) => changes.push(change(&words, above).map_err(fault)?),
-            (
-                _,
-                Some(Change::Add {
-                    block,
-                    above: start,
-                    ..
-                }),
-            ) => {
-                // Lines that said nothing are kept, so that faults name the right one.
-                let count = above - *start - block.lines().count();
-                block.push_str(&"\n".repeat(count));
-                block.push_str(&format!("{said}\n"));
-            }
+            (Some(word), _) if is_verb(word) => changes.push(change(&words, at).map_err(fault)?),
+            (_, Some(Change::Add { block, .. })) => block.push(at, line),
             _ => return Err(fault(unknown(&words))),
         }
     }
@@ -34,7 +27,8 @@ pub fn parse_file(text: &str) -> Result<Vec<Change>, String> {
 }
 
 /// The changes of a command line: one change in words, or each in quotes. A
-/// semicolon ends a line of an added row.
+/// semicolon ends a line of an added row; there are no comments, so that a word
+/// with `#` in it is never cut.
 pub fn parse_words(words: &[String]) -> Result<Vec<Change>, String> {
     let quoted = words
         .first()
@@ -55,7 +49,7 @@ pub fn parse_words(words: &[String]) -> Result<Vec<Change>, String> {
 
 /// The changes of one piece of a command line.
 fn one(text: &str) -> Result<Vec<Change>, String> {
-    let changes = parse_file(&text.replace(';', "\n"));
+    let changes = parse_lines(text.split([';', '\n']));
     changes.map_err(|fault| match fault.split_once(": ") {
         Some(("line 1", rest)) => rest.to_owned(),
         _ => fault,
@@ -76,16 +70,13 @@ fn is_verb(word: &str) -> bool {
     VERBS.contains(&word)
 }
 
-fn change(words: &[&str], above: usize) -> Result<Change, String> {
+fn change(words: &[&str], at: usize) -> Result<Change, String> {
     let own = |word: &&str| (*word).to_owned();
     match words {
         ["add", word @ ("attribute" | "class"), head @ ..] => {
-            let (table, block) = (table(word)?, format!("{word} {}\n", head.join(" ")));
-            Ok(Change::Add {
-                table,
-                block,
-                above,
-            })
+            let (table, mut block) = (table(word)?, Block::default());
+            block.push(at, &format!("{word} {}", head.join(" ")));
+            Ok(Change::Add { table, block })
         }
         [verb @ ("add" | "remove"), word, class, entry] => {
             let list = LISTS.iter().find(|(known, _)| known == word);

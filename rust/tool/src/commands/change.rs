@@ -5,7 +5,7 @@ use super::{Command, Io};
 use crate::arguments::{Arguments, text};
 use crate::changes::{Change, parse_file, parse_words, with_guids};
 use crate::failure::Failure;
-use crate::input::{Form, Given, LONGEST};
+use crate::input::{Form, Given, LONGEST, read_text};
 use crate::opened::Opened;
 use crate::save::Locked;
 use std::ffi::{OsStr, OsString};
@@ -33,13 +33,15 @@ row `guid new` stands for a new GUID.
 All changes are made, or none: at the first that is refused nothing is saved.
 With --each those that are accepted are saved. --dry-run saves nothing. --whole
 makes each change by the call that judges the whole schema; without it only the
-changed row is judged, which is proved to give the same. CHANGES may be -.
+changed row is judged, which is proved to give the same. CHANGES may be -, and
+may hold no change, as keeper diff prints none where nothing differs.
 
 FILE, a sheet or the text form, is replaced only when all is done, by a new file
 that is flushed and renamed: a cut of power leaves the old or the new one.
 Comments of the text form stay. LDIF is not changed: import it first.
 
-Exit codes: 0 all made, 1 a change was refused, 2 cannot be read or used.
+Exit codes: 0 all made, 1 a change was refused, 2 cannot be read or used, also
+where that is only one of the changes.
 
 Example:
 
@@ -63,15 +65,14 @@ fn act(arguments: &Arguments, io: &mut Io) -> Result<(), Failure> {
         ))
     };
     let (path, words) = arguments.operands.split_first().ok_or_else(usage)?;
-    let changes = asked_for(arguments, words, io)?;
-    if changes.is_empty() {
-        return Err(usage());
-    }
     let is_dry = arguments.has("--dry-run");
-    if path == "-" && !is_dry {
-        return Err(Failure::unusable(
-            "standard input cannot be saved: name a file, or use --dry-run",
-        ));
+    let list = arguments.value("--from");
+    if path == "-" {
+        one_input(is_dry, list)?;
+    }
+    let changes = asked_for(list, words, io)?;
+    if changes.is_empty() && list.is_none() {
+        return Err(usage());
     }
     let locked = if is_dry {
         None
@@ -88,17 +89,30 @@ fn act(arguments: &Arguments, io: &mut Io) -> Result<(), Failure> {
     session.finish(&tally, locked.as_ref(), io)
 }
 
-/// The changes of the command line and of the file that it names.
+/// Whether the schema can be standard input.
+fn one_input(is_dry: bool, list: Option<&OsStr>) -> Result<(), Failure> {
+    match (is_dry, list) {
+        (false, _) => Err(Failure::unusable(
+            "standard input cannot be saved: name a file, or use --dry-run",
+        )),
+        (true, Some(list)) if list == "-" => Err(Failure::unusable(
+            "only one of CHANGES and FILE can be standard input",
+        )),
+        _ => Ok(()),
+    }
+}
+
+/// The changes of a file, if any, and of the command line.
 fn asked_for(
-    arguments: &Arguments,
+    list: Option<&OsStr>,
     words: &[OsString],
     io: &mut Io,
 ) -> Result<Vec<Change>, Failure> {
     let mut changes = Vec::new();
-    if let Some(path) = arguments.value("--from") {
-        let given = Given::read(path, io.input)?;
-        let read = parse_file(&given.text());
-        changes = read.map_err(|fault| Failure::unusable(format!("{}: {fault}", given.name)))?;
+    if let Some(path) = list {
+        let (name, text) = read_text(path, io.input)?;
+        let fault = |fault: String| Failure::unusable(format!("{name}: {fault}"));
+        changes = parse_file(&text).map_err(fault)?;
     }
     if !words.is_empty() {
         let words: Vec<String> = words

@@ -14,8 +14,8 @@ pub const COMMAND: Command = Command {
     help: "Rows with one schemaIDGUID count as the same row. The changes are printed as
 keeper change --from takes them; each was made to OLD by the keeper, in this
 order. What no change can do, or what the keeper refuses, stands behind # and
-`cannot be changed`, and gives exit code 1. Where nothing differs, nothing is
-printed.
+`cannot be changed`, and gives exit code 1; so does another order of the rows,
+among which an added row comes last. Where nothing differs, nothing is printed.
 
 Example:
 
@@ -37,9 +37,9 @@ fn act(arguments: &Arguments, io: &mut Io) -> Result<(), Failure> {
     }
     let old = Opened::read(old, io.input)?;
     let new = Opened::read(new, io.input)?;
-    let played = played(&old.schema, old.stores, &new.schema)?;
+    let played = played(&old.schema, &old.stores, &new.schema)?;
     let changes = played.changes.iter().map(|change| match change {
-        Change::Add { block, .. } => format!("add {block}"),
+        Change::Add { block, .. } => format!("add {}", block.text()),
         _ => format!("{}\n", change.words()),
     });
     let left = played

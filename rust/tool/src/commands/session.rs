@@ -13,8 +13,13 @@ use crate::text::patched;
 use crate::words::printable;
 use std::collections::BTreeSet;
 
-/// Why a change was not made: the keeper's number, where it was asked, and words.
-type Refusal = (Option<u64>, String);
+/// Why a change was not made, in a line.
+enum Refusal {
+    /// The keeper refused it with this number.
+    Refused(u64, String),
+    /// It cannot be asked of the keeper at all.
+    Unusable(String),
+}
 
 /// A schema while changes are made to it.
 pub struct Session {
@@ -32,6 +37,8 @@ pub struct Tally {
     refused: usize,
     /// The numbers that refused.
     numbers: BTreeSet<u64>,
+    /// Whether something could not be asked of the keeper.
+    unusable: bool,
     /// Whether what was made counts where something was refused.
     each: bool,
 }
@@ -42,10 +49,29 @@ impl Tally {
         self.made > 0 && (self.refused == 0 || self.each)
     }
 
-    /// Where more can be read about what was refused.
-    fn advice(&self) -> String {
+    /// Counts a change that was not made and gives the line that says so.
+    fn refuse(&mut self, refusal: Refusal) -> String {
+        self.refused += 1;
+        match refusal {
+            Refusal::Refused(number, line) => {
+                self.numbers.insert(number);
+                format!("refused {line}\n")
+            }
+            Refusal::Unusable(line) => {
+                self.unusable = true;
+                format!("cannot be used: {line}\n")
+            }
+        }
+    }
+
+    /// What was refused as a failure, with where more can be read about it.
+    fn failure(&self) -> Failure {
         let explain = |number: &u64| format!("keeper explain {number} says what can be done\n");
-        self.numbers.iter().map(explain).collect()
+        let advice: String = self.numbers.iter().map(explain).collect();
+        match self.unusable {
+            true => Failure::Unusable(advice + "keeper change --help says how a change is written"),
+            false => Failure::Refused(advice),
+        }
     }
 }
 
@@ -79,10 +105,8 @@ impl Session {
                     tally.made += 1;
                     io.say(&printable(&format!("done: {line}\n")))?;
                 }
-                Err((number, line)) => {
-                    tally.refused += 1;
-                    tally.numbers.extend(number);
-                    io.say(&printable(&format!("refused {line}\n")))?;
+                Err(refusal) => {
+                    io.say(&printable(&tally.refuse(refusal)))?;
                     if !each {
                         break;
                     }
@@ -92,21 +116,18 @@ impl Session {
         Ok(tally)
     }
 
-    /// Makes one change: what was done, or why not, with the keeper's number.
+    /// Makes one change: what was done, or why not.
     fn one(&mut self, change: &Change) -> Result<Result<String, Refusal>, Failure> {
         let words = change.words();
         let bytes = match bytes(change, &self.schema) {
             Ok(bytes) => bytes,
-            Err(fault) => {
-                let line = format!("before the keeper was asked: {words}: {fault}");
-                return Ok(Err((None, line)));
-            }
+            Err(fault) => return Ok(Err(Refusal::Unusable(format!("{words}: {fault}")))),
         };
         let answer = self.stores.change(&bytes, self.whole);
         if answer.number != keeper::DONE {
             let detail = asked(answer, change, &bytes, &self.schema, &self.stores);
             let line = format!("{} ({words})", headline(answer.number, &detail));
-            return Ok(Err((Some(answer.number), line)));
+            return Ok(Err(Refusal::Refused(answer.number, line)));
         }
         let row = change.target(&self.schema);
         self.schema = held(&self.stores)?;
@@ -125,7 +146,7 @@ impl Session {
         io.out.flush()?;
         let locked_to_save = locked.filter(|_| tally.counts());
         if let Some(locked) = locked_to_save {
-            locked.replace(&self.rewritten()?)?;
+            locked.replace(&self.rewritten()?, io.err)?;
         }
         let Tally { made, refused, .. } = tally;
         let words = match (locked_to_save.is_some(), tally.counts()) {
@@ -142,7 +163,7 @@ impl Session {
             Err(_) if locked_to_save.is_some() => Err(Failure::unusable(format!(
                 "{name}: {words}, but the output cannot be written"
             ))),
-            Ok(()) if *refused > 0 => Err(Failure::Refused(tally.advice())),
+            Ok(()) if *refused > 0 => Err(tally.failure()),
             told => told,
         }
     }

@@ -4,7 +4,8 @@ use super::keys::{Key, keys, keys_of};
 use crate::rows::{Attribute, Class, Common, List, RowId, Schema, Table};
 use crate::words::{dotted, hex};
 
-/// All differences between two schemas that no change can make, in words.
+/// All differences between two schemas that no change can make, in words. The first
+/// is the one that changes have led to, so that added rows are compared too.
 pub fn fixed(old: &Schema, new: &Schema) -> Vec<String> {
     let mut words = Vec::new();
     for table in [Table::Attributes, Table::Classes] {

@@ -1,7 +1,8 @@
 //! The differences that changes can make, one step each.
 
 use super::keys::{Key, keys, keys_of};
-use crate::changes::Change;
+use crate::changes::{Block, Change};
+use crate::refusal::named;
 use crate::rows::{List, RowId, Schema, Table};
 use crate::text::block;
 
@@ -112,7 +113,7 @@ impl Step {
     /// where a row that it needs is not there yet.
     pub fn change(&self, now: &Schema, new: &Schema) -> Option<Change> {
         match self {
-            Step::Add(key, with_lists) => added(new, *key, *with_lists),
+            Step::Add(key, with_lists) => added(now, new, *key, *with_lists),
             Step::Rename(key, to) => {
                 let (name, to) = (key.name(now)?, to.clone());
                 Some(Change::Rename {
@@ -145,9 +146,9 @@ impl Step {
 }
 
 /// A row of the new schema as an addition: active, for only then can it be added.
-fn added(new: &Schema, key: Key, with_lists: bool) -> Option<Change> {
+fn added(now: &Schema, new: &Schema, key: Key, with_lists: bool) -> Option<Change> {
     let row = key.row(new)?;
-    let mut schema = new.clone();
+    let mut schema = in_names_of(now, new);
     schema.common_mut(row)?.defunct = false;
     if let Some(class) = schema
         .classes
@@ -156,9 +157,28 @@ fn added(new: &Schema, key: Key, with_lists: bool) -> Option<Change> {
     {
         OPEN.iter().for_each(|list| class.list_mut(*list).clear());
     }
-    Some(Change::Add {
+    let class = schema.classes.get(row.number);
+    let class = class.filter(|_| key.table == Table::Classes);
+    let is_there = |(named, _): &(RowId, String)| {
+        let key = Key::of(new, *named);
+        *named == row || key.is_some_and(|key| key.row(now).is_some())
+    };
+    let all_there = class.map(named).unwrap_or_default().iter().all(is_there);
+    all_there.then(|| Change::Add {
         table: key.table,
-        block: block(&schema, row),
-        above: 0,
+        block: Block::of(&block(&schema, row)),
     })
+}
+
+/// The new schema, its rows under the names that they have now, where they are
+/// there: a name of the new schema may be another row's until that is renamed.
+fn in_names_of(now: &Schema, new: &Schema) -> Schema {
+    let mut schema = new.clone();
+    for row in new.rows() {
+        let held = Key::of(new, row).and_then(|key| now.common(key.row(now)?));
+        if let (Some(held), Some(common)) = (held, schema.common_mut(row)) {
+            common.name.clone_from(&held.name);
+        }
+    }
+    schema
 }

@@ -106,7 +106,9 @@ impl Layout {
         }
     }
 
-    /// Places a class and all under it from a height down; how much they take.
+    /// Places a class and all under it from a height down; how much they take. A
+    /// box stays within that, also where those under it have their middle near an
+    /// edge.
     fn place(&mut self, schema: &Schema, class: usize, top: usize) -> usize {
         let own = self.spots[class].height + GAP;
         let children = children(schema, class);
@@ -114,22 +116,19 @@ impl Layout {
         for child in &children {
             below += self.place(schema, *child, below);
         }
-        let taken = below - top;
-        if taken < own {
-            for child in &children {
-                self.shift(schema, *child, (own - taken) / 2);
-            }
+        let taken = (below - top).max(own);
+        let spare = top + taken - below;
+        for child in &children {
+            self.shift(schema, *child, spare / 2);
         }
-        let middles: Vec<usize> = children
-            .iter()
-            .map(|child| self.spots[*child].middle)
-            .collect();
-        self.spots[class].middle = match middles.as_slice() {
-            [first, .., last] if taken >= own => (first + last) / 2,
-            [only] if taken >= own => *only,
-            _ => top + own / 2,
-        };
-        taken.max(own)
+        let middle = |child: &usize| self.spots[*child].middle;
+        let ends = children
+            .first()
+            .map(middle)
+            .zip(children.last().map(middle));
+        let middle = ends.map_or(top, |(first, last)| (first + last) / 2);
+        self.spots[class].middle = middle.clamp(top + own / 2, top + taken - own / 2);
+        taken
     }
 
     fn shift(&mut self, schema: &Schema, class: usize, by: usize) {

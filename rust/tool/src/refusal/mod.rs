@@ -6,6 +6,7 @@ mod named;
 mod rules;
 
 pub use asked::asked;
+pub use named::named;
 pub use rules::broken;
 
 use crate::numbers;
