@@ -24,6 +24,23 @@ fn a_schema_is_accepted_in_each_form() {
     );
 }
 
+/// A stray control byte makes no sheet of a text, and the ^Z with which DOS ends
+/// one says nothing.
+#[test]
+fn a_text_may_hold_control_bytes() {
+    let checked = |text: &str| fed(&["check", "-"], text.as_bytes());
+    for text in [
+        format!("{CN}{TOP}\x1A"),
+        format!("{CN}# a \x07 bell\n{TOP}"),
+    ] {
+        let ran = checked(&text);
+        assert_eq!((ran.code, ran.err.as_str()), (0, ""), "{text:?}");
+    }
+    let ran = checked(&format!("{CN}{TOP} \x07\n"));
+    let words = "standard input: line 9: \\u{7}: not a line of this row\n";
+    assert_eq!((ran.code, ran.err.as_str()), (2, words));
+}
+
 #[test]
 fn the_accident_is_told_with_both_rivals() {
     let words = refused(1, &["check", "samples/refused.sheet"]);

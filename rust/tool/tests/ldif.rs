@@ -165,6 +165,14 @@ fn lines_are_folded_and_comments_passed_over() {
 }
 
 #[test]
+fn ldif_that_begins_with_a_folded_comment_is_ldif() {
+    let text = format!("# a long comment\n goes on\n  and on\n{CN}\n{TOP}");
+    let ran = fed(&["check", "-"], text.as_bytes());
+    assert_eq!((ran.code, ran.err.as_str()), (0, ""));
+    assert_eq!(import(&text, &[]).code, 0);
+}
+
+#[test]
 fn what_does_not_fit_is_told_by_entry_and_line() {
     let all = format!("{CN}\n{TOP}\n{PERSON}");
     let changed = |from: &str, to: &str| import_fault(&all.replacen(from, to, 1));

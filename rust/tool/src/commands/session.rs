@@ -156,11 +156,12 @@ impl Session {
         }
         let name = self.given.name.clone();
         let text = patched(&self.given.text(), &self.before, &self.schema);
-        let again = Given::of(name.clone(), text.clone().into_bytes())?;
+        let text = self.given.in_place(&text);
+        let again = Given::of(name.clone(), text.clone())?;
         let (again, _) = sheet_of(&again)?;
         let again = Stores::load(&again).and_then(|stores| stores.sheet());
         match again == Ok(sheet) {
-            true => Ok(text.into_bytes()),
+            true => Ok(text),
             false => Err(Failure::unusable(format!(
                 "{name}: the text cannot be rewritten, so it is as it was"
             ))),
