@@ -226,7 +226,8 @@ fn lines_that_are_no_ldif_are_told() {
     );
     assert_eq!(
         import_fault("dn: DC=x\nobjectClass: dMD\n"),
-        "standard input: no entry is an attributeSchema or a classSchema"
+        "standard input: line 1: passed over: neither attributeSchema nor classSchema
+standard input: no entry is an attributeSchema or a classSchema"
     );
     assert_eq!(
         fed(&["import", "-"], b"class top\n").err,
@@ -242,6 +243,39 @@ fn other_entries_and_changes_are_passed_over_and_told() {
 standard input: line 22: passed over: a change of type modify
 ";
     assert_eq!((ran.code, ran.err.as_str()), (0, expected));
+    // Whichever command reads them.
+    let text = format!("{CN}\n{TOP}\n{other}");
+    for words in [
+        vec!["check", "-"],
+        vec!["show", "-", "cn"],
+        vec!["diff", "-", FOREST],
+        vec!["change", "--dry-run", "-", "range attribute cn 0 5"],
+    ] {
+        assert_eq!(
+            fed(&words, text.as_bytes())
+                .err
+                .lines()
+                .take(2)
+                .collect::<Vec<_>>(),
+            expected.lines().collect::<Vec<_>>(),
+            "{words:?}"
+        );
+    }
+}
+
+#[test]
+fn additions_in_the_directory_s_own_files_are_taken() {
+    let added = |text: &str| text.replacen("\nobject", "\nchangetype: ntdsSchemaAdd\nobject", 1);
+    let ran = import(&format!("{}\n{}", added(CN), added(TOP)), &[]);
+    assert_eq!((ran.code, ran.err.as_str()), (0, ""));
+    assert!(ran.text().contains("attribute cn ") && ran.text().contains("class top "));
+    // Where nothing is left, what was passed over is told first.
+    let gone = CN.replacen("\nobject", "\nchangetype: delete\nobject", 1);
+    assert_eq!(
+        import_fault(&gone),
+        "standard input: line 1: passed over: a change of type delete
+standard input: no entry is an attributeSchema or a classSchema"
+    );
 }
 
 #[test]

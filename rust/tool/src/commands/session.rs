@@ -158,7 +158,7 @@ impl Session {
         let text = patched(&self.given.text(), &self.before, &self.schema);
         let text = self.given.in_place(&text);
         let again = Given::of(name.clone(), text.clone())?;
-        let (again, _) = sheet_of(&again)?;
+        let (again, _) = sheet_of(&again, &mut std::io::sink())?;
         let again = Stores::load(&again).and_then(|stores| stores.sheet());
         match again == Ok(sheet) {
             true => Ok(text),

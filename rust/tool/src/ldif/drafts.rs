@@ -46,8 +46,6 @@ pub struct Drafts {
     pub attributes: Vec<AttributeDraft>,
     /// The classes.
     pub classes: Vec<ClassDraft>,
-    /// What was passed over, in words.
-    pub notes: Vec<String>,
 }
 
 /// The attributes of LDIF that hold a class's lists.
@@ -64,20 +62,18 @@ pub const LISTS: [(&str, List); 8] = [
 
 /// The rows of records; entries that are no rows, and changes that are no
 /// additions, are passed over and noted.
-pub fn drafts(records: &[Record]) -> Result<Drafts, String> {
+pub fn drafts(records: &[Record], notes: &mut Vec<String>) -> Result<Drafts, String> {
     let mut drafts = Drafts::default();
     for record in records {
         let change = record.first("changetype").map(Value::text);
-        let is_added = change
-            .as_ref()
-            .is_none_or(|change| change.eq_ignore_ascii_case("add"));
+        let is_added = change.as_ref().is_none_or(|change| is_addition(change));
         if let Some(change) = change.filter(|_| !is_added) {
             let words = format!(
                 "line {}: passed over: a change of type {}",
                 record.line(),
                 change.escape_default()
             );
-            drafts.notes.push(words);
+            notes.push(words);
         } else if is_kind(record, "attributeschema", "attributeid") {
             drafts.attributes.push(attribute(record)?);
         } else if is_kind(record, "classschema", "governsid") {
@@ -87,10 +83,18 @@ pub fn drafts(records: &[Record]) -> Result<Drafts, String> {
                 "line {}: passed over: neither attributeSchema nor classSchema",
                 record.line()
             );
-            drafts.notes.push(words);
+            notes.push(words);
         }
     }
     Ok(drafts)
+}
+
+/// Whether a change adds its entry: `add`, or `ntdsSchemaAdd`, as Active
+/// Directory's own files of schema changes have it.
+fn is_addition(change: &str) -> bool {
+    ["add", "ntdsSchemaAdd"]
+        .iter()
+        .any(|known| known.eq_ignore_ascii_case(change))
 }
 
 /// Whether an entry says that it is of a class; where it has no objectClass,

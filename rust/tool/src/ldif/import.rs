@@ -14,14 +14,12 @@ pub struct Import {
     pub schema: Schema,
     /// The line of each row's entry.
     pub lines: Lines,
-    /// What was passed over, in words.
-    pub notes: Vec<String>,
 }
 
 /// The rows of a text of LDIF, or only those that some names need. What does not
-/// fit is told by entry and line.
-pub fn import(text: &str, only: &[String]) -> Result<Import, String> {
-    let drafts = drafts(&records(text)?)?;
+/// fit is told by entry and line; what is passed over is noted, in words.
+pub fn import(text: &str, only: &[String], notes: &mut Vec<String>) -> Result<Import, String> {
+    let drafts = drafts(&records(text)?, notes)?;
     if drafts.attributes.is_empty() && drafts.classes.is_empty() {
         return Err("no entry is an attributeSchema or a classSchema".to_owned());
     }
@@ -34,7 +32,6 @@ pub fn import(text: &str, only: &[String]) -> Result<Import, String> {
     let mut import = Import {
         schema: Schema::default(),
         lines: Lines::default(),
-        notes: drafts.notes.clone(),
     };
     for number in &order.attributes {
         let draft = &drafts.attributes[*number];
@@ -50,7 +47,7 @@ pub fn import(text: &str, only: &[String]) -> Result<Import, String> {
             .push(class(draft, &index, &order, &mut left_out)?);
         import.lines.classes.push(draft.line);
     }
-    import.notes.extend(match left_out {
+    notes.extend(match left_out {
         0 => None,
         1 => Some("1 possible superior left out: its class is not taken".to_owned()),
         _ => Some(format!(
