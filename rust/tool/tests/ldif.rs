@@ -311,6 +311,32 @@ fn only_what_is_needed_is_taken() {
 }
 
 #[test]
+fn only_asks_nothing_of_entries_that_are_not_taken() {
+    let other = CN
+        .replace("cn\n", "wide\n")
+        .replace("2.5.4.3\n", "2.5.4.4\n");
+    let ranged = format!("{other}rangeUpper: 4294967295\n");
+    let bare = TOP
+        .replace("top\ng", "bare\ng")
+        .replace("schemaIDGUID:: t3qWv+YN0BGihQCqADBJ4g==\n", "");
+    let person = format!("{PERSON}possSuperiors: nowhere\n");
+    let all = format!("{CN}\n{TOP}\n{ranged}\n{bare}\n{person}");
+    let ran = import(&all, &["--only", "person"]);
+    let left_out = "standard input: 1 possible superior left out: its class is not taken\n";
+    assert_eq!((ran.code, ran.err.as_str()), (0, left_out));
+    assert!(ran.text().contains("class person "), "{}", ran.text());
+    // What is taken must be sound, by its name and by its identifier.
+    let fault = "standard input: line 28: entry `wide`: rangeUpper: not a number that fits\n";
+    assert_eq!(import(&all, &["--only", "wide"]).err, fault);
+    assert_eq!(import(&all, &["--only", "2.5.4.4"]).err, fault);
+    assert_eq!(
+        import(&all, &["--only", "bare"]).err,
+        "standard input: line 30: entry `bare`: schemaIDGUID is missing\n"
+    );
+    assert_eq!(import(&all, &[]).err, fault);
+}
+
+#[test]
 fn a_refused_schema_is_told_by_its_line_and_printed_only_if_asked_for() {
     let many = format!("{}\n{TOP}\n{PERSON}", CN.replace("TRUE", "FALSE"));
     let refusal = "standard input: refused, row at line 19

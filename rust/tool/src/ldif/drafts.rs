@@ -2,7 +2,7 @@
 
 use super::entry::Entry;
 use super::records::{Record, Value};
-use crate::rows::{Attribute, Class, List};
+use crate::rows::{Attribute, Class, Common, List, RowId, Table};
 
 /// A name by which a class names a row.
 #[derive(Clone, Debug)]
@@ -18,25 +18,30 @@ pub struct Reference {
 /// An attribute with its line.
 #[derive(Clone, Debug)]
 pub struct AttributeDraft {
-    /// Its row.
+    /// Its row; where the entry has a fault, only name and identifier.
     pub row: Attribute,
     /// The line of its entry.
     pub line: usize,
+    /// Why the entry is no row; it matters only if the row is taken.
+    pub fault: Option<String>,
 }
 
 /// A class with its line and what it names.
 #[derive(Clone, Debug)]
 pub struct ClassDraft {
-    /// Its row, without what it names.
+    /// Its row, without what it names; where the entry has a fault, only name and
+    /// identifier.
     pub row: Class,
-    /// Its superclass.
-    pub superclass: Reference,
+    /// Its superclass; an entry without one has a fault.
+    pub superclass: Option<Reference>,
     /// Its naming attribute.
     pub naming: Option<Reference>,
     /// The entries of its lists.
     pub lists: Vec<(List, Reference)>,
     /// The line of its entry.
     pub line: usize,
+    /// Why the entry is no row; it matters only if the row is taken.
+    pub fault: Option<String>,
 }
 
 /// The rows of a text, in its order.
@@ -46,6 +51,23 @@ pub struct Drafts {
     pub attributes: Vec<AttributeDraft>,
     /// The classes.
     pub classes: Vec<ClassDraft>,
+}
+
+impl Drafts {
+    /// The fault of a row's entry, with the line of the entry.
+    pub fn fault(&self, row: RowId) -> Option<(usize, &str)> {
+        let (line, fault) = match row.table {
+            Table::Attributes => {
+                let draft = self.attributes.get(row.number)?;
+                (draft.line, &draft.fault)
+            }
+            Table::Classes => {
+                let draft = self.classes.get(row.number)?;
+                (draft.line, &draft.fault)
+            }
+        };
+        Some((line, fault.as_deref()?))
+    }
 }
 
 /// The attributes of LDIF that hold a class's lists.
@@ -62,7 +84,7 @@ pub const LISTS: [(&str, List); 8] = [
 
 /// The rows of records; entries that are no rows, and changes that are no
 /// additions, are passed over and noted.
-pub fn drafts(records: &[Record], notes: &mut Vec<String>) -> Result<Drafts, String> {
+pub fn drafts(records: &[Record], notes: &mut Vec<String>) -> Drafts {
     let mut drafts = Drafts::default();
     for record in records {
         let change = record.first("changetype").map(Value::text);
@@ -75,9 +97,9 @@ pub fn drafts(records: &[Record], notes: &mut Vec<String>) -> Result<Drafts, Str
             );
             notes.push(words);
         } else if is_kind(record, "attributeschema", "attributeid") {
-            drafts.attributes.push(attribute(record)?);
+            drafts.attributes.push(attribute(record));
         } else if is_kind(record, "classschema", "governsid") {
-            drafts.classes.push(class(record)?);
+            drafts.classes.push(class(record));
         } else {
             let words = format!(
                 "line {}: passed over: neither attributeSchema nor classSchema",
@@ -86,7 +108,7 @@ pub fn drafts(records: &[Record], notes: &mut Vec<String>) -> Result<Drafts, Str
             notes.push(words);
         }
     }
-    Ok(drafts)
+    drafts
 }
 
 /// Whether a change adds its entry: `add`, or `ntdsSchemaAdd`, as Active
@@ -108,7 +130,39 @@ fn is_kind(record: &Record, class: &str, identifier: &str) -> bool {
     }
 }
 
-fn attribute(record: &Record) -> Result<AttributeDraft, String> {
+fn attribute(record: &Record) -> AttributeDraft {
+    let (row, fault) = match attribute_row(record) {
+        Ok(row) => (row, None),
+        Err(fault) => {
+            let common = named(record, "attributeid");
+            let row = Attribute {
+                common,
+                ..Attribute::default()
+            };
+            (row, Some(fault))
+        }
+    };
+    AttributeDraft {
+        row,
+        line: record.line(),
+        fault,
+    }
+}
+
+/// Name and identifier of an entry that has a fault, as far as they can be read.
+fn named(record: &Record, identifier: &str) -> Common {
+    let name = record.first("ldapdisplayname");
+    let identifier = record.first(identifier).map(Value::text);
+    let arcs = |text: String| text.split('.').map(|arc| arc.parse().ok()).collect();
+    let arcs: Option<Vec<u32>> = identifier.and_then(arcs);
+    Common {
+        name: name.map(|name| name.bytes.clone()).unwrap_or_default(),
+        arcs: arcs.unwrap_or_default(),
+        ..Common::default()
+    }
+}
+
+fn attribute_row(record: &Record) -> Result<Attribute, String> {
     let entry = Entry::of(record)?;
     let syntax = entry.needed("attributeSyntax")?;
     let number = syntax
@@ -118,7 +172,7 @@ fn attribute(record: &Record) -> Result<AttributeDraft, String> {
     let fault = || entry.fault(syntax.line, "attributeSyntax: not 2.5.5 and a number");
     entry.needed("oMSyntax")?;
     entry.needed("isSingleValued")?;
-    let row = Attribute {
+    Ok(Attribute {
         common: entry.common("attributeID")?,
         syntax: number.ok_or_else(fault)?,
         om_syntax: entry.number("oMSyntax")?.unwrap_or(0),
@@ -128,10 +182,6 @@ fn attribute(record: &Record) -> Result<AttributeDraft, String> {
         upper: entry.number("rangeUpper")?,
         link: entry.identity("linkID")?,
         mapi: entry.identity("mAPIID")?,
-    };
-    Ok(AttributeDraft {
-        row,
-        line: record.line(),
     })
 }
 
@@ -143,36 +193,49 @@ fn object_class(entry: &Entry) -> Result<Vec<u8>, String> {
     }
 }
 
-fn class(record: &Record) -> Result<ClassDraft, String> {
-    let entry = Entry::of(record)?;
-    let reference = |word: &'static str| {
-        let values = record
-            .values
-            .iter()
-            .filter(move |value| value.name.eq_ignore_ascii_case(word));
-        values.map(move |value| Reference {
-            name: value.text(),
-            word,
-            line: value.line,
-        })
-    };
-    entry.needed("subClassOf")?;
-    let missing = || entry.fault(record.line(), "subClassOf is missing");
-    let superclass = reference("subClassOf").next().ok_or_else(missing)?;
-    entry.needed("objectClassCategory")?;
-    let row = Class {
-        common: entry.common("governsID")?,
-        category: entry.number("objectClassCategory")?.unwrap_or(0),
-        ..Class::default()
+fn class(record: &Record) -> ClassDraft {
+    let (row, fault) = match class_row(record) {
+        Ok(row) => (row, None),
+        Err(fault) => {
+            let common = named(record, "governsid");
+            let row = Class {
+                common,
+                ..Class::default()
+            };
+            (row, Some(fault))
+        }
     };
     let lists = LISTS
         .into_iter()
-        .flat_map(|(word, list)| reference(word).map(move |name| (list, name)));
-    Ok(ClassDraft {
+        .flat_map(|(word, list)| references(record, word).map(move |name| (list, name)));
+    ClassDraft {
         row,
-        superclass,
-        naming: reference("rDNAttID").next(),
+        superclass: references(record, "subClassOf").next(),
+        naming: references(record, "rDNAttID").next(),
         lists: lists.collect(),
         line: record.line(),
+        fault,
+    }
+}
+
+/// The names that an entry has under a word.
+fn references(record: &Record, word: &'static str) -> impl Iterator<Item = Reference> {
+    let values = record.values.iter();
+    let named = values.filter(move |value| value.name.eq_ignore_ascii_case(word));
+    named.map(move |value| Reference {
+        name: value.text(),
+        word,
+        line: value.line,
+    })
+}
+
+fn class_row(record: &Record) -> Result<Class, String> {
+    let entry = Entry::of(record)?;
+    entry.needed("subClassOf")?;
+    entry.needed("objectClassCategory")?;
+    Ok(Class {
+        common: entry.common("governsID")?,
+        category: entry.number("objectClassCategory")?.unwrap_or(0),
+        ..Class::default()
     })
 }
