@@ -4,7 +4,7 @@ use crate::failure::Failure;
 use crate::input::{Form, Given};
 use crate::ldif::{self, Import};
 use crate::refusal;
-use crate::rows::{Schema, Table};
+use crate::rows::{Class, Schema, Table};
 use crate::sheet::{decode, encode};
 use crate::stores::Stores;
 use crate::text::{self, Lines};
@@ -45,10 +45,32 @@ impl Opened {
     }
 }
 
-/// The stores of a sheet, or why the keeper refuses it.
+/// The stores of a sheet, or why the keeper refuses it. A schema that came as
+/// lines names rows that there is no room for by numbers that no field can hold:
+/// that there are too many is told instead.
 pub fn loaded(name: &str, sheet: &[u8], lines: Option<&Lines>) -> Result<Stores, Failure> {
-    let refused = |answer| Failure::Refused(refusal::load(name, sheet, answer, lines));
-    Stores::load(sheet).map_err(refused)
+    Stores::load(sheet).map_err(|answer| {
+        let crowded = lines
+            .filter(|_| answer.number == 4)
+            .and_then(|_| crowded(sheet));
+        let answer = crowded.unwrap_or(answer);
+        Failure::Refused(refusal::load(name, sheet, answer, lines))
+    })
+}
+
+/// The keeper's answer that a schema has too many rows, asked for without what
+/// classes name.
+fn crowded(sheet: &[u8]) -> Option<keeper::Answer> {
+    let mut schema = decode(sheet);
+    for class in &mut schema.classes {
+        *class = Class {
+            common: class.common.clone(),
+            category: class.category,
+            ..Class::default()
+        };
+    }
+    let answer = Stores::load(&encode(&schema).ok()?).err()?;
+    Some(answer).filter(|answer| answer.number == 6)
 }
 
 /// The rows that the stores hold, by the sheet that the keeper writes.

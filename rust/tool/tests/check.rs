@@ -229,6 +229,22 @@ fn more_rows_than_fit_are_told() {
     let text: String = (0..300).map(row).collect();
     let words = "6, no free row: 300 attributes, and there is room for 256: the first without is attribute 256 `a256`";
     assert_eq!(told(&text), words);
+    // Also where a row names one that has no room, which no field can say.
+    let row = |at: usize| {
+        let under = if at == 149 { "c148" } else { "c0" };
+        format!("class c{at} 2.999.{at}\n guid {at:032x}\n structural\n under {under}\n")
+    };
+    let text: String = (0..150).map(row).collect();
+    let text = text.replacen("under c0\nclass c2 ", "under c0\n in c140\nclass c2 ", 1);
+    let words = "6, no free row: 150 classes, and there is room for 128: the first without is class 128 `c128`";
+    assert_eq!(told(&text), words);
+    let ran = fed(&["check", "-"], text.as_bytes());
+    assert!(
+        ran.err
+            .starts_with("standard input: refused, row at line 514\n"),
+        "{}",
+        ran.err
+    );
 }
 
 #[test]

@@ -52,14 +52,19 @@ pub fn import(text: &str, only: &[String], notes: &mut Vec<String>) -> Result<Im
             .push(class(draft, &index, &order, &mut left_out)?);
         import.lines.classes.push(draft.line);
     }
-    notes.extend(match left_out {
+    notes.extend(left_out_words(left_out));
+    Ok(import)
+}
+
+/// How many possible superiors were left out, where any were.
+fn left_out_words(count: usize) -> Option<String> {
+    match count {
         0 => None,
         1 => Some("1 possible superior left out: its class is not taken".to_owned()),
         _ => Some(format!(
-            "{left_out} possible superiors left out: their classes are not taken"
+            "{count} possible superiors left out: their classes are not taken"
         )),
-    });
-    Ok(import)
+    }
 }
 
 /// Rows by name and by identifier.
