@@ -335,6 +335,44 @@ fn comments_of_a_text_stay() {
     assert_eq!(String::from_utf8(bytes).unwrap(), expected);
 }
 
+/// A small text with `age`, a defunct attribute whose lines have comments.
+const COMMENTED: &str = "attribute age 2.999.1  # years\r
+  guid 00000000000000000000000000000001
+  syntax 9 2\r
+  defunct  # replaced 2014
+  lower 0 # agreed\r
+  # the end
+class top 2.5.6.0
+  guid 00000000000000000000000000000002
+  abstract
+  under top";
+
+#[test]
+fn comments_stay_where_their_line_goes_and_lines_keep_their_ends() {
+    let folder = folder("commented");
+    let text = format!("\u{feff}{COMMENTED}\u{1a}");
+    let file = kept(&folder, "age.schema", text.as_bytes());
+    done(&[
+        "change",
+        &file,
+        "reactivate attribute age",
+        "range attribute age none 9",
+    ]);
+    let expected = text
+        .replace("  defunct  # replaced", "  # replaced")
+        .replace("  lower 0 # agreed\r\n", "  # agreed\r\n  upper 9\r\n");
+    assert_eq!(fs::read_to_string(&file).unwrap(), expected);
+    done(&[
+        "change",
+        &file,
+        "add attribute x 2.999.2; guid 00000000000000000000000000000003; syntax 9 2",
+    ]);
+    let row = "\n\nattribute x 2.999.2\n  guid 00000000-0000-0000-0000-000000000003\n  syntax 9 2\n\u{1a}";
+    let expected = expected.replace('\u{1a}', row);
+    assert_eq!(fs::read_to_string(&file).unwrap(), expected);
+    let _ = fs::remove_dir_all(folder);
+}
+
 #[test]
 fn words_that_are_no_change_are_told() {
     let words = refused(2, &["change", "samples/forest.sheet"]);
