@@ -69,6 +69,16 @@ possSuperiors: organizationalUnit";
     assert!(entry.ends_with(ends), "{entry}");
 }
 
+#[test]
+fn a_dn_that_is_no_safe_string_stands_in_base64() {
+    let ldif = done(&["export", "--base", "DC=W\u{e4}lder", FOREST]);
+    // CN=top,DC=Wälder
+    assert!(ldif.contains("\ndn:: Q049dG9wLERDPVfDpGxkZXI=\n"), "{ldif}");
+    assert!(ldif.is_ascii());
+    let sheet = fs::read(FOREST).unwrap();
+    assert!(fed(&["import", "--sheet", "-"], ldif.as_bytes()).out == sheet);
+}
+
 /// Attributes of a class and of an attribute, in the form of a small schema.
 const CN: &str = "dn: CN=Common-Name,CN=Schema
 objectClass: attributeSchema
