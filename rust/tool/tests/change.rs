@@ -186,6 +186,11 @@ fn refusals_name_the_rows_that_they_speak_of() {
     let change = format!("rename attribute soilType {}", "a".repeat(65));
     let words = "4, unreadable: a name of 65 bytes, and 64 is the most";
     assert_eq!(said(&change), format!("refused {words} ({change})"));
+    let change =
+        "add attribute x 2.999; guid 00000000000000000000000000000003; syntax 9 2; defunct";
+    let words = "in attribute 57 `x`: field 05, defunct (0 bytes); its length may be: 0; \
+                 its value: there: defunct; absent: active. Never in a change\n";
+    assert!(said(change).contains(words), "{}", said(change));
 }
 
 #[test]

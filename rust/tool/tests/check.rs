@@ -187,10 +187,66 @@ fn an_unreadable_sheet_is_told_by_row_field_and_bytes() {
     let expected = "4, unreadable: byte 71 of ";
     assert!(line.starts_with(expected), "{line}");
     assert!(
-        line.ends_with("`: field 01, display name (70 bytes); its length may be: 0 to 64"),
+        line.ends_with("`: field 01, display name (70 bytes); its length may be: 0 to 64; its value: any bytes; which names are valid is for rule 12"),
         "{line}"
     );
     let _ = fs::remove_dir_all(folder);
+}
+
+#[test]
+fn an_unreadable_value_is_told_with_what_it_may_be() {
+    let ends = |text: &str, words: &str| {
+        let line = told(text);
+        assert!(
+            line.starts_with("4, unreadable: ") && line.ends_with(words),
+            "{line}"
+        );
+    };
+    let words = "in attribute 1 `age`: field 0C, linkID (4 bytes); its length may be: 4; its value: not zero";
+    ends(&attribute("age", "syntax 9 2;link 0"), words);
+    let ldif = "dn: CN=top\nlDAPDisplayName: top\ngovernsID: 2.5.6.0\nschemaIDGUID:: t3qWv+YN0BGihQCqADBJ4g==
+subClassOf: top\nobjectClassCategory: 7\n";
+    let words = "in class 0 `top`: field 10, category (1 byte); its length may be: 1; \
+                 its value: 0 88 class, 1 structural, 2 abstract, 3 auxiliary";
+    ends(ldif, words);
+}
+
+/// A field of less than 256 bytes.
+fn field(tag: u8, value: &[u8]) -> Vec<u8> {
+    let length = u8::try_from(value.len()).unwrap();
+    [&[tag, 0, length], value].concat()
+}
+
+#[test]
+fn rows_fields_and_entries_out_of_order_are_told() {
+    let told = |fields: &[&[u8]]| {
+        let ran = fed(&["check", "-"], &fields.concat());
+        assert_eq!(ran.code, 1);
+        ran.err.lines().nth(1).unwrap().to_owned()
+    };
+    let common = [
+        field(0x01, b"top"),
+        field(0x02, &[0; 4]),
+        field(0x03, &[0; 16]),
+        field(0x04, &[0; 4]),
+    ];
+    let top = [common.concat(), field(0x10, &[2]), field(0x11, &[0, 0])].concat();
+    let heading = field(0x01, &[1]);
+    let row = |fields: &[&[u8]]| field(0x30, &fields.concat());
+    let falling = row(&[&top, &field(0x19, &[0, 1, 0, 0])]);
+    let words = "4, unreadable: byte 55 of 62, in class 0 `top`: field 19, open possible superiors (4 bytes); \
+                 its length may be: 2 for each entry; its value: class numbers below 128, each greater than the one before";
+    assert_eq!(told(&[&heading, &falling]), words);
+    let swapped = row(&[&common[1], &common[0]]);
+    let words = "4, unreadable: byte 14 of 20, in class 0 `top`: field 01, display name (3 bytes); \
+                 it stands behind field 02, and tags must rise; its length may be: 0 to 64; \
+                 its value: any bytes; which names are valid is for rule 12";
+    assert_eq!(told(&[&heading, &swapped]), words);
+    let late = field(0x20, &[]);
+    let words = "4, unreadable: byte 55 of 58, at the tag of attribute 0, behind a class";
+    assert_eq!(told(&[&heading, &row(&[&top]), &late]), words);
+    let words = "4, unreadable: byte 4 of 8, at the heading, a second time";
+    assert_eq!(told(&[&heading, &heading]), words);
 }
 
 #[test]
