@@ -31,6 +31,6 @@ mod lines;
 #[cfg(feature = "rows")]
 mod rows;
 
-pub use lines::{Fault, Line, Source};
+pub use lines::{Fault, Line, Source, arcs};
 #[cfg(feature = "rows")]
 pub use rows::schema;

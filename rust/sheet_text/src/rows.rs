@@ -1,6 +1,6 @@
 //! Rows of the text as rows of a schema.
 
-use crate::lines::{Fault, Line, Source};
+use crate::lines::{Fault, Line, Source, arcs};
 use reference::schema::{Attribute, BASE_FLAG, Category, Class, Common, Numbers, Schema};
 use reference::syntax::stored_object_class;
 
@@ -45,18 +45,16 @@ fn list(line: &Line, names: &[&str], set: &mut Numbers) -> Result<(), Fault> {
     Ok(())
 }
 
-fn arcs(line: &Line, identifier: &str) -> Result<Vec<u32>, Fault> {
-    let arcs = identifier.split('.').map(str::parse);
-    let fault = |_| line.fault("the identifier is not numbers with dots between");
-    arcs.collect::<Result<_, _>>().map_err(fault)
-}
-
 /// What every row has, from its head; its lines say the rest.
 fn common(row: &Source) -> Result<Common, Fault> {
     let (name, identifier) = row.head()?;
+    let fault = || {
+        row.head
+            .fault("the identifier is not numbers with dots between")
+    };
     Ok(Common {
         name: name.as_bytes().to_vec(),
-        arcs: arcs(&row.head, identifier)?,
+        arcs: arcs(identifier).ok_or_else(fault)?,
         ..Common::default()
     })
 }

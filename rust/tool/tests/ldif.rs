@@ -208,6 +208,10 @@ fn what_does_not_fit_is_told_by_entry_and_line() {
         format!("{begin} 7: entry `cn`: oMSyntax: not a number that fits")
     );
     assert_eq!(
+        changed("attributeID: 2.5", "attributeID: 2.+5"),
+        format!("{begin} 4: entry `cn`: attributeID: not numbers with dots between")
+    );
+    assert_eq!(
         changed("TRUE", "yes"),
         format!("{begin} 8: entry `cn`: isSingleValued: neither TRUE nor FALSE")
     );

@@ -3,6 +3,7 @@
 use super::entry::Entry;
 use super::records::{Record, Value};
 use crate::rows::{Attribute, Class, Common, List, RowId, Table};
+use sheet_text::arcs;
 
 /// A name by which a class names a row.
 #[derive(Clone, Debug)]
@@ -153,8 +154,7 @@ fn attribute(record: &Record) -> AttributeDraft {
 fn named(record: &Record, identifier: &str) -> Common {
     let name = record.first("ldapdisplayname");
     let identifier = record.first(identifier).map(Value::text);
-    let arcs = |text: String| text.split('.').map(|arc| arc.parse().ok()).collect();
-    let arcs: Option<Vec<u32>> = identifier.and_then(arcs);
+    let arcs = identifier.and_then(|identifier| arcs(&identifier));
     Common {
         name: name.map(|name| name.bytes.clone()).unwrap_or_default(),
         arcs: arcs.unwrap_or_default(),
@@ -165,10 +165,10 @@ fn named(record: &Record, identifier: &str) -> Common {
 fn attribute_row(record: &Record) -> Result<Attribute, String> {
     let entry = Entry::of(record)?;
     let syntax = entry.needed("attributeSyntax")?;
-    let number = syntax
-        .text()
-        .strip_prefix("2.5.5.")
-        .and_then(|number| number.parse().ok());
+    let number = match arcs(&syntax.text()).as_deref() {
+        Some([2, 5, 5, number]) => u8::try_from(*number).ok(),
+        _ => None,
+    };
     let fault = || entry.fault(syntax.line, "attributeSyntax: not 2.5.5 and a number");
     entry.needed("oMSyntax")?;
     entry.needed("isSingleValued")?;
