@@ -93,7 +93,7 @@ fn rows_are_added_by_lines_of_the_text_form() {
     let words = "done: add attribute soilPh 1.3.6.1.4.1.32473.6.1.9 (attribute 57 `soilPh`)";
     assert_eq!(said(&change), words);
     let change = format!(
-        "add class nursery 1.3.6.1.4.1.32473.6.22.9; {guid}; structural; under parcel; may soilType; in parcel"
+        "add class nursery 1.3.6.1.4.1.32473.6.22.9; {guid}; structural; under Parcel; may SOILTYPE; in parcel"
     );
     let words = "done: add class nursery 1.3.6.1.4.1.32473.6.22.9 (class 25 `nursery`)";
     assert_eq!(said(&change), words);
@@ -372,7 +372,8 @@ fn comments_stay_where_their_line_goes_and_lines_keep_their_ends() {
         &file,
         "add attribute x 2.999.2; guid 00000000000000000000000000000003; syntax 9 2",
     ]);
-    let row = "\n\nattribute x 2.999.2\n  guid 00000000-0000-0000-0000-000000000003\n  syntax 9 2\n\u{1a}";
+    let row =
+        "\n\nattribute x 2.999.2\n  guid 00000000000000000000000000000003\n  syntax 9 2\n\u{1a}";
     let expected = expected.replace('\u{1a}', row);
     assert_eq!(fs::read_to_string(&file).unwrap(), expected);
     let _ = fs::remove_dir_all(folder);

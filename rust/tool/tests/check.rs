@@ -103,7 +103,7 @@ fn rules_of_attributes_are_told_with_what_breaks_them() {
     let words = "15, identifier taken: attribute 1 `age`: identifier 2.5.6.0 of attribute 1 `age` and class 0 `top`";
     assert_eq!(told(&text), words);
     let text = attribute("age", "syntax 9 2").replace("0003\n", "0001\n");
-    let words = "16, guid taken: attribute 0 `cn`: GUID 00000000-0000-0000-0000-000000000001 of attribute 0 `cn` and attribute 1 `age`";
+    let words = "16, guid taken: attribute 0 `cn`: GUID 00000000000000000000000000000001 of attribute 0 `cn` and attribute 1 `age`";
     assert_eq!(told(&text), words);
     let text = attribute("age", "syntax 9 2;lower 5;upper 5");
     assert_eq!(

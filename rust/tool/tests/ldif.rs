@@ -125,19 +125,19 @@ fn import_fault(text: &str) -> String {
 #[test]
 fn names_stand_in_any_order_and_superclasses_come_first() {
     let expected = "attribute cn 2.5.4.3
-  guid 3f7996bf-e60d-d011-a285-00aa003049e2
+  guid 3f7996bfe60dd011a28500aa003049e2
   base
   flags 2
   syntax 12 64
   single
 
 class top 2.5.6.0
-  guid b77a96bf-e60d-d011-a285-00aa003049e2
+  guid b77a96bfe60dd011a28500aa003049e2
   abstract
   under top
 
 class person 2.5.6.6
-  guid a77a96bf-e60d-d011-a285-00aa003049e2
+  guid a77a96bfe60dd011a28500aa003049e2
   88
   under top
   naming cn

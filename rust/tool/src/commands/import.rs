@@ -16,7 +16,9 @@ pub const COMMAND: Command = Command {
 Samba write them. Names are found in any order, superclasses are put first. What
 does not fit is told by entry and line. Entries of other kinds, and changes that
 add nothing, are passed over and told on standard error. A change of the type
-ntdsSchemaAdd adds, as add does.
+ntdsSchemaAdd adds, as add does. A schemaIDGUID in base64 is 16 bytes; one with
+hyphens is read as directories show it, its first three parts least significant
+byte first. The text has the 16 bytes in their order, without hyphens.
 
 --only takes the classes and attributes named behind it and what they need:
 superclasses, auxiliary classes, attributes, forward links. Possible superiors

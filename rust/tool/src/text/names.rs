@@ -4,7 +4,8 @@ use crate::rows::{RowId, Schema, Table};
 use sheet_text::{Fault, Line};
 use std::collections::HashMap;
 
-/// The numbers of rows by their names; of rows with one name, the first.
+/// The numbers of rows by their names, case aside; of rows with one name, the
+/// first.
 #[derive(Default)]
 pub struct Names {
     attributes: HashMap<String, usize>,
@@ -27,7 +28,7 @@ impl Names {
             Table::Attributes => &mut self.attributes,
             Table::Classes => &mut self.classes,
         };
-        names.entry(name.to_owned()).or_insert(row.number);
+        names.entry(name.to_ascii_lowercase()).or_insert(row.number);
     }
 
     /// The number of the row that a line names.
@@ -37,7 +38,7 @@ impl Names {
             Table::Classes => &self.classes,
         };
         let fault = || line.fault(&format!("no {} is named {name}", table.word()));
-        let number = names.get(name).ok_or_else(fault)?;
+        let number = names.get(&name.to_ascii_lowercase()).ok_or_else(fault)?;
         u16::try_from(*number).map_err(|_| line.fault("too many rows"))
     }
 }

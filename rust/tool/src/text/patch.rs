@@ -187,7 +187,7 @@ impl Rows<'_> {
         let numbered = |name: &str| {
             before
                 .iter()
-                .find(|number| self.before.name(row(number)) == name)
+                .find(|number| self.before.name(row(number)).eq_ignore_ascii_case(name))
         };
         let stays = said
             .filter_map(numbered)
