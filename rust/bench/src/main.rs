@@ -38,12 +38,12 @@ fn micro(time: Duration) -> f64 {
 }
 
 /// What a plain change and one pass over the stores take where a quick change
-/// takes 1, by the least times.
+/// takes 1, by the medians.
 fn ratios(quick: &Cost, plain: &Cost, pass: Times) -> String {
-    let quick = micro(quick.times.least).max(0.001);
-    let plain = micro(plain.times.least) / quick;
-    let pass = micro(pass.least) / quick;
-    format!("1 : {plain:.0} : {pass:.2}")
+    let quick = micro(quick.times.median).max(0.001);
+    let plain = micro(plain.times.median) / quick;
+    let pass = micro(pass.median) / quick;
+    format!("1 : {plain:.1} : {pass:.3}")
 }
 
 /// The table of one schema.
@@ -58,7 +58,7 @@ fn table(name: &str, clock: &Clock) -> Result<(), String> {
         schema.attributes.len(),
         schema.classes.len(),
         sheet.len(),
-        micro(pass.least)
+        micro(pass.median)
     );
     println!(
         "| | least, microseconds | median | thousand instructions | quick : plain : one pass |"
