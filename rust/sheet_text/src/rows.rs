@@ -30,11 +30,11 @@ fn names<'a>(rows: &[Source<'a>]) -> Result<Vec<&'a str>, Fault> {
     rows.iter().map(|row| Ok(row.head()?.0)).collect()
 }
 
-/// The number of a row among these names, case aside.
+/// The number of a row among these names: as the name stands, else case aside.
 fn numbered(line: &Line, names: &[&str], wanted: &str) -> Result<u16, Fault> {
-    let place = names
-        .iter()
-        .position(|name| name.eq_ignore_ascii_case(wanted));
+    let place = |is_wanted: &dyn Fn(&str) -> bool| names.iter().position(|name| is_wanted(name));
+    let place =
+        place(&|name| name == wanted).or_else(|| place(&|name| name.eq_ignore_ascii_case(wanted)));
     let place = place.ok_or_else(|| line.fault(&format!("no row is named {wanted}")))?;
     u16::try_from(place).map_err(|_| line.fault("too many rows"))
 }
