@@ -22,52 +22,50 @@ pub struct Kind {
     pub change: Vec<u8>,
 }
 
+/// The changes of lists: what each is called, of which list, and whether it adds.
+const LISTS: [(&str, OpenList, bool); 6] = [
+    ("add optional attribute", OpenList::Optional, true),
+    ("add auxiliary", OpenList::Auxiliary, true),
+    ("add possible superior", OpenList::PossibleSuperiors, true),
+    ("remove optional attribute", OpenList::Optional, false),
+    ("remove auxiliary", OpenList::Auxiliary, false),
+    (
+        "remove possible superior",
+        OpenList::PossibleSuperiors,
+        false,
+    ),
+];
+
 /// One of each kind that the schema accepts.
 pub fn kinds(schema: &Schema) -> Vec<Kind> {
     let roomy = with_room(schema);
-    let lists = [
-        ("add optional attribute", OpenList::Optional, true),
-        ("add auxiliary", OpenList::Auxiliary, true),
-        ("add possible superior", OpenList::PossibleSuperiors, true),
-        ("remove optional attribute", OpenList::Optional, false),
-        ("remove auxiliary", OpenList::Auxiliary, false),
-        (
-            "remove possible superior",
-            OpenList::PossibleSuperiors,
-            false,
-        ),
-    ];
+    let new_attribute = Change::AddAttribute(new_attribute());
     let mut found = vec![
-        first(
-            "add attribute",
-            &roomy,
-            [Change::AddAttribute(new_attribute())],
-        ),
+        first("add attribute", &roomy, [new_attribute]),
         first("add class", &roomy, [Change::AddClass(new_class())]),
         first("range", schema, attributes(schema).map(range)),
         first("rename, attribute", schema, attributes(schema).map(rename)),
         first("rename, class", schema, classes(schema).map(rename)),
     ];
-    for (name, back, rows) in [
-        (
-            "deactivate, attribute",
-            "reactivate, attribute",
-            attributes(schema).collect::<Vec<_>>(),
-        ),
-        (
-            "deactivate, class",
-            "reactivate, class",
-            classes(schema).collect(),
-        ),
-    ] {
-        let gone = first(name, schema, rows.into_iter().map(deactivate));
-        found.push(gone.clone());
-        found.push(gone.and_then(|kind| reactivated(back, &kind)));
-    }
-    for (name, list, added) in lists {
+    let names = ["deactivate, attribute", "reactivate, attribute"];
+    found.extend(states(names, schema, attributes(schema)));
+    let names = ["deactivate, class", "reactivate, class"];
+    found.extend(states(names, schema, classes(schema)));
+    for (name, list, added) in LISTS {
         found.push(first(name, schema, entries(schema, list, added)));
     }
     found.into_iter().flatten().collect()
+}
+
+/// A row that goes out of use, and that comes back.
+fn states(
+    [name, back]: [&'static str; 2],
+    schema: &Schema,
+    rows: impl Iterator<Item = Row>,
+) -> [Option<Kind>; 2] {
+    let gone = first(name, schema, rows.map(deactivate));
+    let back = gone.as_ref().and_then(|kind| reactivated(back, kind));
+    [gone, back]
 }
 
 /// The first of some changes that is accepted.

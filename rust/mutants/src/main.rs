@@ -1,7 +1,7 @@
 //! Makes each edit of the list in a copy of the reference, plays what the gate
 //! plays, and tells which edits are seen: `mutants [TEXT]`, with a text only
 //! those whose sentence or file has it. Fails where one survives or cannot be
-//! built.
+//! built, and where there is none.
 
 use mutants::{Built, Edit, Scratch, Script, edits, scripts};
 use std::collections::BTreeMap;
@@ -52,15 +52,17 @@ fn right(rust: &Path, scratch: &Scratch) -> Result<Vec<Script>, Box<dyn Error>> 
 
 fn tally(chosen: &str) -> Result<Tally, Box<dyn Error>> {
     let rust = Path::new(env!("CARGO_MANIFEST_DIR")).join("..");
-    let edits = edits(&fs::read_to_string(rust.join("mutants/list"))?)?;
+    let mut edits = edits(&fs::read_to_string(rust.join("mutants/list"))?)?;
+    edits.retain(|edit| edit.sentence.contains(chosen) || edit.file.contains(chosen));
+    if edits.is_empty() {
+        return Err(format!("no edit has `{chosen}` in its sentence or file").into());
+    }
     let scratch = Scratch::new(&rust)?;
     let scripts = right(&rust, &scratch)?;
     let mut tally = Tally::new();
     for edit in edits {
-        if edit.sentence.contains(chosen) || edit.file.contains(chosen) {
-            let seen_by = seen_by(&scratch, &scripts, &edit)?;
-            *tally.entry(seen_by).or_default() += 1;
-        }
+        let seen_by = seen_by(&scratch, &scripts, &edit)?;
+        *tally.entry(seen_by).or_default() += 1;
     }
     Ok(tally)
 }

@@ -2,6 +2,7 @@
 
 use mutants::{Edit, edits};
 use std::fs;
+use std::process::Command;
 
 fn list() -> Vec<Edit> {
     let list = fs::read_to_string(concat!(env!("CARGO_MANIFEST_DIR"), "/list"));
@@ -28,4 +29,11 @@ fn each_edit_can_be_made() {
         let text = fs::read_to_string(file + &edit.file).unwrap_or_default();
         assert!(edit.made(&text).is_some(), "{edit:?}");
     }
+}
+
+#[test]
+fn a_text_that_no_edit_has_fails_the_command() {
+    let mut command = Command::new(env!("CARGO_BIN_EXE_mutants"));
+    let ran = command.arg("no sentence says this").output();
+    assert!(ran.is_ok_and(|ran| ran.status.code() == Some(1) && ran.stdout.is_empty()));
 }

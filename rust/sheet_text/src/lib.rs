@@ -23,7 +23,9 @@
 //! | `system-in`, `in` | fixed and open possible superiors | class |
 //!
 //! Names after the last seven words are separated by spaces; a list may go on
-//! in a further line with the same word. A `#` begins a comment. Attributes
+//! in a further line with the same word. A name that no row has is compared case
+//! aside. The hyphens of a `guid` are passed over: the 16 bytes stand in their
+//! order, and not as directories show a GUID. A `#` begins a comment. Attributes
 //! and classes are numbered as they stand. No rule of the schema is judged
 //! here: that is the keeper's work.
 
@@ -31,6 +33,6 @@ mod lines;
 #[cfg(feature = "rows")]
 mod rows;
 
-pub use lines::{Fault, Line, Source};
+pub use lines::{Fault, Line, Source, arcs};
 #[cfg(feature = "rows")]
 pub use rows::schema;

@@ -63,14 +63,21 @@ impl<'a> Line<'a> {
     pub fn bytes(&self) -> Result<Vec<u8>, Fault> {
         let digits = self.one()?.replace('-', "");
         let fault = || self.fault("not whole bytes in hex digits");
-        let pairs = (0..digits.len())
-            .step_by(2)
-            .map(|at| digits.get(at..at + 2));
-        pairs
-            .map(|pair| pair.and_then(|pair| u8::from_str_radix(pair, 16).ok()))
-            .collect::<Option<Vec<u8>>>()
-            .ok_or_else(fault)
+        let digits: Option<Vec<u32>> = digits.chars().map(|digit| digit.to_digit(16)).collect();
+        let digits = digits.filter(|digits| digits.len().is_multiple_of(2));
+        let digits = digits.ok_or_else(fault)?;
+        let byte = |pair: &[u32]| u8::try_from(16 * pair[0] + pair[1]);
+        let bytes: Result<Vec<u8>, _> = digits.chunks_exact(2).map(byte).collect();
+        bytes.map_err(|_| fault())
     }
+}
+
+/// The arcs of an object identifier: numbers of 32 bits with dots between.
+pub fn arcs(identifier: &str) -> Option<Vec<u32>> {
+    let is_number = |arc: &str| arc.bytes().all(|digit| digit.is_ascii_digit());
+    let arcs = identifier.split('.');
+    arcs.map(|arc| arc.parse().ok().filter(|_| is_number(arc)))
+        .collect()
 }
 
 /// A row's first line and the lines that belong to it.

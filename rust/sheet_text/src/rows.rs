@@ -1,6 +1,6 @@
 //! Rows of the text as rows of a schema.
 
-use crate::lines::{Fault, Line, Source};
+use crate::lines::{Fault, Line, Source, arcs};
 use reference::schema::{Attribute, BASE_FLAG, Category, Class, Common, Numbers, Schema};
 use reference::syntax::stored_object_class;
 
@@ -30,9 +30,11 @@ fn names<'a>(rows: &[Source<'a>]) -> Result<Vec<&'a str>, Fault> {
     rows.iter().map(|row| Ok(row.head()?.0)).collect()
 }
 
-/// The number of a row among these names.
+/// The number of a row among these names: as the name stands, else case aside.
 fn numbered(line: &Line, names: &[&str], wanted: &str) -> Result<u16, Fault> {
-    let place = names.iter().position(|name| *name == wanted);
+    let place = |is_wanted: &dyn Fn(&str) -> bool| names.iter().position(|name| is_wanted(name));
+    let place =
+        place(&|name| name == wanted).or_else(|| place(&|name| name.eq_ignore_ascii_case(wanted)));
     let place = place.ok_or_else(|| line.fault(&format!("no row is named {wanted}")))?;
     u16::try_from(place).map_err(|_| line.fault("too many rows"))
 }
@@ -45,18 +47,16 @@ fn list(line: &Line, names: &[&str], set: &mut Numbers) -> Result<(), Fault> {
     Ok(())
 }
 
-fn arcs(line: &Line, identifier: &str) -> Result<Vec<u32>, Fault> {
-    let arcs = identifier.split('.').map(str::parse);
-    let fault = |_| line.fault("the identifier is not numbers with dots between");
-    arcs.collect::<Result<_, _>>().map_err(fault)
-}
-
 /// What every row has, from its head; its lines say the rest.
 fn common(row: &Source) -> Result<Common, Fault> {
     let (name, identifier) = row.head()?;
+    let fault = || {
+        row.head
+            .fault("the identifier is not numbers with dots between")
+    };
     Ok(Common {
         name: name.as_bytes().to_vec(),
-        arcs: arcs(&row.head, identifier)?,
+        arcs: arcs(identifier).ok_or_else(fault)?,
         ..Common::default()
     })
 }

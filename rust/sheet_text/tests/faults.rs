@@ -37,6 +37,14 @@ fn faults_are_told_by_their_line() {
         "line 4: object: not whole bytes in hex digits"
     );
     assert_eq!(
+        fault(&format!("{ATTRIBUTE} object +f\n")),
+        "line 4: object: not whole bytes in hex digits"
+    );
+    assert_eq!(
+        fault(&ATTRIBUTE.replace("2.5.4.3", "2.+5.4.3")),
+        "line 1: attribute: the identifier is not numbers with dots between"
+    );
+    assert_eq!(
         fault(&format!("{ATTRIBUTE} under top\n")),
         "line 4: under: not a line of this row"
     );

@@ -12,6 +12,8 @@ pub struct RowField {
     pub length: String,
     /// Whether every such row must have it.
     pub is_needed: bool,
+    /// Which values it may have, in words.
+    pub value: String,
 }
 
 /// The field with this tag in a row with that tag, 20 or 30.
@@ -35,21 +37,28 @@ fn row_fields(row: u8) -> Vec<RowField> {
         .skip(1);
     let common = tables.next().unwrap_or_default();
     let own = tables.nth(usize::from(row != 0x20)).unwrap_or_default();
-    common
-        .lines()
-        .chain(own.lines())
-        .filter_map(field)
-        .collect()
+    let mut fields: Vec<RowField> = Vec::new();
+    for line in common.lines().chain(own.lines()) {
+        let field = field(line, fields.last());
+        fields.extend(field);
+    }
+    fields
 }
 
-/// The field that a line of a table is about.
-fn field(line: &str) -> Option<RowField> {
+/// The field that a line of a table is about; `the same` in it is what the field
+/// before says there.
+fn field(line: &str, before: Option<&RowField>) -> Option<RowField> {
     let mut cells = line.split('|').map(str::trim).skip(1);
+    let same = |cell: &str, before: Option<&String>| match (cell, before) {
+        ("the same", Some(before)) => before.clone(),
+        _ => cell.to_owned(),
+    };
     Some(RowField {
         tag: u8::from_str_radix(cells.next()?, 16).ok()?,
         name: cells.next()?.to_owned(),
-        length: cells.next()?.to_owned(),
+        length: same(cells.next()?, before.map(|field| &field.length)),
         is_needed: cells.next()? == "yes",
+        value: same(cells.next()?, before.map(|field| &field.value)),
     })
 }
 
@@ -69,6 +78,13 @@ mod tests {
         assert_eq!(told(0x30, 0x0A), None);
         assert_eq!(told(0x30, 0x11).as_deref(), Some("superclass: 2"));
         assert_eq!(told(0x20, 0x11), None);
+        let superiors = told(0x30, 0x19);
+        let words = "open possible superiors: 2 for each entry";
+        assert_eq!(superiors.as_deref(), Some(words));
+        let value = |row, tag| row_field(row, tag).map(|field| field.value);
+        assert_eq!(value(0x20, 0x0C).as_deref(), Some("not zero"));
+        let words = "class numbers below 128, each greater than the one before";
+        assert_eq!(value(0x30, 0x19).as_deref(), Some(words));
         let tags: Vec<u8> = needed(0x30).iter().map(|field| field.tag).collect();
         assert_eq!(tags, [0x01, 0x02, 0x03, 0x04, 0x10, 0x11]);
     }

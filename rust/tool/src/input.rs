@@ -55,10 +55,31 @@ impl Given {
     }
 
     /// The bytes as text, whatever they are. A mark of the byte order is dropped,
-    /// and UTF-16 with such a mark is read too, as `ldifde -u` writes it.
+    /// and UTF-16 with such a mark is read too, as `ldifde -u` writes it; so are
+    /// the ^Z with which DOS ends a text.
     pub fn text(&self) -> String {
         text(&self.bytes)
     }
+
+    /// A text in place of this one, in bytes: with the mark before it and the ^Z
+    /// behind it that this one has.
+    pub fn in_place(&self, text: &str) -> Vec<u8> {
+        let mark = match self.bytes.starts_with(&MARK) {
+            true => MARK.as_slice(),
+            false => &[],
+        };
+        let end = &self.bytes[without_end(&self.bytes).len()..];
+        [mark, text.as_bytes(), end].concat()
+    }
+}
+
+/// The mark that some systems write before a text of UTF-8.
+const MARK: [u8; 3] = [0xEF, 0xBB, 0xBF];
+
+/// Bytes without the ^Z at their end.
+fn without_end(bytes: &[u8]) -> &[u8] {
+    let end = bytes.iter().rposition(|byte| *byte != 0x1A);
+    &bytes[..end.map_or(0, |end| end + 1)]
 }
 
 /// A text that is no schema and may be empty, from a file or from standard input,
@@ -102,25 +123,23 @@ fn text(bytes: &[u8]) -> String {
     match bytes {
         [0xFF, 0xFE, rest @ ..] => pairs(rest, u16::from_le_bytes),
         [0xFE, 0xFF, rest @ ..] => pairs(rest, u16::from_be_bytes),
-        [0xEF, 0xBB, 0xBF, rest @ ..] => String::from_utf8_lossy(rest).into_owned(),
-        _ => String::from_utf8_lossy(bytes).into_owned(),
+        _ => {
+            let rest = bytes.strip_prefix(&MARK).unwrap_or(bytes);
+            String::from_utf8_lossy(without_end(rest)).into_owned()
+        }
     }
 }
 
-/// A sheet has bytes that no text has, its heading among them; the first line of
-/// LDIF that says something has a word and a colon.
+/// A sheet begins with the tag of its heading, and has zero bytes where it is
+/// damaged there: no text has either. The first line of LDIF that says something
+/// has a name and a colon.
 fn form(bytes: &[u8]) -> Form {
     let marked = matches!(bytes, [0xFF, 0xFE, ..] | [0xFE, 0xFF, ..]);
-    let is_text = |byte: &u8| *byte >= 0x20 || matches!(byte, b'\t' | b'\n' | b'\r' | 0x0C);
-    if !marked && !bytes.iter().all(is_text) {
+    if !marked && (bytes.starts_with(&[0x01]) || bytes.contains(&0)) {
         return Form::Sheet;
     }
     let text = text(bytes);
-    let lines = text.lines().map(str::trim_end);
-    let first = lines
-        .into_iter()
-        .find(|line| !line.is_empty() && !line.starts_with('#'));
-    let word = first
+    let word = first_said(&text)
         .and_then(|line| line.split_once(':'))
         .map(|(word, _)| word);
     let is_name = |word: &str| {
@@ -131,4 +150,13 @@ fn form(bytes: &[u8]) -> Form {
         true => Form::Ldif,
         false => Form::Text,
     }
+}
+
+/// The first line that is neither empty nor a comment, nor folded behind one.
+fn first_said(text: &str) -> Option<&str> {
+    let mut in_comment = false;
+    text.lines().map(str::trim_end).find(|line| {
+        in_comment = line.starts_with('#') || (in_comment && line.starts_with(' '));
+        !in_comment && !line.is_empty()
+    })
 }

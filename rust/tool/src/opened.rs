@@ -2,14 +2,15 @@
 
 use crate::failure::Failure;
 use crate::input::{Form, Given};
-use crate::ldif;
+use crate::ldif::{self, Import};
 use crate::refusal;
-use crate::rows::{Schema, Table};
+use crate::rows::{Class, Schema, Table};
 use crate::sheet::{decode, encode};
 use crate::stores::Stores;
 use crate::text::{self, Lines};
+use crate::words::printable;
 use std::ffi::OsStr;
-use std::io::Read;
+use std::io::{Read, Write};
 
 /// The schema, as it was given and as the keeper holds it.
 pub struct Opened {
@@ -22,14 +23,18 @@ pub struct Opened {
 }
 
 impl Opened {
-    /// Reads a schema in any form and loads it.
-    pub fn read(path: &OsStr, input: &mut dyn Read) -> Result<Opened, Failure> {
-        Opened::of(Given::read(path, input)?)
+    /// Reads a schema in any form and loads it. What is passed over is told.
+    pub fn read(
+        path: &OsStr,
+        input: &mut dyn Read,
+        err: &mut dyn Write,
+    ) -> Result<Opened, Failure> {
+        Opened::of(Given::read(path, input)?, err)
     }
 
-    /// Loads what was read.
-    pub fn of(given: Given) -> Result<Opened, Failure> {
-        let (sheet, lines) = sheet_of(&given)?;
+    /// Loads what was read. What is passed over is told.
+    pub fn of(given: Given, err: &mut dyn Write) -> Result<Opened, Failure> {
+        let (sheet, lines) = sheet_of(&given, err)?;
         let stores = loaded(&given.name, &sheet, lines.as_ref())?;
         let schema = held(&stores)?;
         Ok(Opened {
@@ -40,10 +45,32 @@ impl Opened {
     }
 }
 
-/// The stores of a sheet, or why the keeper refuses it.
+/// The stores of a sheet, or why the keeper refuses it. A schema that came as
+/// lines names rows that there is no room for by numbers that no field can hold:
+/// that there are too many is told instead.
 pub fn loaded(name: &str, sheet: &[u8], lines: Option<&Lines>) -> Result<Stores, Failure> {
-    let refused = |answer| Failure::Refused(refusal::load(name, sheet, answer, lines));
-    Stores::load(sheet).map_err(refused)
+    Stores::load(sheet).map_err(|answer| {
+        let crowded = lines
+            .filter(|_| answer.number == 4)
+            .and_then(|_| crowded(sheet));
+        let answer = crowded.unwrap_or(answer);
+        Failure::Refused(refusal::load(name, sheet, answer, lines))
+    })
+}
+
+/// The keeper's answer that a schema has too many rows, asked for without what
+/// classes name.
+fn crowded(sheet: &[u8]) -> Option<keeper::Answer> {
+    let mut schema = decode(sheet);
+    for class in &mut schema.classes {
+        *class = Class {
+            common: class.common.clone(),
+            category: class.category,
+            ..Class::default()
+        };
+    }
+    let answer = Stores::load(&encode(&schema).ok()?).err()?;
+    Some(answer).filter(|answer| answer.number == 6)
 }
 
 /// The rows that the stores hold, by the sheet that the keeper writes.
@@ -63,18 +90,31 @@ pub fn unwritten(answer: keeper::Answer) -> Failure {
 }
 
 /// What was read, as a sheet; where it came as lines, with the line of each row.
-pub fn sheet_of(given: &Given) -> Result<(Vec<u8>, Option<Lines>), Failure> {
+/// What is passed over is told on the way.
+pub fn sheet_of(given: &Given, err: &mut dyn Write) -> Result<(Vec<u8>, Option<Lines>), Failure> {
     let unusable = |fault: String| Failure::unusable(format!("{}: {fault}", given.name));
     let (schema, lines) = match given.form {
         Form::Sheet => return Ok((given.bytes.clone(), None)),
         Form::Text => text::read(&given.text()).map_err(|fault| unusable(fault.to_string()))?,
         Form::Ldif => {
-            let import = ldif::import(&given.text(), &[]).map_err(unusable)?;
+            let import = taken_in(given, &[], err)?;
             (import.schema, import.lines)
         }
     };
     let sheet = encode(&schema).map_err(unusable)?;
     Ok((sheet, Some(lines)))
+}
+
+/// LDIF as rows, all of them or those that some names need. What is passed over
+/// is told on the way.
+pub fn taken_in(given: &Given, only: &[String], err: &mut dyn Write) -> Result<Import, Failure> {
+    let mut notes = Vec::new();
+    let import = ldif::import(&given.text(), only, &mut notes);
+    for note in &notes {
+        // Notes are for people; nothing hangs on them.
+        let _ = writeln!(err, "{}: {}", given.name, printable(note));
+    }
+    import.map_err(|fault| Failure::unusable(format!("{}: {fault}", given.name)))
 }
 
 /// How many rows of a table there are, and how many of them are defunct or came

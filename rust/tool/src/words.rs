@@ -31,15 +31,10 @@ pub fn hex(bytes: &[u8]) -> String {
     bytes.iter().map(|byte| format!("{byte:02x}")).collect()
 }
 
-/// A GUID in hex digits, with hyphens, its bytes in their order.
+/// A GUID in hex digits, its bytes in their order. Directories show a GUID with
+/// hyphens and three of its parts turned round: so there are no hyphens here.
 pub fn guid_text(guid: &[u8; 16]) -> String {
-    let digits = hex(guid);
-    let ends = [0, 8, 12, 16, 20, 32];
-    let parts: Vec<_> = ends
-        .windows(2)
-        .map(|ends| &digits[ends[0]..ends[1]])
-        .collect();
-    parts.join("-")
+    hex(guid)
 }
 
 /// Words joined as in a sentence: a, b and c.

@@ -100,7 +100,7 @@ fn rows_are_added_by_lines_of_the_text_form() {
     let words = "done: add attribute soilPh 1.3.6.1.4.1.32473.6.1.9 (attribute 57 `soilPh`)";
     assert_eq!(said(&change), words);
     let change = format!(
-        "add class nursery 1.3.6.1.4.1.32473.6.22.9; {guid}; structural; under parcel; may soilType; in parcel"
+        "add class nursery 1.3.6.1.4.1.32473.6.22.9; {guid}; structural; under Parcel; may SOILTYPE; in parcel"
     );
     let words = "done: add class nursery 1.3.6.1.4.1.32473.6.22.9 (class 25 `nursery`)";
     assert_eq!(said(&change), words);
@@ -129,7 +129,7 @@ fn the_first_class_is_added_under_itself() {
     let text = "# nothing
 
 class top 2.5.6.0
-  guid 00010203-0405-0607-0809-0a0b0c0d0e0f
+  guid 000102030405060708090a0b0c0d0e0f
   abstract
   under top
 ";
@@ -233,6 +233,11 @@ fn refusals_name_the_rows_that_they_speak_of() {
     let change = format!("rename attribute soilType {}", "a".repeat(65));
     let words = "4, unreadable: a name of 65 bytes, and 64 is the most";
     assert_eq!(said(&change), format!("refused {words} ({change})"));
+    let change =
+        "add attribute x 2.999; guid 00000000000000000000000000000003; syntax 9 2; defunct";
+    let words = "in attribute 57 `x`: field 05, defunct (0 bytes); its length may be: 0; \
+                 its value: there: defunct; absent: active. Never in a change\n";
+    assert!(said(change).contains(words), "{}", said(change));
 }
 
 #[test]
@@ -396,6 +401,45 @@ fn comments_of_a_text_stay() {
         .into_iter()
         .fold(before, |text, (from, to)| text.replacen(from, to, 1));
     assert_eq!(String::from_utf8(bytes).unwrap(), expected);
+}
+
+/// A small text with `age`, a defunct attribute whose lines have comments.
+const COMMENTED: &str = "attribute age 2.999.1  # years\r
+  guid 00000000000000000000000000000001
+  syntax 9 2\r
+  defunct  # replaced 2014
+  lower 0 # agreed\r
+  # the end
+class top 2.5.6.0
+  guid 00000000000000000000000000000002
+  abstract
+  under top";
+
+#[test]
+fn comments_stay_where_their_line_goes_and_lines_keep_their_ends() {
+    let folder = folder("commented");
+    let text = format!("\u{feff}{COMMENTED}\u{1a}");
+    let file = kept(&folder, "age.schema", text.as_bytes());
+    done(&[
+        "change",
+        &file,
+        "reactivate attribute age",
+        "range attribute age none 9",
+    ]);
+    let expected = text
+        .replace("  defunct  # replaced", "  # replaced")
+        .replace("  lower 0 # agreed\r\n", "  # agreed\r\n  upper 9\r\n");
+    assert_eq!(fs::read_to_string(&file).unwrap(), expected);
+    done(&[
+        "change",
+        &file,
+        "add attribute x 2.999.2; guid 00000000000000000000000000000003; syntax 9 2",
+    ]);
+    let row =
+        "\n\nattribute x 2.999.2\n  guid 00000000000000000000000000000003\n  syntax 9 2\n\u{1a}";
+    let expected = expected.replace('\u{1a}', row);
+    assert_eq!(fs::read_to_string(&file).unwrap(), expected);
+    let _ = fs::remove_dir_all(folder);
 }
 
 #[test]

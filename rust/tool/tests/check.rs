@@ -24,6 +24,23 @@ fn a_schema_is_accepted_in_each_form() {
     );
 }
 
+/// A stray control byte makes no sheet of a text, and the ^Z with which DOS ends
+/// one says nothing.
+#[test]
+fn a_text_may_hold_control_bytes() {
+    let checked = |text: &str| fed(&["check", "-"], text.as_bytes());
+    for text in [
+        format!("{CN}{TOP}\x1A"),
+        format!("{CN}# a \x07 bell\n{TOP}"),
+    ] {
+        let ran = checked(&text);
+        assert_eq!((ran.code, ran.err.as_str()), (0, ""), "{text:?}");
+    }
+    let ran = checked(&format!("{CN}{TOP} \x07\n"));
+    let words = "standard input: line 9: \\u{7}: not a line of this row\n";
+    assert_eq!((ran.code, ran.err.as_str()), (2, words));
+}
+
 #[test]
 fn the_accident_is_told_with_both_rivals() {
     let words = refused(1, &["check", "samples/refused.sheet"]);
@@ -86,7 +103,7 @@ fn rules_of_attributes_are_told_with_what_breaks_them() {
     let words = "15, identifier taken: attribute 1 `age`: identifier 2.5.6.0 of attribute 1 `age` and class 0 `top`";
     assert_eq!(told(&text), words);
     let text = attribute("age", "syntax 9 2").replace("0003\n", "0001\n");
-    let words = "16, guid taken: attribute 0 `cn`: GUID 00000000-0000-0000-0000-000000000001 of attribute 0 `cn` and attribute 1 `age`";
+    let words = "16, guid taken: attribute 0 `cn`: GUID 00000000000000000000000000000001 of attribute 0 `cn` and attribute 1 `age`";
     assert_eq!(told(&text), words);
     let text = attribute("age", "syntax 9 2;lower 5;upper 5");
     assert_eq!(
@@ -170,10 +187,66 @@ fn an_unreadable_sheet_is_told_by_row_field_and_bytes() {
     let expected = "4, unreadable: byte 71 of ";
     assert!(line.starts_with(expected), "{line}");
     assert!(
-        line.ends_with("`: field 01, display name (70 bytes); its length may be: 0 to 64"),
+        line.ends_with("`: field 01, display name (70 bytes); its length may be: 0 to 64; its value: any bytes; which names are valid is for rule 12"),
         "{line}"
     );
     let _ = fs::remove_dir_all(folder);
+}
+
+#[test]
+fn an_unreadable_value_is_told_with_what_it_may_be() {
+    let ends = |text: &str, words: &str| {
+        let line = told(text);
+        assert!(
+            line.starts_with("4, unreadable: ") && line.ends_with(words),
+            "{line}"
+        );
+    };
+    let words = "in attribute 1 `age`: field 0C, linkID (4 bytes); its length may be: 4; its value: not zero";
+    ends(&attribute("age", "syntax 9 2;link 0"), words);
+    let ldif = "dn: CN=top\nlDAPDisplayName: top\ngovernsID: 2.5.6.0\nschemaIDGUID:: t3qWv+YN0BGihQCqADBJ4g==
+subClassOf: top\nobjectClassCategory: 7\n";
+    let words = "in class 0 `top`: field 10, category (1 byte); its length may be: 1; \
+                 its value: 0 88 class, 1 structural, 2 abstract, 3 auxiliary";
+    ends(ldif, words);
+}
+
+/// A field of less than 256 bytes.
+fn field(tag: u8, value: &[u8]) -> Vec<u8> {
+    let length = u8::try_from(value.len()).unwrap();
+    [&[tag, 0, length], value].concat()
+}
+
+#[test]
+fn rows_fields_and_entries_out_of_order_are_told() {
+    let told = |fields: &[&[u8]]| {
+        let ran = fed(&["check", "-"], &fields.concat());
+        assert_eq!(ran.code, 1);
+        ran.err.lines().nth(1).unwrap().to_owned()
+    };
+    let common = [
+        field(0x01, b"top"),
+        field(0x02, &[0; 4]),
+        field(0x03, &[0; 16]),
+        field(0x04, &[0; 4]),
+    ];
+    let top = [common.concat(), field(0x10, &[2]), field(0x11, &[0, 0])].concat();
+    let heading = field(0x01, &[1]);
+    let row = |fields: &[&[u8]]| field(0x30, &fields.concat());
+    let falling = row(&[&top, &field(0x19, &[0, 1, 0, 0])]);
+    let words = "4, unreadable: byte 55 of 62, in class 0 `top`: field 19, open possible superiors (4 bytes); \
+                 its length may be: 2 for each entry; its value: class numbers below 128, each greater than the one before";
+    assert_eq!(told(&[&heading, &falling]), words);
+    let swapped = row(&[&common[1], &common[0]]);
+    let words = "4, unreadable: byte 14 of 20, in class 0 `top`: field 01, display name (3 bytes); \
+                 it stands behind field 02, and tags must rise; its length may be: 0 to 64; \
+                 its value: any bytes; which names are valid is for rule 12";
+    assert_eq!(told(&[&heading, &swapped]), words);
+    let late = field(0x20, &[]);
+    let words = "4, unreadable: byte 55 of 58, at the tag of attribute 0, behind a class";
+    assert_eq!(told(&[&heading, &row(&[&top]), &late]), words);
+    let words = "4, unreadable: byte 4 of 8, at the heading, a second time";
+    assert_eq!(told(&[&heading, &heading]), words);
 }
 
 #[test]
@@ -212,6 +285,22 @@ fn more_rows_than_fit_are_told() {
     let text: String = (0..300).map(row).collect();
     let words = "6, no free row: 300 attributes, and there is room for 256: the first without is attribute 256 `a256`";
     assert_eq!(told(&text), words);
+    // Also where a row names one that has no room, which no field can say.
+    let row = |at: usize| {
+        let under = if at == 149 { "c148" } else { "c0" };
+        format!("class c{at} 2.999.{at}\n guid {at:032x}\n structural\n under {under}\n")
+    };
+    let text: String = (0..150).map(row).collect();
+    let text = text.replacen("under c0\nclass c2 ", "under c0\n in c140\nclass c2 ", 1);
+    let words = "6, no free row: 150 classes, and there is room for 128: the first without is class 128 `c128`";
+    assert_eq!(told(&text), words);
+    let ran = fed(&["check", "-"], text.as_bytes());
+    assert!(
+        ran.err
+            .starts_with("standard input: refused, row at line 514\n"),
+        "{}",
+        ran.err
+    );
 }
 
 #[test]

@@ -69,6 +69,16 @@ possSuperiors: organizationalUnit";
     assert!(entry.ends_with(ends), "{entry}");
 }
 
+#[test]
+fn a_dn_that_is_no_safe_string_stands_in_base64() {
+    let ldif = done(&["export", "--base", "DC=W\u{e4}lder", FOREST]);
+    // CN=top,DC=Wälder
+    assert!(ldif.contains("\ndn:: Q049dG9wLERDPVfDpGxkZXI=\n"), "{ldif}");
+    assert!(ldif.is_ascii());
+    let sheet = fs::read(FOREST).unwrap();
+    assert!(fed(&["import", "--sheet", "-"], ldif.as_bytes()).out == sheet);
+}
+
 /// Attributes of a class and of an attribute, in the form of a small schema.
 const CN: &str = "dn: CN=Common-Name,CN=Schema
 objectClass: attributeSchema
@@ -115,19 +125,19 @@ fn import_fault(text: &str) -> String {
 #[test]
 fn names_stand_in_any_order_and_superclasses_come_first() {
     let expected = "attribute cn 2.5.4.3
-  guid 3f7996bf-e60d-d011-a285-00aa003049e2
+  guid 3f7996bfe60dd011a28500aa003049e2
   base
   flags 2
   syntax 12 64
   single
 
 class top 2.5.6.0
-  guid b77a96bf-e60d-d011-a285-00aa003049e2
+  guid b77a96bfe60dd011a28500aa003049e2
   abstract
   under top
 
 class person 2.5.6.6
-  guid a77a96bf-e60d-d011-a285-00aa003049e2
+  guid a77a96bfe60dd011a28500aa003049e2
   88
   under top
   naming cn
@@ -165,6 +175,14 @@ fn lines_are_folded_and_comments_passed_over() {
 }
 
 #[test]
+fn ldif_that_begins_with_a_folded_comment_is_ldif() {
+    let text = format!("# a long comment\n goes on\n  and on\n{CN}\n{TOP}");
+    let ran = fed(&["check", "-"], text.as_bytes());
+    assert_eq!((ran.code, ran.err.as_str()), (0, ""));
+    assert_eq!(import(&text, &[]).code, 0);
+}
+
+#[test]
 fn what_does_not_fit_is_told_by_entry_and_line() {
     let all = format!("{CN}\n{TOP}\n{PERSON}");
     let changed = |from: &str, to: &str| import_fault(&all.replacen(from, to, 1));
@@ -188,6 +206,10 @@ fn what_does_not_fit_is_told_by_entry_and_line() {
     assert_eq!(
         changed("oMSyntax: 64", "oMSyntax: many"),
         format!("{begin} 7: entry `cn`: oMSyntax: not a number that fits")
+    );
+    assert_eq!(
+        changed("attributeID: 2.5", "attributeID: 2.+5"),
+        format!("{begin} 4: entry `cn`: attributeID: not numbers with dots between")
     );
     assert_eq!(
         changed("TRUE", "yes"),
@@ -218,7 +240,8 @@ fn lines_that_are_no_ldif_are_told() {
     );
     assert_eq!(
         import_fault("dn: DC=x\nobjectClass: dMD\n"),
-        "standard input: no entry is an attributeSchema or a classSchema"
+        "standard input: line 1: passed over: neither attributeSchema nor classSchema
+standard input: no entry is an attributeSchema or a classSchema"
     );
     assert_eq!(
         fed(&["import", "-"], b"class top\n").err,
@@ -234,6 +257,39 @@ fn other_entries_and_changes_are_passed_over_and_told() {
 standard input: line 22: passed over: a change of type modify
 ";
     assert_eq!((ran.code, ran.err.as_str()), (0, expected));
+    // Whichever command reads them.
+    let text = format!("{CN}\n{TOP}\n{other}");
+    for words in [
+        vec!["check", "-"],
+        vec!["show", "-", "cn"],
+        vec!["diff", "-", FOREST],
+        vec!["change", "--dry-run", "-", "range attribute cn 0 5"],
+    ] {
+        assert_eq!(
+            fed(&words, text.as_bytes())
+                .err
+                .lines()
+                .take(2)
+                .collect::<Vec<_>>(),
+            expected.lines().collect::<Vec<_>>(),
+            "{words:?}"
+        );
+    }
+}
+
+#[test]
+fn additions_in_the_directory_s_own_files_are_taken() {
+    let added = |text: &str| text.replacen("\nobject", "\nchangetype: ntdsSchemaAdd\nobject", 1);
+    let ran = import(&format!("{}\n{}", added(CN), added(TOP)), &[]);
+    assert_eq!((ran.code, ran.err.as_str()), (0, ""));
+    assert!(ran.text().contains("attribute cn ") && ran.text().contains("class top "));
+    // Where nothing is left, what was passed over is told first.
+    let gone = CN.replacen("\nobject", "\nchangetype: delete\nobject", 1);
+    assert_eq!(
+        import_fault(&gone),
+        "standard input: line 1: passed over: a change of type delete
+standard input: no entry is an attributeSchema or a classSchema"
+    );
 }
 
 #[test]
@@ -266,6 +322,32 @@ fn only_what_is_needed_is_taken() {
             .err
             .starts_with("something is missing; it is: keeper import ")
     );
+}
+
+#[test]
+fn only_asks_nothing_of_entries_that_are_not_taken() {
+    let other = CN
+        .replace("cn\n", "wide\n")
+        .replace("2.5.4.3\n", "2.5.4.4\n");
+    let ranged = format!("{other}rangeUpper: 4294967295\n");
+    let bare = TOP
+        .replace("top\ng", "bare\ng")
+        .replace("schemaIDGUID:: t3qWv+YN0BGihQCqADBJ4g==\n", "");
+    let person = format!("{PERSON}possSuperiors: nowhere\n");
+    let all = format!("{CN}\n{TOP}\n{ranged}\n{bare}\n{person}");
+    let ran = import(&all, &["--only", "person"]);
+    let left_out = "standard input: 1 possible superior left out: its class is not taken\n";
+    assert_eq!((ran.code, ran.err.as_str()), (0, left_out));
+    assert!(ran.text().contains("class person "), "{}", ran.text());
+    // What is taken must be sound, by its name and by its identifier.
+    let fault = "standard input: line 28: entry `wide`: rangeUpper: not a number that fits\n";
+    assert_eq!(import(&all, &["--only", "wide"]).err, fault);
+    assert_eq!(import(&all, &["--only", "2.5.4.4"]).err, fault);
+    assert_eq!(
+        import(&all, &["--only", "bare"]).err,
+        "standard input: line 30: entry `bare`: schemaIDGUID is missing\n"
+    );
+    assert_eq!(import(&all, &[]).err, fault);
 }
 
 #[test]

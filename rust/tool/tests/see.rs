@@ -38,7 +38,7 @@ fn the_list_has_both_tables_or_one() {
 fn a_class_is_shown_with_what_it_demands_and_whence() {
     let expected = "class 11 habitat
   identifier                1.3.6.1.4.1.32473.6.20.6
-  schemaIDGUID              ab60268d-52fc-41a4-a0af-8faf94de1d0f
+  schemaIDGUID              ab60268d52fc41a4a0af8faf94de1d0f
   systemFlags               0
   category                  auxiliary
   superclass                located
@@ -65,7 +65,7 @@ allows
 fn an_attribute_is_shown_with_its_fields() {
     let expected = "attribute 14 memberOf
   identifier       1.2.840.113556.1.2.102
-  schemaIDGUID     bd71f3a0-22ac-46b1-a13b-d3913b8d1df2
+  schemaIDGUID     bd71f3a022ac46b1a13bd3913b8d1df2
   systemFlags      16
   marks            base
   attributeSyntax  2.5.5.1

@@ -83,7 +83,7 @@ fn act(arguments: &Arguments, io: &mut Io) -> Result<(), Failure> {
     if !is_dry {
         savable(&given)?;
     }
-    let opened = Opened::of(given)?;
+    let opened = Opened::of(given, io.err)?;
     let mut session = Session::new(opened, arguments.has("--whole"));
     let tally = session.make(&changes, arguments.has("--each"), io)?;
     session.finish(&tally, locked.as_ref(), io)

@@ -35,8 +35,8 @@ fn act(arguments: &Arguments, io: &mut Io) -> Result<(), Failure> {
             "only one of the two schemas can be standard input",
         ));
     }
-    let old = Opened::read(old, io.input)?;
-    let new = Opened::read(new, io.input)?;
+    let old = Opened::read(old, io.input, io.err)?;
+    let new = Opened::read(new, io.input, io.err)?;
     let played = played(&old.schema, &old.stores, &new.schema)?;
     let changes = played.changes.iter().map(|change| match change {
         Change::Add { block, .. } => format!("add {}", block.text()),

@@ -4,11 +4,9 @@ use super::{Command, Io};
 use crate::arguments::{Arguments, text};
 use crate::failure::Failure;
 use crate::input::{Form, Given};
-use crate::ldif::import;
-use crate::opened::{held, loaded, unwritten};
+use crate::opened::{held, loaded, taken_in, unwritten};
 use crate::sheet::encode;
 use crate::text::written;
-use crate::words::printable;
 
 pub const COMMAND: Command = Command {
     name: "import",
@@ -17,7 +15,10 @@ pub const COMMAND: Command = Command {
     help: "FILE holds entries of attributeSchema and classSchema as Active Directory and
 Samba write them. Names are found in any order, superclasses are put first. What
 does not fit is told by entry and line. Entries of other kinds, and changes that
-add nothing, are passed over and told on standard error.
+add nothing, are passed over and told on standard error. A change of the type
+ntdsSchemaAdd adds, as add does. A schemaIDGUID in base64 is 16 bytes; one with
+hyphens is read as directories show it, its first three parts least significant
+byte first. The text has the 16 bytes in their order, without hyphens.
 
 --only takes the classes and attributes named behind it and what they need:
 superclasses, auxiliary classes, attributes, forward links. Possible superiors
@@ -42,11 +43,7 @@ fn act(arguments: &Arguments, io: &mut Io) -> Result<(), Failure> {
     if given.form != Form::Ldif {
         return Err(unusable("is no LDIF".to_owned()));
     }
-    let import = import(&given.text(), &names).map_err(unusable)?;
-    for note in &import.notes {
-        // Notes are for people; nothing hangs on them.
-        let _ = writeln!(io.err, "{}: {}", given.name, printable(note));
-    }
+    let import = taken_in(&given, &names, io.err)?;
     let sheet = encode(&import.schema).map_err(unusable)?;
     let stores = loaded(&given.name, &sheet, Some(&import.lines));
     match stores {

@@ -156,5 +156,5 @@ keeper COMMAND --help says more, with an example.\n"
 /// The schema that a command's only operand names.
 fn opened(arguments: &Arguments, usage: &str, io: &mut Io) -> Result<Opened, Failure> {
     let [path] = arguments.exactly(usage)?;
-    Opened::read(path, io.input)
+    Opened::read(path, io.input, io.err)
 }

@@ -177,11 +177,12 @@ impl Session {
         }
         let name = self.given.name.clone();
         let text = patched(&self.given.text(), &self.before, &self.schema);
-        let again = Given::of(name.clone(), text.clone().into_bytes())?;
-        let (again, _) = sheet_of(&again)?;
+        let text = self.given.in_place(&text);
+        let again = Given::of(name.clone(), text.clone())?;
+        let (again, _) = sheet_of(&again, &mut std::io::sink())?;
         let again = Stores::load(&again).and_then(|stores| stores.sheet());
         match again == Ok(sheet) {
-            true => Ok(text.into_bytes()),
+            true => Ok(text),
             false => Err(Failure::unusable(format!(
                 "{name}: the text cannot be rewritten, so it is as it was"
             ))),

@@ -36,7 +36,7 @@ Example:
 fn act(arguments: &Arguments, io: &mut Io) -> Result<(), Failure> {
     let [path, name] = arguments.exactly(COMMAND.usage)?;
     let name = text(name)?;
-    let opened = Opened::read(path, io.input)?;
+    let opened = Opened::read(path, io.input, io.err)?;
     let schema = &opened.schema;
     let missing = || {
         let words = nearest_row(schema, &name);

@@ -2,6 +2,7 @@
 
 use super::records::{Record, Value};
 use crate::rows::Common;
+use sheet_text::arcs;
 
 /// An entry with its name, for faults.
 pub struct Entry<'a> {
@@ -68,8 +69,7 @@ impl<'a> Entry<'a> {
     /// What every row has; `identifier` is attributeID or governsID.
     pub fn common(&self, identifier: &str) -> Result<Common, String> {
         let oid = self.needed(identifier)?;
-        let arcs: Result<Vec<u32>, _> = oid.text().split('.').map(str::parse).collect();
-        let fault = |_| {
+        let fault = || {
             self.fault(
                 oid.line,
                 &format!("{identifier}: not numbers with dots between"),
@@ -77,7 +77,7 @@ impl<'a> Entry<'a> {
         };
         Ok(Common {
             name: self.name.clone().into_bytes(),
-            arcs: arcs.map_err(fault)?,
+            arcs: arcs(&oid.text()).ok_or_else(fault)?,
             guid: self.guid()?,
             flags: self.flags()?,
             defunct: self.truth("isDefunct")?,

@@ -20,12 +20,25 @@ pub fn exported(schema: &Schema, base: &str) -> String {
 
 fn entry(base: &str, name: &str, lines: &[String]) -> String {
     let head = [
-        format!("dn: CN={name},{base}"),
+        line("dn", &format!("CN={name},{base}")),
         "changetype: add".to_owned(),
         "objectClass: top".to_owned(),
     ];
     let lines: String = head.iter().chain(lines).map(|line| folded(line)).collect();
     format!("\n{lines}")
+}
+
+/// A name and its value; in base64 where the value is no SAFE-STRING of RFC 2849,
+/// or ends with a space.
+fn line(name: &str, value: &str) -> String {
+    let is_safe = value.is_ascii()
+        && !value.contains(['\0', '\n', '\r'])
+        && !value.starts_with([' ', ':', '<'])
+        && !value.ends_with(' ');
+    match is_safe {
+        true => format!("{name}: {value}"),
+        false => format!("{name}:: {}", encoded(value.as_bytes())),
+    }
 }
 
 /// A line of at most 76 letters, and what is left over in lines behind it.

@@ -14,14 +14,12 @@ pub struct Import {
     pub schema: Schema,
     /// The line of each row's entry.
     pub lines: Lines,
-    /// What was passed over, in words.
-    pub notes: Vec<String>,
 }
 
 /// The rows of a text of LDIF, or only those that some names need. What does not
-/// fit is told by entry and line.
-pub fn import(text: &str, only: &[String]) -> Result<Import, String> {
-    let drafts = drafts(&records(text)?)?;
+/// fit is told by entry and line; what is passed over is noted, in words.
+pub fn import(text: &str, only: &[String], notes: &mut Vec<String>) -> Result<Import, String> {
+    let drafts = drafts(&records(text)?, notes);
     if drafts.attributes.is_empty() && drafts.classes.is_empty() {
         return Err("no entry is an attributeSchema or a classSchema".to_owned());
     }
@@ -30,11 +28,15 @@ pub fn import(text: &str, only: &[String]) -> Result<Import, String> {
         true => index.rows.clone(),
         false => needed(&drafts, &index, only)?,
     };
-    let order = Order::of(&drafts, &index, &taken);
+    let faults = taken.iter().filter_map(|row| drafts.fault(*row));
+    if let Some((_, fault)) = faults.min() {
+        return Err(fault.to_owned());
+    }
+    let mut order = Order::of(&drafts, &index, &taken);
+    order.is_part = !only.is_empty();
     let mut import = Import {
         schema: Schema::default(),
         lines: Lines::default(),
-        notes: drafts.notes.clone(),
     };
     for number in &order.attributes {
         let draft = &drafts.attributes[*number];
@@ -50,14 +52,19 @@ pub fn import(text: &str, only: &[String]) -> Result<Import, String> {
             .push(class(draft, &index, &order, &mut left_out)?);
         import.lines.classes.push(draft.line);
     }
-    import.notes.extend(match left_out {
+    notes.extend(left_out_words(left_out));
+    Ok(import)
+}
+
+/// How many possible superiors were left out, where any were.
+fn left_out_words(count: usize) -> Option<String> {
+    match count {
         0 => None,
         1 => Some("1 possible superior left out: its class is not taken".to_owned()),
         _ => Some(format!(
-            "{left_out} possible superiors left out: their classes are not taken"
+            "{count} possible superiors left out: their classes are not taken"
         )),
-    });
-    Ok(import)
+    }
 }
 
 /// Rows by name and by identifier.
@@ -87,11 +94,10 @@ impl Index {
         {
             let is_class = id.table == Table::Classes;
             let name = String::from_utf8_lossy(&row.name).to_ascii_lowercase();
-            index.names.entry((is_class, name)).or_insert(id.number);
-            index
-                .names
-                .entry((is_class, dotted(&row.arcs)))
-                .or_insert(id.number);
+            let identifier = Some(dotted(&row.arcs)).filter(|identifier| !identifier.is_empty());
+            for key in [Some(name), identifier].into_iter().flatten() {
+                index.names.entry((is_class, key)).or_insert(id.number);
+            }
             index.rows.insert(id);
         }
         index
@@ -112,6 +118,8 @@ struct Order {
     attributes: Vec<usize>,
     classes: Vec<usize>,
     numbers: BTreeMap<RowId, usize>,
+    /// Whether only what some names need is taken.
+    is_part: bool,
 }
 
 impl Order {
@@ -137,6 +145,7 @@ impl Order {
             attributes,
             classes,
             numbers,
+            is_part: false,
         }
     }
 }
@@ -155,8 +164,9 @@ fn superclasses_first(
         let mut next = Some(class);
         while let Some(class) = next.filter(|class| placed.insert(*class)) {
             chain.push(class);
-            let above = &drafts.classes[class].superclass.name;
-            next = index.find(Table::Classes, above).map(|row| row.number);
+            let above = drafts.classes[class].superclass.as_ref();
+            let above = above.and_then(|above| index.find(Table::Classes, &above.name));
+            next = above.map(|row| row.number);
         }
         order.extend(chain.into_iter().rev());
     }
@@ -181,14 +191,20 @@ fn class(
         u16::try_from(number).map_err(|_| format!("line {}: too many rows", reference.line))
     };
     let mut row = draft.row.clone();
-    row.superclass = number(Table::Classes, &draft.superclass)?;
+    if let Some(superclass) = &draft.superclass {
+        row.superclass = number(Table::Classes, superclass)?;
+    }
     let naming = draft
         .naming
         .as_ref()
         .map(|naming| number(Table::Attributes, naming));
     row.naming = naming.transpose()?;
     for (list, reference) in &draft.lists {
-        if is_superior(list.tag()) && matches!(find(list.table(), reference), Ok(None)) {
+        let is_there = match find(list.table(), reference) {
+            Ok(number) => number.is_some(),
+            Err(_) => !order.is_part,
+        };
+        if is_superior(list.tag()) && !is_there {
             *left_out += 1;
             continue;
         }

@@ -52,10 +52,11 @@ fn needs(drafts: &Drafts, index: &Index, row: RowId) -> Vec<RowId> {
                 .naming
                 .iter()
                 .filter_map(|naming| find(Table::Attributes, naming));
-            entries
-                .chain(naming)
-                .chain(find(Table::Classes, &draft.superclass))
-                .collect()
+            let superclass = draft
+                .superclass
+                .iter()
+                .filter_map(|above| find(Table::Classes, above));
+            entries.chain(naming).chain(superclass).collect()
         }
     }
 }

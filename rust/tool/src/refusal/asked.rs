@@ -5,7 +5,7 @@ use super::rules::broken;
 use crate::changes::{Change, after, list_word};
 use crate::guess::nearest;
 use crate::rows::{Class, List, RowId, Schema, Table};
-use crate::sheet::located;
+use crate::sheet::located_from;
 use crate::stores::{Kept, Stores};
 use crate::words::joined;
 use keeper::Answer;
@@ -21,7 +21,7 @@ pub fn asked(
     let target = change.target(schema);
     let told = target.map(|row| schema.told(row)).unwrap_or_default();
     match answer.number {
-        4 => unreadable(change, bytes, answer),
+        4 => unreadable(change, bytes, answer, schema),
         5 => missing(change, schema),
         6 => "the table is full".to_owned(),
         7 => match change {
@@ -45,7 +45,7 @@ pub fn asked(
 }
 
 /// A change that cannot be read: a name that is too long, mostly.
-fn unreadable(change: &Change, bytes: &[u8], answer: Answer) -> String {
+fn unreadable(change: &Change, bytes: &[u8], answer: Answer, schema: &Schema) -> String {
     match change {
         Change::Rename { to, .. } => format!("a name of {} bytes, and 64 is the most", to.len()),
         _ => {
@@ -54,7 +54,9 @@ fn unreadable(change: &Change, bytes: &[u8], answer: Answer) -> String {
             if let Some(tag) = row.first_mut() {
                 *tag = if *tag == 0x41 { 0x30 } else { 0x20 };
             }
-            located(&row, offset).join("\n  ")
+            // An added row is told by the number that it would get.
+            let first = change.target(schema).map_or(0, |row| row.number);
+            located_from(&row, offset, first).join("\n  ")
         }
     }
 }

@@ -9,4 +9,4 @@ mod locate;
 pub use decode::decode;
 pub use encode::{attribute_fields, class_fields, encode, field};
 pub use fields::{Field, fields};
-pub use locate::{located, row_at};
+pub use locate::{located, located_from, row_at};

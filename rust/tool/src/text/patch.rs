@@ -6,8 +6,8 @@ use crate::rows::{List, RowId, Schema};
 
 /// The text of the schema after changes, from the text of the one before. Lines
 /// of a row whose word says the same as before stay; others are put in place of
-/// the first line with their word, or behind the row's last line; added rows
-/// come last.
+/// the first line with their word, or behind the row's last line; where a line
+/// goes its comment stays; added rows come last.
 pub fn patched(text: &str, before: &Schema, after: &Schema) -> String {
     let mut rows = Rows {
         before,
@@ -15,34 +15,88 @@ pub fn patched(text: &str, before: &Schema, after: &Schema) -> String {
         next: [0; 2],
         row: None,
     };
-    let mut written = Vec::new();
-    let mut pending: Vec<&str> = Vec::new();
+    let mut written = Written::of(text);
+    let mut pending: Vec<(&str, &str)> = Vec::new();
     let mut seen = Vec::new();
-    for line in text.lines() {
+    for (line, ending) in text.split_inclusive('\n').map(parted) {
         let word = first_word(line);
         if matches!(word, Some("attribute" | "class")) {
-            written.extend(rows.missing(&seen));
+            written.add(rows.missing(&seen));
             seen.clear();
             rows.begin(word == Some("attribute"));
         }
-        if word.is_some() {
-            written.extend(pending.drain(..).map(str::to_owned));
-            written.extend(rows.line(line, &mut seen));
-        } else {
-            pending.push(line);
+        if word.is_none() {
+            pending.push((line, ending));
+            continue;
+        }
+        for (line, ending) in pending.drain(..) {
+            written.keep(line, ending);
+        }
+        if let Some(line) = rows.line(line, &mut seen) {
+            written.keep(&line, ending);
         }
     }
-    written.extend(rows.missing(&seen));
-    written.extend(pending.drain(..).map(str::to_owned));
-    let ending = if text.contains("\r\n") { "\r\n" } else { "\n" };
-    let added = rows
-        .added()
-        .map(|row| format!("\n{}", block(after, row)).replace('\n', ending));
-    let old: String = written
-        .iter()
-        .map(|line| format!("{line}{ending}"))
-        .collect();
-    old + &added.collect::<String>()
+    written.add(rows.missing(&seen));
+    for (line, ending) in pending {
+        written.keep(line, ending);
+    }
+    for row in rows.added() {
+        written.add([String::new()]);
+        written.add(block(after, row).lines().map(str::to_owned));
+    }
+    written.text
+}
+
+/// A line and what ends it; the last line of a text may have no end.
+fn parted(line: &str) -> (&str, &str) {
+    let said = line.strip_suffix('\n').unwrap_or(line);
+    let said = match line.ends_with("\r\n") {
+        true => &said[..said.len() - 1],
+        false => said,
+    };
+    line.split_at(said.len())
+}
+
+/// A text as it is written anew: lines keep what ends them, and new ones end as
+/// the line before them does.
+struct Written {
+    text: String,
+    ending: String,
+}
+
+impl Written {
+    /// Nothing yet; lines will end as the first of this text does.
+    fn of(text: &str) -> Written {
+        let first = text.split_inclusive('\n').next().map(parted);
+        let ending = first.map(|(_, ending)| ending);
+        Written {
+            text: String::new(),
+            ending: ending
+                .filter(|ending| !ending.is_empty())
+                .unwrap_or("\n")
+                .to_owned(),
+        }
+    }
+
+    /// Takes a line with what ends it.
+    fn keep(&mut self, line: &str, ending: &str) {
+        if !self.text.is_empty() && !self.text.ends_with('\n') {
+            self.text.push_str(&self.ending);
+        }
+        self.text.push_str(line);
+        self.text.push_str(ending);
+        if !ending.is_empty() {
+            self.ending = ending.to_owned();
+        }
+    }
+
+    /// Takes new lines.
+    fn add(&mut self, lines: impl IntoIterator<Item = String>) {
+        for line in lines {
+            let ending = self.ending.clone();
+            self.keep(&line, &ending);
+        }
+    }
 }
 
 /// The first word of a line, without its comment.
@@ -50,16 +104,20 @@ fn first_word(line: &str) -> Option<&str> {
     line.split('#').next()?.split_whitespace().next()
 }
 
-/// A text with the indent and the comment of the line in whose place it comes.
-fn in_place_of(line: &str, text: &str) -> String {
+/// A text with the indent and the comment of the line in whose place it comes;
+/// where no text comes the comment, if there is one.
+fn in_place_of(line: &str, text: Option<String>) -> Option<String> {
     let indent: String = line
         .chars()
         .take_while(|letter| letter.is_whitespace())
         .collect();
-    let comment = line
-        .split_once('#')
-        .map(|(_, comment)| format!("  #{comment}"));
-    indent + text + &comment.unwrap_or_default()
+    let comment = line.split_once('#').map(|(_, comment)| comment);
+    match (text, comment) {
+        (Some(text), Some(comment)) => Some(format!("{indent}{text}  #{comment}")),
+        (Some(text), None) => Some(indent + &text),
+        (None, Some(comment)) => Some(format!("{indent}#{comment}")),
+        (None, None) => None,
+    }
 }
 
 /// The rows of a text, one after the other.
@@ -109,7 +167,7 @@ impl Rows<'_> {
             Some(list) => self.listed(list, line, again),
             None => after.filter(|_| !again),
         };
-        Some(in_place_of(line, &text?))
+        in_place_of(line, text)
     }
 
     /// A line of a list: what stays, in its order and by its new names, and behind
@@ -129,7 +187,7 @@ impl Rows<'_> {
         let numbered = |name: &str| {
             before
                 .iter()
-                .find(|number| self.before.name(row(number)) == name)
+                .find(|number| self.before.name(row(number)).eq_ignore_ascii_case(name))
         };
         let stays = said
             .filter_map(numbered)

@@ -2,7 +2,7 @@
 
 use super::names::Names;
 use crate::rows::{Attribute, BASE, Class, Common, List, RowId, Schema, Table};
-use sheet_text::{Fault, Line, Source};
+use sheet_text::{Fault, Line, Source, arcs};
 
 /// The line at which each row begins, counted from 1.
 #[derive(Clone, Debug, Default, PartialEq, Eq)]
@@ -96,15 +96,14 @@ fn require(source: &Source, words: &[&str], what: &str) -> Result<(), Fault> {
 /// What every row has, from its head; its lines say the rest.
 fn common(source: &Source) -> Result<Common, Fault> {
     let (name, identifier) = source.head()?;
-    let arcs: Result<Vec<u32>, _> = identifier.split('.').map(str::parse).collect();
-    let fault = |_| {
+    let fault = || {
         source
             .head
             .fault("the identifier is not numbers with dots between")
     };
     Ok(Common {
         name: name.as_bytes().to_vec(),
-        arcs: arcs.map_err(fault)?,
+        arcs: arcs(identifier).ok_or_else(fault)?,
         ..Common::default()
     })
 }
