@@ -217,7 +217,7 @@ fn added_classes_may_name_themselves() {
 #[test]
 fn another_order_is_named() {
     let attribute =
-        "attribute soilPh 2.999.1\n  guid 00000000-0000-0000-0000-000000000001\n  syntax 9 2\n";
+        "attribute soilPh 2.999.1\n  guid 00000000000000000000000000000001\n  syntax 9 2\n";
     let text = forest().replacen(
         "attribute soilType ",
         &format!("{attribute}\nattribute soilType "),
