@@ -154,6 +154,28 @@ fn an_output_that_cannot_be_written_is_told_and_nothing_is_saved() {
     let _ = fs::remove_dir_all(folder);
 }
 
+/// Where there is no standard output at all (`>&-`), nothing can be said; the
+/// change is made all the same, and the exit code tells.
+#[test]
+fn without_a_standard_output_the_exit_code_tells() {
+    let folder = folder("closed");
+    let file = copied(&folder, "forest.schema");
+    let old = fs::read(&file).unwrap();
+    let closed = |change: &str| {
+        let line = format!("exec \"$0\" change \"$1\" {change} >&-");
+        let mut shell = Command::new("sh");
+        shell.args(["-c", &line, env!("CARGO_BIN_EXE_keeper"), &file]);
+        shell.stderr(std::process::Stdio::null()).status().unwrap()
+    };
+    let refused = closed("rename attribute soilType AREAHA");
+    assert_eq!(refused.code(), Some(1));
+    assert!(fs::read(&file).unwrap() == old);
+    let done = closed("rename attribute soilType soilKind");
+    assert_eq!(done.code(), Some(0));
+    assert!(fs::read_to_string(&file).unwrap().contains("soilKind"));
+    let _ = fs::remove_dir_all(folder);
+}
+
 #[test]
 fn changes_at_once_are_all_made() {
     let folder = folder("once");
