@@ -1,4 +1,4 @@
--- Rule 22: the chain of superclasses.
+-- Rule 22: the chain of superclasses; and the chain where rule 18 is met.
 use mathlib.Core.Bool.{Bool, not, _&&_, _||_}
 use Prim.Native.Nat.{ℕ, zero, suc, _≤_, _<_}
 use lib.Dec.{ltb, eqb}
@@ -30,3 +30,15 @@ pub record ChainWithin (t : Table) (n c : ℕ) : Type 0 where
   pub steps : ℕ
   pub within : steps ≤ n
   pub chain : PresentChain t c steps
+
+-- ---- where rule 18 is met
+
+-- the chain from c up to row 0 has k steps, each from a class that has a row to an earlier one
+abbrev pub SoundChain : Table → ℕ → ℕ → Type 0
+SoundChain t = Chain t (λ c. (c < t .count) × (superclassOf (t .row c) < c))
+
+-- there is such a chain, of at most as many steps as the number of the class says
+pub record ChainEnds (t : Table) (c : ℕ) : Type 0 where
+  pub steps : ℕ
+  pub few : steps ≤ c
+  pub chain : SoundChain t c steps

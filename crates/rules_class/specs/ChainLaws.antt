@@ -1,19 +1,20 @@
--- What the test of the chain says, and that rule 22 never holds where rule 18 holds for no row.
+-- What the test of the chain says; that every chain ends where rule 18 is met, so that rule 22 never holds where rule 18 holds for no row.
 use mathlib.Core.Bool.{true, false}
 use mathlib.Core.Logic.{_⊎_, inl, inr, ⊎-elim}
 use mathlib.Core.Path.{_≡_, refl}
 use Prim.Native.Nat.{ℕ, zero, suc, _-_, _≤_, _<_}
 use native.Mathlib.Decide.{ℕ-discrete}
 use native.Mathlib.Omega.{arith}
-use lib.Dec.{ltb, eqb}
+use lib.Dec.{eqb}
 use Rattle.prelude.specs.Says.{Says}
 use Rattle.prelude.specs.SaysLaws.{says-and, says-or, says-not, says-eq, says-lt, says-iff, says-true, says-false, says-fails, says-split}
 use Rattle.schema.specs.ClassRow.{superclassOf}
 use Rattle.schema.specs.Store.{Table}
 use Rattle.tables.specs.Chain.{top, up}
-use Rattle.rules_class.specs.Live.{classWrong}
+use Rattle.tables.specs.ChainLaws.{chain-map}
+use Rattle.rules_class.specs.Live.{SuperclassEarly, classWrong}
 use Rattle.rules_class.specs.LiveLaws.{says-class-wrong}
-use Rattle.rules_class.specs.Chain.{chainEnds, chainLimit, chainWrong, PresentChain, ChainWithin}
+use Rattle.rules_class.specs.Chain.{chainEnds, chainLimit, chainWrong, ChainEnds, PresentChain, ChainWithin}
 
 none-left : {t : Table} {n c : ℕ} → PresentChain t c n → n ≤ 0 → c ≡ 0
 none-left top h = refl
@@ -63,28 +64,36 @@ chain-over t n c h = let e : n ≡ 0 = omega arith in rw e
 pub chain-lost : (t : Table) (n c : ℕ) → ¬ (c ≡ 0) → t .count ≤ c → chainEnds t n c ≡ false
 chain-lost t n c d l = says-false (says-chain t n c) (λ h. ⊎-elim d (λ q. omega (arith, q .0)) (back (h .steps) (h .chain) (omega arith)))
 
--- ---- 22 from 18
+-- ---- where rule 18 is met
 
--- superclasses that are earlier lead to row 0 in at most as many steps as the number says
-earlier-ends : (t : Table) → ((k : ℕ) → k < t .count → ¬ (k ≡ 0) → superclassOf (t .row k) < k) → (n c : ℕ) → c < t .count → c ≤ n → ChainWithin t n c
-earlier-ends t e zero c l h = root-within t 0 c (omega arith)
-earlier-ends t e (suc n) c l h = go (λ s. earlier-ends t e n (superclassOf (t .row c)) (omega arith) (omega arith)) (ℕ-discrete c 0)
+-- "Any other class has an earlier class for superclass": every chain ends at row 0
+pub superclass-chain : (t : Table) → ((k : ℕ) → k < t .count → SuperclassEarly k (t .row k)) → (c : ℕ) → c < t .count → ChainEnds t c
+superclass-chain t early c l = within c c l (omega arith)
   where
-    go : (superclassOf (t .row c) < c → ChainWithin t n (superclassOf (t .row c))) → Dec (c ≡ 0) → ChainWithin t (suc n) c
-    go r (yes q) = root-within t (suc n) c q
-    go r (no d) = let w = r (e c l d) in record { steps = suc (w .steps); within = omega (arith, w .within); chain = up d l (w .chain) }
+    root : (c : ℕ) → c ≡ 0 → ChainEnds t c
+    root c e = record { steps = 0; few = omega arith; chain = rw e top }
+
+    onward : (c : ℕ) → c < t .count → superclassOf (t .row c) < c → ChainEnds t (superclassOf (t .row c)) → ChainEnds t c
+    onward c l p w = record { steps = suc (w .steps); few = omega (arith, w .few); chain = up {c = c} (λ e. omega (arith, e)) (l, p) (w .chain) }
+
+    step : (c : ℕ) → c < t .count → (superclassOf (t .row c) < c → ChainEnds t (superclassOf (t .row c))) → ChainEnds t c
+    step c l rest = ⊎-elim (λ q. root c (q .0)) (λ p. onward c l p (rest p)) (early c l)
+
+    within : (n c : ℕ) → c < t .count → c ≤ n → ChainEnds t c
+    within zero c l h = root c (omega arith)
+    within (suc n) c l h = step c l (λ p. within n (superclassOf (t .row c)) (omega arith) (omega arith))
 
 -- "22 never holds where 18 holds for no row"
 pub chain-from-superclass : (t : Table) → t .count ≤ chainLimit → ((k : ℕ) → k < t .count → classWrong t k ≡ false) → (k : ℕ) → k < t .count
     → chainWrong t k ≡ false
-chain-from-superclass t few none k l =
-    says-false (says-chain-wrong t k) (λ bad. bad (earlier-ends t earlier chainLimit k l (omega arith)))
+chain-from-superclass t few none k l = says-false (says-chain-wrong t k) (λ bad. bad ends)
   where
-    earlier : (j : ℕ) → j < t .count → ¬ (j ≡ 0) → superclassOf (t .row j) < j
-    earlier j m d = go (says-split (says-lt (superclassOf (t .row j)) j))
-      where
-        go : ((ltb (superclassOf (t .row j)) j ≡ true) × (superclassOf (t .row j) < j))
-            ⊎ ((ltb (superclassOf (t .row j)) j ≡ false) × ¬ (superclassOf (t .row j) < j))
-            → superclassOf (t .row j) < j
-        go (inl q) = q .1
-        go (inr q) = absurd (says-fails (says-class-wrong t j) (none j m) (inr (λ early. ⊎-elim (λ z. d (z .0)) (q .1) early)))
+    early : (j : ℕ) → j < t .count → SuperclassEarly j (t .row j)
+    early j m =
+        ⊎-elim (λ q. q .1) (λ q. absurd (says-fails (says-class-wrong t j) (none j m) (inr (q .1))))
+        (says-split (says-or (says-and (says-eq j 0) (says-eq (superclassOf (t .row j)) 0)) (says-lt (superclassOf (t .row j)) j)))
+
+    ends : ChainWithin t chainLimit k
+    ends =
+        let e = superclass-chain t early k l in
+        record { steps = e .steps; within = omega (arith, e .few); chain = chain-map (λ c p. p .0) (e .chain) }
