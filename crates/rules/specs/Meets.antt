@@ -43,7 +43,7 @@ NumbersApart m number =
 -- the rules by name
 pub data RuleName : Type 0 where
   nameInvalid nameTaken identifierInvalid identifierTaken guidTaken attributeNotLive classNotLive notAnAuxiliary notASuperior : RuleName
-  categoryMisfit chainAstray namingUnfit mapiTaken rangeEmpty syntaxMisfit objectClassWrong linkTaken linkAlone : RuleName
+  categoryMisfit chainAstray namingUnfit mapiTaken rangeCrossed syntaxMisfit objectClassWrong linkTaken linkAlone : RuleName
 
 abbrev pub ruleNumber : RuleName → ℕ
 ruleNumber nameInvalid = refusal.nameInvalid
@@ -59,7 +59,7 @@ ruleNumber categoryMisfit = refusal.categoryMisfit
 ruleNumber chainAstray = refusal.chainAstray
 ruleNumber namingUnfit = refusal.namingUnfit
 ruleNumber mapiTaken = refusal.mapiTaken
-ruleNumber rangeEmpty = refusal.rangeEmpty
+ruleNumber rangeCrossed = refusal.rangeCrossed
 ruleNumber syntaxMisfit = refusal.syntaxMisfit
 ruleNumber objectClassWrong = refusal.objectClassWrong
 ruleNumber linkTaken = refusal.linkTaken
@@ -120,7 +120,7 @@ Met added namingUnfit m = (k : ℕ) → k < m .classes .count → (n : ℕ) → 
 -- 24 no two attributes have one mAPIID
 Met added mapiTaken m = NumbersApart m mapiOf
 -- 25 no range has its ends crossed
-Met added rangeEmpty m = (k : ℕ) → k < m .attributes .count → ¬ (EndsCrossed (rangeLower (m .attributes .row k)) (rangeUpper (m .attributes .row k)))
+Met added rangeCrossed m = (k : ℕ) → k < m .attributes .count → ¬ (EndsCrossed (rangeLower (m .attributes .row k)) (rangeUpper (m .attributes .row k)))
 -- 26 syntax and oMSyntax match; 27 with oMSyntax 127 oMObjectClass is one of its syntax's
 Met added syntaxMisfit m = (k : ℕ) → k < m .attributes .count → SyntaxFits (syntaxOf (m .attributes .row k)) (omSyntaxOf (m .attributes .row k))
 Met added objectClassWrong m = (k : ℕ) → k < m .attributes .count → omSyntaxOf (m .attributes .row k) ≡ 127

@@ -313,7 +313,7 @@ kept-met added m RuleName.chainAstray =
     class-met m _ (λ k. says-chain-wrong (m .classes) k) (λ k l. decided (says-chain (m .classes) chainLimit k))
 kept-met added m RuleName.namingUnfit = naming-met m
 kept-met added m RuleName.mapiTaken = numbers-met m Mapi refl refl mapiOf (λ a b. (λ d. d, λ d. d))
-kept-met added m RuleName.rangeEmpty =
+kept-met added m RuleName.rangeCrossed =
     attribute-met m _ (λ k. says-range-wrong (m .attributes .row k)) (λ k. (λ n. n, λ n. n))
 kept-met added m RuleName.syntaxMisfit =
     attribute-met m _ (λ k. says-syntax-wrong (m .attributes .row k))
@@ -337,7 +337,7 @@ meets added m = (λ h rule. kept-met added m rule .0 (each-numbered (Kept m) (sc
         unfold numbered in
         (kept RuleName.nameInvalid & kept RuleName.nameTaken & kept RuleName.identifierInvalid & kept RuleName.identifierTaken & kept RuleName.guidTaken
         & kept RuleName.attributeNotLive & kept RuleName.classNotLive & kept RuleName.notAnAuxiliary & kept RuleName.notASuperior
-        & kept RuleName.categoryMisfit & kept RuleName.chainAstray & kept RuleName.namingUnfit & kept RuleName.mapiTaken & kept RuleName.rangeEmpty
+        & kept RuleName.categoryMisfit & kept RuleName.chainAstray & kept RuleName.namingUnfit & kept RuleName.mapiTaken & kept RuleName.rangeCrossed
         & kept RuleName.syntaxMisfit & kept RuleName.objectClassWrong & kept RuleName.linkTaken & kept RuleName.linkAlone & tt)
 
 -- ---- "The smallest number whose condition holds", in words
@@ -390,7 +390,7 @@ all-named added =
     (RuleName.nameInvalid, refl) & (RuleName.nameTaken, refl) & (RuleName.identifierInvalid, refl) & (RuleName.identifierTaken, refl)
     & (RuleName.guidTaken, refl) & (RuleName.attributeNotLive, refl) & (RuleName.classNotLive, refl) & (RuleName.notAnAuxiliary, refl)
     & (RuleName.notASuperior, refl) & (RuleName.categoryMisfit, refl) & (RuleName.chainAstray, refl) & (RuleName.namingUnfit, refl)
-    & (RuleName.mapiTaken, refl) & (RuleName.rangeEmpty, refl) & (RuleName.syntaxMisfit, refl) & (RuleName.objectClassWrong, refl)
+    & (RuleName.mapiTaken, refl) & (RuleName.rangeCrossed, refl) & (RuleName.syntaxMisfit, refl) & (RuleName.objectClassWrong, refl)
     & (RuleName.linkTaken, refl) & (RuleName.linkAlone, refl) & tt
 
 case-named : {n : ℕ} (test : Rule → Bool) (rs : List Rule) → Each (λ r. (rule : RuleName) × (ruleNumber rule ≡ r .number)) rs
@@ -462,7 +462,7 @@ meets-nothing added m h RuleName.categoryMisfit = h RuleName.categoryMisfit
 meets-nothing added m h RuleName.chainAstray = h RuleName.chainAstray
 meets-nothing added m h RuleName.namingUnfit = h RuleName.namingUnfit
 meets-nothing added m h RuleName.mapiTaken = h RuleName.mapiTaken
-meets-nothing added m h RuleName.rangeEmpty = h RuleName.rangeEmpty
+meets-nothing added m h RuleName.rangeCrossed = h RuleName.rangeCrossed
 meets-nothing added m h RuleName.syntaxMisfit = h RuleName.syntaxMisfit
 meets-nothing added m h RuleName.objectClassWrong = h RuleName.objectClassWrong
 meets-nothing added m h RuleName.linkTaken = h RuleName.linkTaken

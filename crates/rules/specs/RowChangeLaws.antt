@@ -255,7 +255,7 @@ module _ (k : ℕ) (m n : Schema) where
           & alone refusal.chainAstray (classes-stay chainWrong (was refusal.chainAstray Classes) t h (chain-kept t h))
           & alone refusal.namingUnfit (naming-kept t h)
           & taken-here everyRow Mapi (h .changed) (was refusal.mapiTaken)
-          & alone refusal.rangeEmpty (attribute-rows-stay t h rangeWrong (was refusal.rangeEmpty Attributes))
+          & alone refusal.rangeCrossed (attribute-rows-stay t h rangeWrong (was refusal.rangeCrossed Attributes))
           & alone refusal.syntaxMisfit (attribute-rows-stay t h syntaxWrong (was refusal.syntaxMisfit Attributes))
           & alone refusal.objectClassWrong (attribute-rows-stay t h objectClassWrong (was refusal.objectClassWrong Attributes))
           & taken-here everyRow Link (h .changed) (was refusal.linkTaken)

@@ -82,7 +82,7 @@ schemaRules added =
     ∷ rule refusal.chainAstray (ofClasses (λ m k. chainWrong (m .classes) k))
     ∷ rule refusal.namingUnfit (ofClasses (λ m k. namingWrong (m .attributes) (namingOf (m .classes .row k))))
     ∷ rule refusal.mapiTaken (taken everyRow Mapi)
-    ∷ rule refusal.rangeEmpty (ofAttributes (λ a k. rangeWrong (a .row k)))
+    ∷ rule refusal.rangeCrossed (ofAttributes (λ a k. rangeWrong (a .row k)))
     ∷ rule refusal.syntaxMisfit (ofAttributes (λ a k. syntaxWrong (a .row k)))
     ∷ rule refusal.objectClassWrong (ofAttributes (λ a k. objectClassWrong (a .row k)))
     ∷ rule refusal.linkTaken (taken everyRow Link)

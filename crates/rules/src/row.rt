@@ -39,7 +39,7 @@ use schema::refusal::NAMING_UNFIT;
 use schema::refusal::NOT_A_SUPERIOR;
 use schema::refusal::NOT_AN_AUXILIARY;
 use schema::refusal::OBJECT_CLASS_WRONG;
-use schema::refusal::RANGE_EMPTY;
+use schema::refusal::RANGE_CROSSED;
 use schema::refusal::SYNTAX_MISFIT;
 use schema::store::attribute_row;
 use schema::store::class_row;
@@ -87,7 +87,7 @@ pub const ORDER: [u8; 18] = [
     CHAIN_ASTRAY,
     NAMING_UNFIT,
     MAPI_TAKEN,
-    RANGE_EMPTY,
+    RANGE_CROSSED,
     SYNTAX_MISFIT,
     OBJECT_CLASS_WRONG,
     LINK_TAKEN,
@@ -181,7 +181,7 @@ fn attribute_breaks(
 {
     let row = attribute_row(attributes, a);
     match number {
-        RANGE_EMPTY => range_wrong(row),
+        RANGE_CROSSED => range_wrong(row),
         SYNTAX_MISFIT => syntax_wrong(row),
         OBJECT_CLASS_WRONG => object_class_wrong(row),
         LINK_ALONE => forward_missing(attributes, row),

@@ -100,9 +100,9 @@ namingUnfit = 23
 abbrev pub mapiTaken : ℕ
 mapiTaken = 24
 
--- "25 Both ranges present, and rangeLower not smaller than rangeUpper."
-abbrev pub rangeEmpty : ℕ
-rangeEmpty = 25
+-- "25 Both ranges present, and rangeLower greater than rangeUpper" (document 02, wish 1)
+abbrev pub rangeCrossed : ℕ
+rangeCrossed = 25
 
 -- "26 Syntax and oMSyntax don't match"
 abbrev pub syntaxMisfit : ℕ

@@ -54,7 +54,7 @@ pub const NAMING_UNFIT: u8 = 23;
 
 pub const MAPI_TAKEN: u8 = 24;
 
-pub const RANGE_EMPTY: u8 = 25;
+pub const RANGE_CROSSED: u8 = 25;
 
 pub const SYNTAX_MISFIT: u8 = 26;
 

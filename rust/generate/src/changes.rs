@@ -87,7 +87,7 @@ fn any_row(random: &mut Random, schema: &Schema) -> Row {
 
 fn range(random: &mut Random, schema: &Schema) -> Change {
     let (lower, upper) = match random.below(4) {
-        0 => (Some(random.below(3) as i32), Some(random.below(3) as i32)),
+        0 => (Some(rows::range_end(random)), Some(rows::range_end(random))),
         _ => rows::range(random),
     };
     Change::Alter {

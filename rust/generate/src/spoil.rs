@@ -103,10 +103,14 @@ fn taken(
     random.pick(&numbers).copied()
 }
 
+/// A range that falls, often by 1, seldom one of equal ends.
 fn wrong_range(random: &mut Random, row: &mut Attribute) {
-    let upper = random.number() as i32;
-    let more = random.below(3) as i32;
-    row.range_lower = Some(upper.saturating_add(more));
+    let (one, other) = (rows::range_end(random), rows::range_end(random));
+    let upper = one.min(other);
+    row.range_lower = match random.once_in(2) {
+        true => Some(upper.saturating_add(1)),
+        false => Some(one.max(other)),
+    };
     row.range_upper = Some(upper);
 }
 

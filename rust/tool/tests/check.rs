@@ -105,10 +105,10 @@ fn rules_of_attributes_are_told_with_what_breaks_them() {
     let text = attribute("age", "syntax 9 2").replace("0003\n", "0001\n");
     let words = "16, guid taken: attribute 0 `cn`: GUID 00000000000000000000000000000001 of attribute 0 `cn` and attribute 1 `age`";
     assert_eq!(told(&text), words);
-    let text = attribute("age", "syntax 9 2;lower 5;upper 5");
+    let text = attribute("age", "syntax 9 2;lower 6;upper 5");
     assert_eq!(
         told(&text),
-        "25, range empty: attribute 1 `age`: its range is 5 to 5"
+        "25, range crossed: attribute 1 `age`: its range is 6 to 5"
     );
     let text = attribute("age", "syntax 9 65");
     assert_eq!(

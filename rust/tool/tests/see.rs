@@ -108,9 +108,9 @@ fn the_tree_has_auxiliaries_beside_the_classes() {
 
 #[test]
 fn a_number_is_explained_from_the_page() {
-    let expected = "25, range empty
-  Both ends of a range are there, and rangeLower is not smaller than rangeUpper.
-  The ends are signed numbers; equal ends break the rule too.
+    let expected = "25, range crossed
+  Both ends of a range are there, and rangeLower is greater than rangeUpper. The
+  ends are signed numbers. Equal ends are a fixed length and pass.
   Do: correct the range, or leave one end out.
   Given by: load, audit, plain change, quick change.
 ";

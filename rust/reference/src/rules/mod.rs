@@ -86,7 +86,7 @@ impl<'a> Judged<'a> {
         let schema = self.schema;
         match rule {
             24 => values::mapi_id_taken(schema, number, attribute),
-            25 => values::range_not_rising(attribute),
+            25 => values::range_crossed(attribute),
             26 => values::syntaxes_do_not_match(attribute),
             27 => values::wrong_object_class(attribute),
             28 => values::link_id_taken(schema, number, attribute),

@@ -35,7 +35,7 @@ pub fn edge() -> Vec<u8> {
 /// A sheet refused by a rule, whose table and row differ.
 pub fn range() -> Vec<u8> {
     let attribute = Row::attribute;
-    sheet(&[attribute(0), attribute(1), attribute(2).range(5, 5)])
+    sheet(&[attribute(0), attribute(1), attribute(2).range(6, 5)])
 }
 
 /// A sheet that cannot be read at its end: nothing but a heading and a tag.

@@ -64,7 +64,8 @@ fn rules(record: &mut Record) {
     record.pass(&base::all());
     number(record, &rename(0x43, 8, b"1"), 12);
     number(record, &rename(0x44, 18, b"A3"), 13);
-    number(record, &range(8, Some(1), Some(1)), 25);
+    number(record, &range(8, Some(2), Some(1)), 25);
+    number(record, &range(8, Some(-2), Some(-3)), 25);
     number(record, &entry(0x49, 18, 0x15, 3), 17);
     number(record, &entry(0x49, 18, 0x17, 7), 18);
     number(record, &entry(0x49, 18, 0x17, 4), 19);
@@ -103,6 +104,8 @@ fn full(record: &mut Record) {
 fn done(record: &mut Record) {
     record.pass(&base::all());
     record.quick(&range(1, None, Some(3)), (0, 1, 1));
+    record.quick(&range(1, Some(16), Some(16)), (0, 1, 1));
+    record.quick(&range(8, Some(i32::MIN), Some(i32::MIN)), (0, 1, 8));
     record.quick(&rename(0x43, 8, b"A8"), (0, 1, 8));
     record.quick(&rename(0x44, 18, b"eighteen"), (0, 2, 18));
     record.quick(&alter(0x45, 8, &[]), (0, 1, 8));
@@ -126,7 +129,8 @@ fn done(record: &mut Record) {
 /// "An added class gets the union of its superclass's and auxiliaries' kept
 /// sets, its own lists and itself": in order, what is worked out afresh.
 fn added(record: &mut Record) {
-    record.quick(&Row::attribute(15).mapi(9).added(), (0, 1, 15));
+    let row = Row::attribute(15).mapi(9).range(-3, -3);
+    record.quick(&row.added(), (0, 1, 15));
     let class = Row::class(19).under(1).set(0x13, &[8]).set(0x14, &[4]);
     let class = class.set(0x15, &[5]).set(0x16, &[12]).set(0x17, &[15]);
     record.quick(&class.added(), (0, 2, 19));
