@@ -7,11 +7,6 @@ use native.Mathlib.Omega.{arith}
 use borrow.Author.Needs.{needs}
 use Rattle.closure_change.proofs.after.demand_before.Statement.{statement}
 use Rattle.closure_change.proofs.after.demand_before.Tie as tie
-use Rattle.closure_change.proofs.after.demand_before.Reads as reads
-use Rattle.closure_change.proofs.after.demand_before.Lts as lts
-use Rattle.change_read.proofs.carried.target_of.Reads as target-of-reads
-use Rattle.graph.proofs.closure.write_demanded.Reads as write-demanded-reads
-use Rattle.schema.proofs.number.ClassNumber.new.Reads as new-reads
 
 enum-told : tie.Need-enum-told
 enum-told c = search needs

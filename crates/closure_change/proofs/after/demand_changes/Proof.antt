@@ -12,14 +12,6 @@ use native.Mathlib.Omega.{arith}
 use borrow.Author.Needs.{needs}
 use Rattle.closure_change.proofs.after.demand_changes.Statement.{statement}
 use Rattle.closure_change.proofs.after.demand_changes.Tie as tie
-use Rattle.closure_change.proofs.after.demand_changes.Reads as reads
-use Rattle.closure_change.proofs.after.demand_changes.Lts as lts
-use Rattle.change_read.proofs.carried.entry_of.Reads as entry-of-reads
-use Rattle.change_read.proofs.carried.list_of.Reads as list-of-reads
-use Rattle.change_read.proofs.carried.target_of.Reads as target-of-reads
-use Rattle.closure_change.proofs.after.demand_differs.Reads as demand-differs-reads
-use Rattle.closure_change.proofs.after.entry_demands.Reads as entry-demands-reads
-use Rattle.schema.proofs.number.ClassNumber.new.Reads as new-reads
 
 enum-told : tie.Need-enum-told
 enum-told c = search needs

@@ -11,15 +11,6 @@ use native.Mathlib.Omega.{arith}
 use borrow.Author.Needs.{needs}
 use Rattle.closure_change.proofs.after.update.Statement.{statement}
 use Rattle.closure_change.proofs.after.update.Tie as tie
-use Rattle.closure_change.proofs.after.update.Reads as reads
-use Rattle.closure_change.proofs.after.update.Lts as lts
-use Rattle.change_read.proofs.carried.entry_of.Reads as entry-of-reads
-use Rattle.change_read.proofs.carried.list_of.Reads as list-of-reads
-use Rattle.change_read.proofs.carried.target_of.Reads as target-of-reads
-use Rattle.closure_change.proofs.added.write_new.Reads as write-new-reads
-use Rattle.closure_change.proofs.after.join_entry.Reads as join-entry-reads
-use Rattle.closure_change.proofs.each.refresh_holding.Reads as refresh-holding-reads
-use Rattle.schema.proofs.number.ClassNumber.new.Reads as new-reads
 
 enum-known-change : tie.Need-enum-known-change
 enum-known-change c = search needs

@@ -34,7 +34,8 @@ returns c =
     let c₂ = c₁ .before .before in
     let start = c₂ .before .before .before in
     row-lent-back (start .args .c .0) _ _ (start .args .closure .now) _ (stageRow (tableIn Classes (start .args .classes .now)) 0
-    (start .args .c .0)) (c₂ .closure-start .ensures) refl (stage-length (tableIn Classes (start .args .classes .now)) 0 (start .args .c .0)) (c₁ .write-first .ensures)
+    (start .args .c .0)) (c₂ .closure-start .ensures) refl (stage-length (tableIn Classes (start .args .classes .now)) 0 (start .args .c .0))
+    (c₁ .write-first .ensures)
 
 pub write-first-at-spec : {M : Type 1} → statement M
 write-first-at-spec =
