@@ -131,8 +131,8 @@ pub record Pieces : Type 0 where
       × (judgedRows (linked 0 2 ∷ linked 1 3 ∷ []) [] .number ≡ 0))
   -- 88 class under auxiliary: pass
   pub p7 : classes auxiliary class88 .number ≡ 0
-  -- abstract under structural: 21
-  pub p8 : classes structural abstract ≡ brokenBy refusal.categoryMisfit Classes 2
+  -- abstract under structural: 38
+  pub p8 : classes structural abstract ≡ brokenBy refusal.abstractUnderOther Classes 2
   -- two auxiliaries listing each other: both reach the same classes, in any table
   pub p9 : (t : Table) (x y : ℕ) → x < t .count → y < t .count → lists Auxiliaries (t .row x) y ≡ true → lists Auxiliaries (t .row y) x ≡ true
       → (z : ℕ) → reaches t x z ≡ reaches t y z

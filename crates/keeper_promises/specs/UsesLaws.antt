@@ -43,10 +43,11 @@ use Rattle.rules_unique.specs.IdentifierLaws.{row-arcs}
 use Rattle.rules_attribute.specs.Range.{biased, endsCrossed}
 use Rattle.rules_attribute.specs.RangeLaws.{biased-high, biased-low, less-biased, says-crossed}
 use Rattle.rules_attribute.specs.SyntaxLaws.{says-syntax-fits}
-use Rattle.rules_class.specs.Category.{Illegal, listCategory}
+use Rattle.rules_class.specs.Category.{listCategory}
 use Rattle.rules_class.specs.Live.{SuperclassEarly}
 use Rattle.rules.specs.Meets.{Meets, Fitting, nameInvalid, nameTaken, identifierInvalid, identifierTaken, guidTaken, attributeNotLive, classNotLive}
-use Rattle.rules.specs.Meets.{notAnAuxiliary, notASuperior, categoryMisfit, namingUnfit, mapiTaken, rangeCrossed, syntaxMisfit, objectClassWrong}
+use Rattle.rules.specs.Meets.{notAnAuxiliary, notASuperior, rootNotAbstract, abstractUnderOther, auxiliaryUnderStructural, structuralUnderAuxiliary}
+use Rattle.rules.specs.Meets.{namingUnfit, mapiTaken, rangeCrossed, syntaxMisfit, objectClassWrong}
 use Rattle.rules.specs.Meets.{linkTaken, linkAlone}
 use Rattle.rules.specs.declared.row.Added.the-variants.{Nothing}
 use Rattle.tables_shape.specs.ShapeLaws.{table-shaped}
@@ -236,15 +237,12 @@ module _ (m : Schema) (met : Meets Nothing m) where
           let u = names-attribute c b l (naming-below row b (bytes c) e) (inr (inr (inr e))) in
           (u, met namingUnfit c l b e (u .0))
 
-      illegal : ¬ (c ≡ 0) → ¬ (Illegal (categoryOf row) (categoryOf (classes .row (superclassOf row))))
-      illegal d = met categoryMisfit .1 c l d (superclass-usable c l .0)
-
       under-abstract : ¬ (c ≡ 0) → categoryOf row ≡ 2 → categoryOf (classes .row (superclassOf row)) ≡ 2
       under-abstract d e = go (ℕ-discrete (categoryOf (classes .row (superclassOf row))) 2)
         where
           go : Dec (categoryOf (classes .row (superclassOf row)) ≡ 2) → categoryOf (classes .row (superclassOf row)) ≡ 2
           go (yes q) = q
-          go (no q) = absurd (illegal d (inl (e, q)))
+          go (no q) = absurd (met abstractUnderOther c l d (superclass-usable c l .0) (e, q))
 
       pub class-sound : ClassSound m c row
       class-sound = record {
@@ -259,12 +257,12 @@ module _ (m : Schema) (met : Meets Nothing m) where
         openSuperior = λ d e. superior-fits d (bit-below openSuperiorAt 16 row d e) (inr e);
         root = λ e. (
           ⊎-elim (λ q. q .1) (λ q. absurd (omega arith)) (early c l),
-          ap (λ (n : ℕ). categoryOf (classes .row n)) e ∙ met categoryMisfit .0 (omega arith),
+          ap (λ (n : ℕ). categoryOf (classes .row n)) e ∙ met rootNotAbstract (omega arith),
         );
         earlier = earlier c l;
         abstract = under-abstract;
-        auxiliary = λ d e q. illegal d (inr (inl (e, q)));
-        structural = λ d e q. illegal d (inr (inr (e, q)));
+        auxiliary = λ d e q. met auxiliaryUnderStructural c l d (superclass-usable c l .0) (e, q);
+        structural = λ d e q. met structuralUnderAuxiliary c l d (superclass-usable c l .0) (e, q);
       }
 
     -- ---- what a class reaches

@@ -29,7 +29,7 @@ endsCrossed (Given lower) (Given upper) = lessSigned upper lower
 endsCrossed (Given lower) Absent = false
 endsCrossed Absent upper = false
 
--- "25 Both ranges present, and rangeLower greater than rangeUpper" (document 02, wish 1)
+-- "25 Both ranges present", and, as document 02 has it, "only where rangeLower is greater than rangeUpper"
 unfoldable pub rangeWrong : List ℕ → Bool
 rangeWrong row = endsCrossed (rangeLower row) (rangeUpper row)
 

@@ -1,4 +1,4 @@
-// Rule 25: "Both ranges present, and rangeLower greater than rangeUpper" (document 02, wish 1).
+// Rule 25: "Both ranges present", and, as document 02 has it, "only where rangeLower is greater than rangeUpper".
 use schema::attribute::Bound;
 use schema::attribute::range_lower;
 use schema::attribute::range_upper;

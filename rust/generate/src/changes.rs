@@ -55,7 +55,9 @@ fn add_class(random: &mut Random, schema: &Schema) -> Change {
     if !random.once_in(3) {
         rows::fill_lists(random, schema, &mut class, 3);
     }
-    if random.once_in(2) {
+    if schema.classes.is_empty() && !random.once_in(3) {
+        spoil::root(random, &mut class);
+    } else if random.once_in(2) {
         spoil::class(random, schema, schema.next_class(), &mut class);
     }
     class.common.defunct &= random.once_in(10);

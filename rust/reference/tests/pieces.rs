@@ -134,9 +134,9 @@ fn p7_88_class_under_auxiliary() {
 #[test]
 fn p8_abstract_under_structural() {
     let rows = [top(), Row::class(1, 1, 0), Row::class(2, 2, 1)];
-    assert_eq!(load_all(&rows), (21, 2, 2));
+    assert_eq!(load_all(&rows), (38, 2, 2));
     let mut lent = Lent::loaded(&sheet(&rows[..2]));
-    assert_eq!(lent.both(&rows[2].added()), (21, 0, 0));
+    assert_eq!(lent.both(&rows[2].added()), (38, 0, 0));
 }
 
 #[test]

@@ -309,7 +309,7 @@ fn rules(record: &mut Record) {
 /// Rules that an added row breaks, with defunct rivals too.
 fn rules_added(record: &mut Record) {
     let (attribute, class) = (Row::attribute(15), Row::class(19));
-    let refused: [(Row, u64); 19] = [
+    let refused: [(Row, u64); 21] = [
         (attribute.clone().named("-"), 12),
         (attribute.clone().named("A3"), 13),
         (class.clone().named("C16"), 13),
@@ -322,7 +322,9 @@ fn rules_added(record: &mut Record) {
         (class.clone().under(19), 18),
         (class.clone().set(0x16, &[4]), 19),
         (class.clone().set(0x18, &[2]), 20),
-        (class.clone().category(2).under(4), 21),
+        (class.clone().category(2).under(4), 38),
+        (class.clone().category(3).under(4), 39),
+        (class.clone().under(3), 40),
         (class.naming(8), 23),
         (attribute.clone().mapi(4), 24),
         (attribute.clone().range(17, 16), 25),
@@ -378,6 +380,10 @@ fn order_of_numbers(record: &mut Record) {
     record.refused(&class.clone().set(0x15, &[1]).under(19).added(), 18);
     record.refused(&class.clone().set(0x15, &[1]).added(), 19);
     record.refused(&class.set(0x15, &[1]).set(0x17, &[3]).added(), 20);
+    let misfit = Row::class(19).naming(8).category(3).under(4);
+    record.refused(&misfit.clone().set(0x19, &[2]).added(), 20);
+    record.refused(&misfit.clone().added(), 39);
+    record.refused(&misfit.category(0).added(), 23);
     let link = Row::attribute(15).range(2, 1).link(2).syntax(1, 1);
     record.refused(&link.clone().mapi(4).added(), 24);
     record.refused(&link.clone().added(), 25);
