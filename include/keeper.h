@@ -93,7 +93,9 @@ extern "C" {
 #define KEEPER_SHORT_OUTPUT 31      /* write: the output is too short; place: the length needed */
 
 /*
- * The rules of the schema. Load and audit: table and place name the lowest row that breaks the rule, attributes first.
+ * The rules of the schema, in the order of judging: the first that is broken is given. 38 to 40 stand at 21's place,
+ * though their numbers are higher. Load and audit: table and place name the lowest row that breaks the rule, attributes
+ * first.
  */
 #define KEEPER_NAME_INVALID 12
 #define KEEPER_NAME_TAKEN 13
@@ -104,11 +106,14 @@ extern "C" {
 #define KEEPER_CLASS_NOT_LIVE 18
 #define KEEPER_NOT_AN_AUXILIARY 19
 #define KEEPER_NOT_A_SUPERIOR 20
-#define KEEPER_CATEGORY_MISFIT 21
+#define KEEPER_ROOT_NOT_ABSTRACT 21
+#define KEEPER_ABSTRACT_UNDER_OTHER 38
+#define KEEPER_AUXILIARY_UNDER_STRUCTURAL 39
+#define KEEPER_STRUCTURAL_UNDER_AUXILIARY 40
 #define KEEPER_CHAIN_ASTRAY 22
 #define KEEPER_NAMING_UNFIT 23
 #define KEEPER_MAPI_TAKEN 24
-#define KEEPER_RANGE_EMPTY 25
+#define KEEPER_RANGE_CROSSED 25
 #define KEEPER_SYNTAX_MISFIT 26
 #define KEEPER_OBJECT_CLASS_WRONG 27
 #define KEEPER_LINK_TAKEN 28
@@ -119,7 +124,8 @@ extern "C" {
  *   0       accepted: the stores are in order
  *   1       nothing of the stores is written
  *   4, 6    the sheet cannot be read, or has too many rows, whichever comes first
- *   12..29  a rule is broken: the smallest number, then the lowest row
+ *   12..29, 38..40
+ *           a rule is broken: the first in the order of judging, then the lowest row
  * Refused by 4 or more, every byte of the stores, up to their lengths, is 0.
  */
 uint64_t keeper_load(const uint8_t *sheet, size_t sheet_length,
@@ -147,7 +153,8 @@ uint64_t keeper_write(const uint8_t *attributes, size_t attributes_length,
  *   0       yes
  *   1, 2    they are too short, or out of shape
  *   3       all rows are fine, but the closure store is not what the rows give
- *   12..29  a rule is broken: the smallest number, then the lowest row
+ *   12..29, 38..40
+ *           a rule is broken: the first in the order of judging, then the lowest row
  */
 uint64_t keeper_audit(const uint8_t *attributes, size_t attributes_length,
                       const uint8_t *classes, size_t classes_length,
@@ -162,10 +169,11 @@ uint64_t keeper_audit(const uint8_t *attributes, size_t attributes_length,
  *   3       they are not in order: a row breaks a rule, or the closure store is not what the rows give
  *   4       the change cannot be read; place: the byte offset
  *   5..11   the row that it asks for cannot be changed or added so
- *   12..29  some row of the result breaks a rule: the smallest number
+ *   12..29, 38..40
+ *           some row of the result breaks a rule: the first in the order of judging
  *   30      some class would demand other attributes than before
- * The smallest number that holds is given. Refused, no byte of any store is altered, and table and place are 0 but for
- * the place of 4.
+ * The first number that holds is given, in this order, the rules before 30. Refused, no byte of any store is altered, and
+ * table and place are 0 but for the place of 4.
  */
 uint64_t keeper_plain_change(const uint8_t *change, size_t change_length,
                              uint8_t *attributes, size_t attributes_length,
@@ -185,7 +193,8 @@ uint64_t keeper_plain_change(const uint8_t *change, size_t change_length,
  *   1, 2    the stores are too short, or out of shape
  *   4       the change cannot be read; place: the byte offset
  *   5..11   the row that it asks for cannot be changed or added so
- *   12..29  the changed row breaks a rule: the smallest number
+ *   12..29, 38..40
+ *           the changed row breaks a rule: the first in the order of judging
  *   30      the class would demand other attributes than before
  * It never gives 3. Refused, no byte of any store is altered, and table and place are 0 but for the place of 4.
  */

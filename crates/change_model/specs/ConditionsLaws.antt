@@ -1,4 +1,4 @@
--- The answer to a change is the smallest number whose condition holds.
+-- The answer to a change is the first number in the order of judging whose condition holds.
 use native.Mathlib.Omega.{arith}
 use Prim.Native.Nat.{_%_, _≤_, ℕ}
 use mathlib.Core.Bool.{Bool, false, true, false≢true}
@@ -11,6 +11,8 @@ use Rattle.schema.specs.declared.number.TableId.{TableId}
 use Rattle.schema.specs.NumbersLaws.{apart, says-same-row}
 use Rattle.schema.specs.Row.{isBase, isDefunct}
 use Rattle.schema.specs.Numbers.{limit}
+use Rattle.schema.specs.Order.{rank, position}
+use Rattle.schema.specs.OrderLaws.{rank-zero}
 use Rattle.schema.specs.AttributeRow.{linkOf}
 use Rattle.schema.specs.Layout.{attributeSet}
 use Rattle.change_read.specs.declared.read.Change.the-variants.{Add, SetRange, Rename, Deactivate, Reactivate, AddEntry, RemoveEntry}
@@ -21,7 +23,7 @@ use Rattle.change_model.specs.Model.{changeCases, addedBy, changeNumber,
 use Rattle.prelude.specs.Says.{Says}
 use Rattle.prelude.specs.BelowLaws.{says-any}
 use Rattle.prelude.specs.SaysLaws.{says-eq, says-le, says-lt, says-never, says-not, says-not-test, says-or, says-test, says-and, says-iff}
-use Rattle.prelude.specs.First.{Among, _when_, Rising}
+use Rattle.prelude.specs.First.{Among, _when_, NonZero, Rising}
 use Rattle.prelude.specs.FirstLaws.{among-append, among-left, first-among, first-least, first-or-none, none-zero, other-first, among-right}
 use Rattle.prelude.specs.FirstLaws.{none-among, rising-nonzero, zero-iff-none}
 use Rattle.change_asked.specs.Asked.{baseAdded, baseTouched, stateWrong, tableFull, targetAbsent, askedCases, targetRow}
@@ -198,23 +200,31 @@ module _ (change : Change) (r : List ℕ) (m : Schema) where
 
   -- ---- the answer's number
 
-  -- the numbers rise
-  cases-rise : Rising 0 (changeCases change r m)
+  -- the cases stand in the order of judging: all after 4, those of the result after 11
+  pub cases-rise : Rising rank (rank refusal.unreadable) (changeCases change r m)
+  unfolding rank position
   cases-rise = omega arith
+
+  cases-nonzero : NonZero (changeCases change r m)
+  cases-nonzero = rising-nonzero rank rank-zero (rank refusal.unreadable) (changeCases change r m) cases-rise
+
+  pub result-rise : Rising rank (rank refusal.stillNeeded) (resultCases change r m)
+  unfolding rank position
+  result-rise = omega arith
 
   -- 0 exactly where no condition holds
   pub change-zero : (changeNumber change r m ≡ 0) ↔ ((x : ℕ) → ¬ (Condition change r m x))
   unfolding changeNumber
   change-zero = (
-    λ e x c. none-among (zero-iff-none (changeCases change r m) (rising-nonzero 0 (changeCases change r m) cases-rise) .0 e) (condition-among c),
+    λ e x c. none-among (zero-iff-none (changeCases change r m) cases-nonzero .0 e) (condition-among c),
     λ none. ⊎-elim (λ f. absurd (none _ (among-condition (first-among f)))) (none-zero (changeCases change r m)) (first-or-none (changeCases change r m)),
   )
 
-  -- else its condition holds, and that of no smaller number
+  -- else its condition holds, and that of no number that comes before it in the order of judging
   pub change-condition : ¬ (changeNumber change r m ≡ 0) → Condition change r m (changeNumber change r m)
   unfolding changeNumber
   change-condition d = among-condition (first-among (other-first (changeCases change r m) d))
 
-  pub change-least : (x : ℕ) → Condition change r m x → changeNumber change r m ≤ x
+  pub change-least : (x : ℕ) → Condition change r m x → rank (changeNumber change r m) ≤ rank x
   unfolding changeNumber
-  change-least x c = first-least 0 x (changeCases change r m) cases-rise (condition-among c)
+  change-least x c = first-least rank (rank refusal.unreadable) x (changeCases change r m) cases-rise (condition-among c)

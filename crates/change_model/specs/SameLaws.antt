@@ -25,7 +25,7 @@ use Rattle.tables.specs.Same.{Same, SameRows}
 use Rattle.tables.specs.Named.{names}
 use Rattle.tables.specs.SameLaws.{any-same}
 use Rattle.prelude.specs.First.{_when_, firstOf}
-use Rattle.prelude.specs.FirstLaws.{append-cong, rising-nonzero}
+use Rattle.prelude.specs.FirstLaws.{append-cong}
 use Rattle.prelude.specs.SaysLaws.{says-eq, says-false, says-true, true-or-false}
 use Rattle.change_model.specs.Model.{addedBy, answerTo, changeNumber, resultCases, rowsAfter, answerBy}
 use Rattle.change_model.specs.ModelLaws.{asked-zero, number-asked, number-judged}
@@ -35,8 +35,9 @@ use Rattle.change_asked.specs.Needed.{classNeeds, linkNeeds, needed}
 use Rattle.graph.specs.SameLaws.{differs-same}
 use Rattle.change_rows.specs.Rows.{editedRow, isAddition, numberFor, schemaAfter, tableAfter, tableFor}
 use Rattle.rules_attribute.specs.Links.{isBackLink, isForwardOf}
-use Rattle.rules.specs.Judge.{judged, brokenCases}
-use Rattle.rules.specs.JudgeLaws.{judged-number, rising}
+use Rattle.rules.specs.Judge.{judged, broken, brokenCases}
+use Rattle.rules.specs.JudgeLaws.{judged-number}
+use Rattle.rules.specs.RulesLaws.{nonzero}
 use Rattle.rules.specs.SameLaws.{judged-same}
 use Rattle.rules.specs.Rules.{schemaRules}
 use Rattle.schema.specs.Refusals as refusal
@@ -140,8 +141,7 @@ module _ (change : Change) (r : List ℕ) {m n : Schema} (s : SameRows m n) wher
       let u = schemaAfter change r m in
       let v = schemaAfter change r n in
       let count : a ≡ b = ap (addedBy change r) (s Classes .count) in
-      append-cong (brokenCases (schemaRules a) u) _ (brokenCases (schemaRules b) v) _ (rising-nonzero 0 (brokenCases (schemaRules a) u) (rising a u))
-      (rising-nonzero 0 (brokenCases (schemaRules b) v) (rising b v))
+      append-cong (brokenCases (schemaRules a) u) _ (brokenCases (schemaRules b) v) _ (nonzero a (broken u)) (nonzero b (broken v))
       (sym (judged-number a u) ∙ ap (λ (x : Answer). x .number) (judged-same after a) ∙ ap (λ (x : Added). judged x v .number) count ∙ judged-number b v)
       (ap (λ (x : Bool). firstOf ((refusal.mandatoryDiffers when x) ∷ [])) (differs-same (s Classes) (after Classes)))
 

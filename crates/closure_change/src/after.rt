@@ -93,7 +93,12 @@ pub fn update(change: Change, scratch: &[u8], classes: &[u8], n: usize, closure:
     match change {
         Change::Add(table) => match table {
             TableId::Attributes => {}
-            TableId::Classes => write_new(classes, ClassNumber(n), closure),
+            TableId::Classes => {
+                let ClassRead::Class(c) = ClassNumber::new(n) else {
+                    return;
+                };
+                write_new(classes, c, closure)
+            }
         },
         Change::SetRange => {}
         Change::Rename(_) => {}
@@ -124,7 +129,9 @@ pub fn demand_before(change: Change, scratch: &[u8], classes: &[u8], out: &mut [
         Change::Reactivate(_) => {}
         Change::AddEntry => {}
         Change::RemoveEntry => {
-            let k = ClassNumber(target_of(scratch) as usize);
+            let ClassRead::Class(k) = ClassNumber::new(target_of(scratch) as usize) else {
+                return;
+            };
             write_demanded(classes, k, out);
         }
     }
@@ -186,14 +193,17 @@ pub fn demand_changes(
         Change::Rename(_) => false,
         Change::Deactivate(_) => false,
         Change::Reactivate(_) => false,
-        Change::AddEntry => entry_demands(
-            list_of(scratch),
-            entry_of(scratch) as usize,
-            ClassNumber(target_of(scratch) as usize),
-            closure,
-        ),
+        Change::AddEntry => {
+            let ClassRead::Class(k) = ClassNumber::new(target_of(scratch) as usize) else {
+                return false;
+            };
+            entry_demands(list_of(scratch), entry_of(scratch) as usize, k, closure)
+        }
         Change::RemoveEntry => {
-            demand_differs(classes, ClassNumber(target_of(scratch) as usize), before)
+            let ClassRead::Class(k) = ClassNumber::new(target_of(scratch) as usize) else {
+                return false;
+            };
+            demand_differs(classes, k, before)
         }
     }
 }

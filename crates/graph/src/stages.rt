@@ -17,6 +17,7 @@ use schema::number::ClassNumber;
 use schema::number::TableId;
 use schema::store::class_row;
 use schema::store::closure_row;
+use schema::store::closure_start;
 use schema::store::row_count;
 use tables::named::superclass_number;
 ghost use mathlib.Core.Bool.{_&&_};
@@ -97,7 +98,7 @@ fn write_first_at(classes: &[u8], c: ClassNumber, closure: &mut [u8])
     ensures { λ _. ⌜ now (closure .exit) ≡ splice (closureWidth * c .0) (stageRow (tableIn Classes (now (classes .entry))) 0 (c .0))
         (now (closure .entry)) ⌝ }
 {
-    let at = CLOSURE_WIDTH * c.0;
+    let at = closure_start(c);
     let end = at + CLOSURE_WIDTH;
     write_first(classes, c, &mut closure[at..end]);
 }
@@ -121,7 +122,7 @@ fn pass_to(closure: &mut [u8], k: usize, own: &[u8], c: ClassNumber)
         (now (closure .entry)) ⌝ }
 {
     if sets::has(part_of(closure_row(closure, c), REACHED, CLASS_SET), k) {
-        let at = CLOSURE_WIDTH * c.0;
+        let at = closure_start(c);
         let end = at + CLOSURE_WIDTH;
         sets::join(&mut closure[at..end], own);
     }

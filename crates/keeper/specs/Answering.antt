@@ -1,5 +1,5 @@
 -- How a call finds its answer. Document 01: "The smallest number whose condition holds. Every answer has a number, a table .. and a place; what is not
--- named below is 0." Each call has a list of answers in the order of their numbers, but that audit's 3 comes last; the first that
+-- named below is 0." Each call has a list of answers in the order of judging, but that audit's 3 comes last; the first that
 -- refuses is given.
 use mathlib.Core.Bool.{Bool, true, cond, not}
 use mathlib.Core.List.{List, [], _∷_}

@@ -19,7 +19,7 @@ use Rattle.prelude.specs.Part.{Bytes}
 use Rattle.change_asked.specs.Asked.{firstAsked}
 use Rattle.schema.specs.Refusals as refusal
 
--- "The smallest number whose condition holds": 1, 2, 3, then 4, then those of the model
+-- "The smallest number whose condition holds", the first in the order of judging: 1, 2, 3, then 4, then those of the model
 unfoldable pub plainAnswer : ChangeRead → List ℕ → Stores → Answer
 plainAnswer read r s = firstAnswer (orderAnswers s) (answerTo read r (schemaOf s))
 

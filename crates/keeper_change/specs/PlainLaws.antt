@@ -17,13 +17,14 @@ use Rattle.schema.specs.Answers.{passed, refused, changed}
 use Rattle.schema.specs.declared.number.TableId.{TableId}
 use Rattle.schema.specs.Layout.{classWidth, rowWidth}
 use Rattle.schema.specs.StoreLaws.{table-row-length}
-use Rattle.rules.specs.Judge.{brokenCases}
-use Rattle.rules.specs.JudgeLaws.{judged-number, rising}
+use Rattle.rules.specs.Judge.{broken, brokenCases}
+use Rattle.rules.specs.JudgeLaws.{judged-number}
+use Rattle.rules.specs.RulesLaws.{nonzero}
 use Rattle.rules.specs.SameLaws.{judged-same}
 use Rattle.rules.specs.Rules.{schemaRules}
 use Rattle.prelude.specs.Part.{Bytes, part, zeros, padded}
 use Rattle.prelude.specs.First.{_when_, firstOf}
-use Rattle.prelude.specs.FirstLaws.{append-cong, append-first, append-second, rising-nonzero}
+use Rattle.prelude.specs.FirstLaws.{append-cong}
 use Rattle.prelude.specs.SaysLaws.{says-eq, says-false, says-true}
 use Rattle.prelude.specs.PartLaws.{part-between}
 use Rattle.keeper.specs.Answering.{InShape, firstAnswer}
@@ -110,13 +111,12 @@ module _ (change : Change) (x r : List ℕ) (s : Stores) (bytes : Bytes x) (read
       let made = schemaOf (rowsMade change r s) in
       let after = schemaAfter change r (schemaOf s) in
       let same = made-same change x r s bytes reads shape asked in
-      let zm = rising-nonzero 0 (brokenCases (schemaRules added) made) (rising added made) in
-      let za = rising-nonzero 0 (brokenCases (schemaRules added) after) (rising added after) in
       let rules : firstOf (brokenCases (schemaRules added) made) ≡ firstOf (brokenCases (schemaRules added) after) =
       sym (judged-number added made) ∙ ap (λ (a : Answer). a .number) (judged-same same added) ∙ judged-number added after in
       let demand : demandsDiffer (made .classes) (s .closure) (schemaOf s .classes .count) ≡ mandatoryDiffers (schemaOf s .classes) (after .classes) =
       differs-kept (schemaOf s .classes) (made .classes) (s .closure) fresh few ∙ differs-same (same-reflexive (schemaOf s .classes)) (same Classes) in
-      append-cong _ _ _ _ zm za rules (ap (λ (b : Bool). firstOf ((refusal.mandatoryDiffers when b) ∷ [])) demand)
+      append-cong _ _ _ _ (nonzero added (broken made)) (nonzero added (broken after)) rules
+      (ap (λ (b : Bool). firstOf ((refusal.mandatoryDiffers when b) ∷ [])) demand)
 
   -- taken back, every byte is as it was
   pub taken-back : Bytes (tableStore (tableFor change) s) → rowsBack (before change r (tableStore (tableFor change) s)) (rowsMade change r s) ≡ s

@@ -10,6 +10,7 @@ use rules::judge::judge;
 use rules::row::Added;
 use rules::row::first_broken;
 use schema::number::ClassNumber;
+use schema::number::ClassRead;
 use schema::number::RowId;
 use schema::number::TableId;
 use schema::refusal::DONE;
@@ -36,17 +37,27 @@ pub fn added_by(change: Change, scratch: &[u8], n: usize) -> Added
     match change {
         Change::Add(table) => match table {
             TableId::Attributes => Added::Nothing,
-            TableId::Classes => Added::Class(ClassNumber(n)),
+            TableId::Classes => {
+                let ClassRead::Class(c) = ClassNumber::new(n) else {
+                    return Added::Nothing;
+                };
+                Added::Class(c)
+            }
         },
         Change::SetRange => Added::Nothing,
         Change::Rename(_) => Added::Nothing,
         Change::Deactivate(_) => Added::Nothing,
         Change::Reactivate(_) => Added::Nothing,
-        Change::AddEntry => Added::Entry {
-            class: ClassNumber(target_of(scratch) as usize),
-            table: list_table(list_of(scratch)),
-            number: entry_of(scratch) as usize,
-        },
+        Change::AddEntry => {
+            let ClassRead::Class(k) = ClassNumber::new(target_of(scratch) as usize) else {
+                return Added::Nothing;
+            };
+            Added::Entry {
+                class: k,
+                table: list_table(list_of(scratch)),
+                number: entry_of(scratch) as usize,
+            }
+        }
         Change::RemoveEntry => Added::Nothing,
     }
 }

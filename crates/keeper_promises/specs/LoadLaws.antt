@@ -16,6 +16,7 @@ use Rattle.schema.specs.declared.number.TableId.the-variants.{Classes}
 use Rattle.schema.specs.Answers.{full, passed, refused, unreadable}
 use Rattle.schema.specs.Layout.{closureLength}
 use Rattle.schema.specs.Store.{LongEnough, Result, Stores, anyShort, result}
+use Rattle.schema.specs.Order.{rank}
 use Rattle.schema.specs.StoreLaws.{long-enough, says-short}
 use Rattle.tables.specs.Filled.{tableFrom}
 use Rattle.tables.specs.SameLaws.{same-symmetric}
@@ -125,8 +126,8 @@ module _ (sheet : List ℕ) where
             subst (FirstBroken (schemaFrom (out .rows)) (schemaRules Nothing)) (sym judged-answer)
             (⊎-elim (λ k. absurd (d (meets Nothing (schemaFrom (out .rows)) .0 k))) (λ f. f) (judged-first Nothing (schemaFrom (out .rows))))
 
-        pub load-least : (rule : RuleName) → ¬ (Met Nothing rule (schemaFrom (out .rows))) → load sheet s .answer .number ≤ ruleNumber rule
-        load-least rule unmet = omega (arith, number-of judged-answer, judged-smallest Nothing (schemaFrom (out .rows)) rule unmet)
+        pub load-least : (rule : RuleName) → ¬ (Met Nothing rule (schemaFrom (out .rows))) → rank (load sheet s .answer .number) ≤ rank (ruleNumber rule)
+        load-least rule unmet = omega (arith, ap rank (number-of judged-answer), judged-smallest Nothing (schemaFrom (out .rows)) rule unmet)
 
     -- ---- a loaded store is in order
 

@@ -10,6 +10,7 @@ use Rattle.prelude.specs.SaysLaws.{says-false, says-true}
 use Rattle.schema.specs.declared.answer.Answer.{Answer}
 use Rattle.schema.specs.Answers.{passed, refused}
 use Rattle.schema.specs.Store.{LongEnough, Stores, schemaOf}
+use Rattle.schema.specs.Order.{rank}
 use Rattle.schema.specs.StoreLaws.{says-short}
 use Rattle.graph.specs.Graph.{isFresh}
 use Rattle.graph.specs.FreshLaws.{says-fresh}
@@ -108,9 +109,9 @@ module _ (s : Stores) where
         subst (FirstBroken (schemaOf s) (schemaRules Nothing)) (sym (audit-judged d))
         (⊎-elim (λ k. absurd (d (meets Nothing (schemaOf s) .0 k))) (λ f. f) (judged-first Nothing (schemaOf s)))
 
-    pub audit-least : (rule : RuleName) → ¬ (Met Nothing rule (schemaOf s)) → audit s .number ≤ ruleNumber rule
+    pub audit-least : (rule : RuleName) → ¬ (Met Nothing rule (schemaOf s)) → rank (audit s .number) ≤ rank (ruleNumber rule)
     audit-least rule unmet =
-        omega (arith, ap (λ (x : Answer). x .number) (audit-judged (λ h. unmet (h rule))), judged-smallest Nothing (schemaOf s) rule unmet)
+        omega (arith, ap (λ (x : Answer). rank (x .number)) (audit-judged (λ h. unmet (h rule))), judged-smallest Nothing (schemaOf s) rule unmet)
 
     pub audit-three : Meets Nothing (schemaOf s) → ¬ Fresh s → audit s ≡ refused refusal.notInOrder
     audit-three k d =

@@ -184,12 +184,12 @@ pub record NameTables : Type 0 where
   pub alphabets : sameName (text "ABCDEFGHIJKLMNOPQRSTUVWXYZ") (text "abcdefghijklmnopqrstuvwxyz") ≡ true
   pub letters-same : (b c : ℕ) → (sameName (b ∷ []) (c ∷ []) ≡ true) ↔ ((b ≡ c) ⊎ (SmallOf b c ⊎ SmallOf c b))
 
--- 21: "Row 0 not abstract; abstract under a class not abstract; auxiliary under structural; structural under auxiliary. All else is legal."
+-- "21 keeps 'row 0 not abstract', 38 is abstract under another kind, 39 auxiliary under structural, 40 structural under auxiliary"; "All else is legal."
 pub record CategoryTable : Type 0 where
-  pub under-88 : under 0 ≡ 0 ∷ 0 ∷ 21 ∷ 0 ∷ []
-  pub under-structural : under 1 ≡ 0 ∷ 0 ∷ 21 ∷ 21 ∷ []
+  pub under-88 : under 0 ≡ 0 ∷ 0 ∷ 38 ∷ 0 ∷ []
+  pub under-structural : under 1 ≡ 0 ∷ 0 ∷ 38 ∷ 39 ∷ []
   pub under-abstract : under 2 ≡ 0 ∷ 0 ∷ 0 ∷ 0 ∷ []
-  pub under-auxiliary : under 3 ≡ 0 ∷ 21 ∷ 21 ∷ 0 ∷ []
+  pub under-auxiliary : under 3 ≡ 0 ∷ 40 ∷ 38 ∷ 0 ∷ []
   pub row-zero : (alone 0 ∷ alone 1 ∷ alone 2 ∷ alone 3 ∷ []) ≡ 21 ∷ 21 ∷ 0 ∷ 21 ∷ []
 
 -- "Absent, the first is stored. With any other oMSyntax it is read and dropped."

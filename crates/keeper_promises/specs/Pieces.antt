@@ -1,5 +1,5 @@
--- The test pieces of document 01, P1 to P12, as one list of statements about the definitions; `pieces` (PiecesLaws) is a member of it. P1 to P8 are
--- whole schemas that the judge looks at, P10 to P12 changes of a schema by the model; "pass" is 0.
+-- The test pieces of document 01, P1 to P12, P4 as document 02 changes it, as one list of statements about the definitions; `pieces` (PiecesLaws) is a
+-- member of it. P1 to P8 are whole schemas that the judge looks at, P10 to P12 changes of a schema by the model; "pass" is 0.
 use mathlib.Core.Bool.{true}
 use mathlib.Core.List.{List, [], _∷_, _++_}
 use mathlib.Core.Path.{_≡_}
@@ -121,8 +121,8 @@ pub record Pieces : Type 0 where
       × (byArcs (2 ∷ []) .number ≡ refusal.identifierInvalid))
   -- syntax 9 with 10; with 65: pass; 26
   pub p3 : (bySyntax 9 10 .number ≡ 0) × (bySyntax 9 65 .number ≡ refusal.syntaxMisfit)
-  -- range -1 to 0; 5 to 5: pass; 25
-  pub p4 : (byRange (Given 0xFFFFFFFF) (Given 0) .number ≡ 0) × (byRange (Given 5) (Given 5) .number ≡ refusal.rangeEmpty)
+  -- range -1 to 0; 5 to 5: pass; pass (document 02, wish 1)
+  pub p4 : (byRange (Given 0xFFFFFFFF) (Given 0) .number ≡ 0) × (byRange (Given 5) (Given 5) .number ≡ 0)
   -- both ends of i32; only one end: pass; pass
   pub p5 : (byRange (Given 0x80000000) (Given 0x7FFFFFFF) .number ≡ 0) × ((byRange (Given 5) Absent .number ≡ 0)
       × (byRange Absent (Given 5) .number ≡ 0))
@@ -131,8 +131,8 @@ pub record Pieces : Type 0 where
       × (judgedRows (linked 0 2 ∷ linked 1 3 ∷ []) [] .number ≡ 0))
   -- 88 class under auxiliary: pass
   pub p7 : classes auxiliary class88 .number ≡ 0
-  -- abstract under structural: 21
-  pub p8 : classes structural abstract ≡ brokenBy refusal.categoryMisfit Classes 2
+  -- abstract under structural: 38
+  pub p8 : classes structural abstract ≡ brokenBy refusal.abstractUnderOther Classes 2
   -- two auxiliaries listing each other: both reach the same classes, in any table
   pub p9 : (t : Table) (x y : ℕ) → x < t .count → y < t .count → lists Auxiliaries (t .row x) y ≡ true → lists Auxiliaries (t .row y) x ≡ true
       → (z : ℕ) → reaches t x z ≡ reaches t y z

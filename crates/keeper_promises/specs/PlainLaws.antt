@@ -17,6 +17,7 @@ use Rattle.rules.specs.MeetsLaws.{met-of}
 use Rattle.schema.specs.declared.answer.Answer.{Answer}
 use Rattle.schema.specs.Store.{LongEnough, Schema, Stores, result, schemaOf, Result}
 use Rattle.schema.specs.Answers.{passed, refused, unreadable, changed}
+use Rattle.schema.specs.Order.{rank}
 use Rattle.schema.specs.StoreLaws.{says-short}
 use Rattle.keeper_promises.specs.Promises.{Fresh, InOrder, Shape, SomeShort, Accepted}
 use Rattle.keeper_promises.specs.OrderLaws.{has-shape, judged-meets, meets-judged, order-shape}
@@ -149,8 +150,8 @@ module _ (x : List ℕ) (s : Stores) where
           read-answer ∙ answer-refused change r m e ∙ ap refused (sym number-is),
         )
 
-    pub plain-least : (n : ℕ) → Condition change r m n → plainChange x s .answer .number ≤ n
-    plain-least n c = omega (arith, number-is, change-least change r m n c)
+    pub plain-least : (n : ℕ) → Condition change r m n → rank (plainChange x s .answer .number) ≤ rank n
+    plain-least n c = omega (arith, ap rank number-is, change-least change r m n c)
 
   -- ---- 0
 

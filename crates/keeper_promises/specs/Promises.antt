@@ -15,6 +15,7 @@ use Rattle.schema.specs.declared.number.TableId.the-variants.{Attributes, Class
 use Rattle.schema.specs.Answers.{answer, passed, done, refused, shortOutput, changed, fieldAnswer, classAnswer, numberAnswer}
 use Rattle.schema.specs.Layout.{storeLength, closureLength}
 use Rattle.schema.specs.Numbers.{classLimit, classRead, numberRead}
+use Rattle.schema.specs.Order.{order, rank}
 use Rattle.schema.specs.Store.{LongEnough, Stores, stores, result, schemaOf, closureAt, Schema}
 use Rattle.tables.specs.Filled.{emptyStores}
 use Rattle.graph.specs.Graph.{closureRow}
@@ -167,6 +168,8 @@ pub record Demand2 : Type 0 where
   -- is `SheetStops sheet Read`, and in `Accepted` it gives `ChangeStops x (Read change)`
   pub sheet-stops : (sheet : List ℕ) (answer : SheetRead) → (readSheet sheet .answer ≡ answer) ↔ SheetStops sheet answer
   pub change-stops : (x : List ℕ) (answer : ChangeRead) → (readChange x .answer ≡ answer) ↔ ChangeStops x answer
+  -- "Demand 2's smallest is the first in this order": a number of the order shares its rank with no other, so that the first is one number
+  pub ranks-apart : (m n : ℕ) → rank m < length order → rank m ≡ rank n → m ≡ n
   -- load: 0 exactly if the stores are long enough, the sheet reads and its rows meet every rule
   pub load-zero : (sheet : List ℕ) (s : Stores) → (load sheet s .answer .number ≡ 0) ↔ (LongEnough s × Acceptable sheet)
   -- then the stores hold exactly the rows of the sheet, and the closure that these give
@@ -189,9 +192,9 @@ pub record Demand2 : Type 0 where
   -- the sheet reads, and some row breaks a rule: the first that is broken, "the table and lowest row that break the rule found, attributes first"
   pub load-rule : (sheet : List ℕ) (s : Stores) → LongEnough s → readSheet sheet .answer ≡ Read → ¬ Meets Nothing (schemaFrom (readSheet sheet .rows))
       → FirstBroken (schemaFrom (readSheet sheet .rows)) (schemaRules Nothing) (load sheet s .answer)
-  -- it is the smallest: every rule with a smaller number is met
+  -- it is the first in the order of judging (schema/Order): every rule that comes before it is met
   pub load-least : (sheet : List ℕ) (s : Stores) → LongEnough s → readSheet sheet .answer ≡ Read → (rule : RuleName)
-      → ¬ (Met Nothing rule (schemaFrom (readSheet sheet .rows))) → load sheet s .answer .number ≤ ruleNumber rule
+      → ¬ (Met Nothing rule (schemaFrom (readSheet sheet .rows))) → rank (load sheet s .answer .number) ≤ rank (ruleNumber rule)
   -- plain change: 0 exactly if the stores are in order and their rows accept the change
   pub plain-zero : (x : List ℕ) (s : Stores) → (plainChange x s .answer .number ≡ 0) ↔ (InOrder s × Accepted x (schemaOf s))
   -- then "only that change is made": the stores hold exactly the rows of the model after it; "and the stores are in order"
@@ -201,7 +204,7 @@ pub record Demand2 : Type 0 where
   -- "table and row changed or added"
   pub plain-done : (x : List ℕ) (s : Stores) → InOrder s → (h : Accepted x (schemaOf s))
       → plainChange x s .answer ≡ changed (tableFor (h .change)) (numberFor (h .change) (h .carried) (schemaOf s))
-  -- else 1, 2, 3, 4 with its place, or the smallest number from 5 to 30 whose condition holds
+  -- else 1, 2, 3, 4 with its place, or the first number from 5 on, in the order of judging, whose condition holds
   pub plain-one : (x : List ℕ) (s : Stores) → SomeShort s → plainChange x s ≡ result (refused refusal.shortStore) s
   pub plain-two : (x : List ℕ) (s : Stores) → LongEnough s → ¬ Shape s → plainChange x s ≡ result (refused refusal.brokenShape) s
   pub plain-three : (x : List ℕ) (s : Stores) → LongEnough s → Shape s → ¬ InOrder s → plainChange x s ≡ result (refused refusal.notInOrder) s
@@ -224,7 +227,7 @@ pub record Demand2 : Type 0 where
       → ¬ (plainChange x s .answer .number ≡ 0)
       → Condition change r (schemaOf s) (plainChange x s .answer .number) × (plainChange x s .answer ≡ refused (plainChange x s .answer .number))
   pub plain-least : (x : List ℕ) (s : Stores) → InOrder s → (change : Change) (r : List ℕ) → readChange x ≡ changeOut (changes.Read change) r
-      → (n : ℕ) → Condition change r (schemaOf s) n → plainChange x s .answer .number ≤ n
+      → (n : ℕ) → Condition change r (schemaOf s) n → rank (plainChange x s .answer .number) ≤ rank n
   -- quick change, on any stores, in order or not: 1, 2, and 4 with its place
   pub quick-one : (x : List ℕ) (s : Stores) → SomeShort s → quickChange x s ≡ result (refused refusal.shortStore) s
   pub quick-two : (x : List ℕ) (s : Stores) → LongEnough s → ¬ Shape s → quickChange x s ≡ result (refused refusal.brokenShape) s
@@ -239,7 +242,8 @@ pub record Demand2 : Type 0 where
   pub audit-one : (s : Stores) → SomeShort s → audit s ≡ refused refusal.shortStore
   pub audit-two : (s : Stores) → LongEnough s → ¬ Shape s → audit s ≡ refused refusal.brokenShape
   pub audit-rule : (s : Stores) → LongEnough s → Shape s → ¬ Meets Nothing (schemaOf s) → FirstBroken (schemaOf s) (schemaRules Nothing) (audit s)
-  pub audit-least : (s : Stores) → LongEnough s → Shape s → (rule : RuleName) → ¬ (Met Nothing rule (schemaOf s)) → audit s .number ≤ ruleNumber rule
+  pub audit-least : (s : Stores) → LongEnough s → Shape s → (rule : RuleName) → ¬ (Met Nothing rule (schemaOf s)) → rank (audit s .number)
+      ≤ rank (ruleNumber rule)
   -- "3 .. Audit: only kept sets are wrong"
   pub audit-three : (s : Stores) → LongEnough s → Shape s → Meets Nothing (schemaOf s) → ¬ Fresh s → audit s ≡ refused refusal.notInOrder
   -- write: "0 and the length"; the output too short: nothing is written, and the place is the length needed

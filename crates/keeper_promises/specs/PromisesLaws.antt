@@ -1,4 +1,5 @@
 -- The promises, kept: each demand, with no assumption left.
+use Rattle.schema.specs.OrderLaws.{rank-apart}
 use Rattle.sheet_read.specs.StoppingLaws.{sheet-stops}
 use Rattle.change_read.specs.StoppingLaws.{change-stops}
 use Rattle.keeper_promises.specs.Demand3.{Demand3}
@@ -46,6 +47,7 @@ pub demand2 : Demand2
 demand2 = record {
   sheet-stops = sheet-stops;
   change-stops = change-stops;
+  ranks-apart = rank-apart;
   load-zero = loads.load-zero;
   load-done = loads.load-done;
   load-order = loads.load-order;

@@ -4,6 +4,7 @@ use mathlib.Core.List.{List}
 use mathlib.Core.Path.{_≡_}
 use Prim.Native.Nat.{ℕ, _≤_}
 use Rattle.schema.specs.Answers.{changed, refused}
+use Rattle.schema.specs.Order.{rank}
 use Rattle.schema.specs.Store.{LongEnough, Stores, schemaOf}
 use Rattle.rules.specs.Rules.{breaks}
 use Rattle.change_read.specs.declared.read.Change.{Change}
@@ -17,8 +18,8 @@ use Rattle.schema.specs.Refusals as refusal
 
 -- each number's condition
 pub data QuickCondition (change : Change) (r : List ℕ) (s : Stores) : ℕ → Type 0 where
-  -- 5 to 11 are a plain change's
-  asked : {n : ℕ} → n ≤ refusal.stillNeeded → Condition change r (schemaOf s) n → QuickCondition change r s n
+  -- 5 to 11, which come before the rules, are a plain change's
+  asked : {n : ℕ} → rank n ≤ rank refusal.stillNeeded → Condition change r (schemaOf s) n → QuickCondition change r s n
   -- "It judges rules 12 to 29 for the changed row alone, against all rows."
   rule : (n : ℕ)
       → breaks (addedBy change r (schemaOf s .classes .count)) (schemaAfter change r (schemaOf s)) n (tableFor change) (numberFor change r (schemaOf s))
@@ -34,8 +35,8 @@ module _ (x : List ℕ) (s : Stores) where
     -- "with changes, table and place are 0 on refusal"; the number is one whose condition holds
     pub told : ¬ (Done x s) → quickChange x s .answer ≡ refused (quickChange x s .answer .number)
     pub holds : ¬ (Done x s) → QuickCondition change r s (quickChange x s .answer .number)
-    -- "The smallest number whose condition holds."
-    pub least : (n : ℕ) → QuickCondition change r s n → quickChange x s .answer .number ≤ n
+    -- "The smallest number whose condition holds": the first in the order of judging
+    pub least : (n : ℕ) → QuickCondition change r s n → rank (quickChange x s .answer .number) ≤ rank n
 
   abbrev pub AnswersQuickly : Type 0
   AnswersQuickly = LongEnough s → Shape s → (change : Change) (r : List ℕ) → Carries x s change r → QuickAnswers change r

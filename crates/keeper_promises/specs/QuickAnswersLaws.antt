@@ -1,24 +1,26 @@
--- A quick change answers as document 01 says on any stores in shape: the smallest number whose condition holds, without table and place.
-use mathlib.Core.Bool.{Bool, false, true, false≢true}
+-- A quick change answers as document 01 says on any stores in shape: the first number in the order of judging whose condition
+-- holds, without table and place.
+use mathlib.Core.Bool.{Bool}
 use mathlib.Core.List.{List, [], _++_, _∷_}
-use mathlib.Core.Logic.{_⊎_, inl, inr, ⊎-elim}
+use mathlib.Core.Logic.{_⊎_, ⊎-elim}
 use mathlib.Core.Path.{_≡_, _∙_, ap, refl, subst, sym}
 use Prim.Native.Nat.{ℕ, _≤_}
 use native.Mathlib.Omega.{arith}
-use lib.Dec.{eqb}
-use Rattle.prelude.specs.First.{Among, Case, Rising}
+use Rattle.prelude.specs.First.{Among, Case}
 use Rattle.prelude.specs.FirstLaws.{among-above, among-append, among-left, among-right, first-among, first-least, other-first}
-use Rattle.prelude.specs.SaysLaws.{says-eq, says-false, says-split, says-true}
+use Rattle.prelude.specs.SaysLaws.{says-eq, says-false, says-true}
 use Rattle.schema.specs.Answers.{changed, refused}
+use Rattle.schema.specs.Order.{rank, position}
 use Rattle.schema.specs.Store.{Schema, Stores, schemaOf}
 use Rattle.schema.specs.declared.answer.Answer.{Answer}
-use Rattle.rules.specs.Rules.{Rule, casesOf, noRule, numbered, schemaRules}
+use Rattle.rules.specs.Rules.{Rule, schemaRules}
+use Rattle.rules.specs.RulesLaws.{case-picked, picked-case, rising}
 use Rattle.change_read.specs.ChangeLaws.{Reads}
 use Rattle.change_read.specs.Reading.{ChangeOut}
 use Rattle.change_read.specs.declared.read.Change.{Change}
 use Rattle.change_rows.specs.Rows.{numberFor, schemaAfter, tableFor}
 use Rattle.change_asked.specs.Asked.{askedCases}
-use Rattle.change_model.specs.ConditionsLaws.{among-condition, condition-among}
+use Rattle.change_model.specs.ConditionsLaws.{among-condition, condition-among, result-rise}
 use Rattle.change_model.specs.Model.{addedBy, answerBy, changedCases, resultCases}
 use Rattle.change_model.specs.ModelLaws.{answer-number}
 use Rattle.keeper.specs.Answering.{InShape}
@@ -29,27 +31,6 @@ use Rattle.keeper_promises.specs.QuickLaws.{quick-shaped}
 use Rattle.keeper_promises.specs.QuickSets.{Done}
 use Rattle.keeper_promises.specs.ThirtyLaws.{before, number-is, numbers-rise, says-thirty, thirtyCase}
 use Rattle.schema.specs.Refusals as refusal
-
--- ---- a number of a list's cases is that of a rule that the test picks, and the other way round
-
-module _ (test : Rule → Bool) where
-  case-picked : {n : ℕ} (k : ℕ) (rs : List Rule) → Rising k (casesOf test rs) → Among n (casesOf test rs) → test (numbered rs n) ≡ true
-  unfolding numbered
-  case-picked {n} k (r ∷ rs) rise (Among.here e q) = rw (says-true (says-eq (r .number) n) q) e
-  case-picked {n} k (r ∷ rs) rise (Among.there a) =
-      rw (says-false (says-eq (r .number) n) (λ q. omega (arith, q, among-above (r .number) (casesOf test rs) (rise .1) a)))
-      (case-picked (r .number) rs (rise .1) a)
-
-  picked-case : (n : ℕ) (rs : List Rule) → test (noRule n) ≡ false → test (numbered rs n) ≡ true → Among n (casesOf test rs)
-  unfolding numbered
-  picked-case n [] none e = absurd (false≢true (sym none ∙ e))
-  picked-case n (r ∷ rs) none e = go (picked-case n rs none) (says-split (says-eq (r .number) n))
-    where
-      go : (test (numbered rs n) ≡ true → Among n (casesOf test rs)) → ((eqb (r .number) n ≡ true) × (r .number ≡ n))
-          ⊎ ((eqb (r .number) n ≡ false) × ¬ (r .number ≡ n))
-          → Among n (casesOf test (r ∷ rs))
-      go ih (inl q) = Among.here (rw (q .0) at e) (q .1)
-      go ih (inr q) = Among.there (ih (rw (q .0) at e))
 
 module _ (x : List ℕ) (s : Stores) (change : Change) (r : List ℕ) (reads : Reads x change r) where
   abbrev m : Schema
@@ -67,14 +48,15 @@ module _ (x : List ℕ) (s : Stores) (change : Change) (r : List ℕ) (reads : R
 
   -- ---- conditions and cases
 
-  asked-few : {n : ℕ} → Among n (askedCases change r m) → n ≤ refusal.stillNeeded
-  asked-few (Among.here e q) = omega (arith, q)
-  asked-few (Among.there (Among.here e q)) = omega (arith, q)
-  asked-few (Among.there (Among.there (Among.here e q))) = omega (arith, q)
-  asked-few (Among.there (Among.there (Among.there (Among.here e q)))) = omega (arith, q)
-  asked-few (Among.there (Among.there (Among.there (Among.there (Among.here e q))))) = omega (arith, q)
-  asked-few (Among.there (Among.there (Among.there (Among.there (Among.there (Among.here e q)))))) = omega (arith, q)
-  asked-few (Among.there (Among.there (Among.there (Among.there (Among.there (Among.there (Among.here e q))))))) = omega (arith, q)
+  asked-few : {n : ℕ} → Among n (askedCases change r m) → rank n ≤ rank refusal.stillNeeded
+  unfolding rank position
+  asked-few (Among.here e q) = omega (arith, ap rank q)
+  asked-few (Among.there (Among.here e q)) = omega (arith, ap rank q)
+  asked-few (Among.there (Among.there (Among.here e q))) = omega (arith, ap rank q)
+  asked-few (Among.there (Among.there (Among.there (Among.here e q)))) = omega (arith, ap rank q)
+  asked-few (Among.there (Among.there (Among.there (Among.there (Among.here e q))))) = omega (arith, ap rank q)
+  asked-few (Among.there (Among.there (Among.there (Among.there (Among.there (Among.here e q)))))) = omega (arith, ap rank q)
+  asked-few (Among.there (Among.there (Among.there (Among.there (Among.there (Among.there (Among.here e q))))))) = omega (arith, ap rank q)
 
   case-condition : {n : ℕ} → Among n cases → QuickCondition change r s n
   case-condition {n} a = ⊎-elim (λ b. ⊎-elim asked rule (among-append (askedCases change r m) (changedCases change r m) b)) last
@@ -84,7 +66,7 @@ module _ (x : List ℕ) (s : Stores) (change : Change) (r : List ℕ) (reads : R
       asked b = QuickCondition.asked (asked-few b) (among-condition change r m (among-left (resultCases change r m) b))
 
       rule : Among n (changedCases change r m) → QuickCondition change r s n
-      rule b = QuickCondition.rule n (case-picked byRow 0 rules (omega arith) b)
+      rule b = QuickCondition.rule n (case-picked byRow (rank refusal.stillNeeded) rules (rising (addedBy change r (m .classes .count)) byRow) b)
 
       last : Among n (thirtyCase x s change r reads ∷ []) → QuickCondition change r s n
       last (Among.here e q) = subst (QuickCondition change r s) q (QuickCondition.mandatoryDiffers (says-thirty change r s .holds e))
@@ -92,7 +74,7 @@ module _ (x : List ℕ) (s : Stores) (change : Change) (r : List ℕ) (reads : R
   condition-case : {n : ℕ} → QuickCondition change r s n → Among n cases
   condition-case (QuickCondition.asked l c) =
       ⊎-elim (λ a. among-left (thirtyCase x s change r reads ∷ []) (among-left (changedCases change r m) a))
-      (λ b. absurd (omega (arith, l, among-above 11 (resultCases change r m) (omega arith) b)))
+      (λ b. absurd (omega (arith, l, among-above rank (rank refusal.stillNeeded) (resultCases change r m) (result-rise change r m) b)))
       (among-append (askedCases change r m) (resultCases change r m) (condition-among change r m c))
   condition-case (QuickCondition.rule n e) =
       among-left (thirtyCase x s change r reads ∷ []) (among-right (askedCases change r m) (picked-case byRow n rules refl e))
@@ -121,9 +103,13 @@ module _ (x : List ℕ) (s : Stores) (change : Change) (r : List ℕ) (reads : R
         let e = number-is x s change r reads shape in
         subst (QuickCondition change r s) (sym e) (case-condition (first-among (other-first cases (λ z. d (e ∙ z)))))
 
-    answer-least : (n : ℕ) → QuickCondition change r s n → quickChange x s .answer .number ≤ n
+    answer-least : (n : ℕ) → QuickCondition change r s n → rank (quickChange x s .answer .number) ≤ rank n
     answer-least n c =
-        omega (arith, number-is x s change r reads shape, first-least 0 n cases (numbers-rise x s change r reads) (condition-case c))
+        omega (
+          arith,
+          ap rank (number-is x s change r reads shape),
+          first-least rank (rank refusal.unreadable) n cases (numbers-rise x s change r reads) (condition-case c),
+        )
 
 pub quick-answers : (x : List ℕ) (s : Stores) → AnswersQuickly x s
 quick-answers x s long formed change r reads =

@@ -2,16 +2,17 @@
 use mathlib.Core.List.{List, [], _∷_, _++_}
 use mathlib.Core.Logic.{_↔_, _⊎_, inl, inr, ⊎-elim}
 use mathlib.Core.Path.{_≡_, ap, refl, sym, _∙_}
-use Prim.Native.Nat.{ℕ, _<_}
+use Prim.Native.Nat.{ℕ, _≤_, _<_}
 use native.Mathlib.Decide.{ℕ-discrete}
 use native.Mathlib.Omega.{arith}
-use Rattle.prelude.specs.First.{Case, Rising, _when_, firstOf}
-use Rattle.prelude.specs.FirstLaws.{among-above, first-among, other-first}
+use Rattle.prelude.specs.First.{firstOf}
+use Rattle.prelude.specs.FirstLaws.{first-above}
 use Rattle.prelude.specs.SaysLaws.{says-split}
 use Rattle.schema.specs.declared.answer.Answer.{Answer}
 use Rattle.schema.specs.declared.number.TableId.{TableId}
 use Rattle.schema.specs.declared.number.TableId.the-variants.{Attributes, Classes}
 use Rattle.schema.specs.Answers.{answer, passed}
+use Rattle.schema.specs.Order.{rank, position}
 use Rattle.schema.specs.Store.{LongEnough, Result, Schema, Stores, result, schemaOf}
 use Rattle.schema.specs.StoreLaws.{long-enough, says-short}
 use Rattle.sheet_read.specs.declared.read.SheetRead.{SheetRead}
@@ -26,32 +27,25 @@ use Rattle.change_read.specs.Stopping.{ChangeStops}
 use Rattle.change_read.specs.StoppingLaws.{change-stops}
 use Rattle.rules.specs.declared.row.Added.the-variants.{Nothing}
 use Rattle.rules.specs.Rules.{schemaRules}
-use Rattle.rules.specs.Judge.{brokenCases}
+use Rattle.rules.specs.Judge.{broken, brokenCases}
 use Rattle.rules.specs.JudgeLaws.{judged-number}
+use Rattle.rules.specs.RulesLaws.{rising}
 use Rattle.tables_shape.specs.ShapeLaws.{says-formed}
-use Rattle.change_asked.specs.Asked.{askedCases}
-use Rattle.change_model.specs.ModelLaws.{answer-number}
-use Rattle.change_model.specs.Model.{changeCases, changeNumber, changedCases}
+use Rattle.change_model.specs.ConditionsLaws.{cases-rise}
+use Rattle.change_model.specs.Model.{changeCases, changeNumber}
 use Rattle.keeper.specs.Answering.{InShape, firstAnswer}
 use Rattle.keeper.specs.Order.{orderAnswers}
 use Rattle.keeper.specs.Load.{emptied, load}
 use Rattle.keeper_change.specs.Plain.{plainChange}
-use Rattle.keeper_change.specs.Quick.{quickChange, quickDiffers, quickNumber, quickTo}
+use Rattle.keeper_change.specs.Quick.{quickChange}
 use Rattle.keeper_promises.specs.LoadLaws.{judged-answer, load-bad, load-no-room, load-one}
 use Rattle.keeper_promises.specs.OrderLaws.{has-shape}
 use Rattle.keeper_promises.specs.PlainLaws.{number-is, order-passes, passes-order, plain-bad, plain-one, plain-three, plain-two}
 use Rattle.keeper_promises.specs.Promises.{InOrder, Shape, SomeShort}
-use Rattle.keeper_promises.specs.QuickLaws.{quick-bad, quick-one, quick-shaped, quick-two}
+use Rattle.keeper_promises.specs.QuickLaws.{quick-bad, quick-one, quick-two}
 use Rattle.change_read.specs.declared.read.ChangeRead.the-variants as changes
+use Rattle.keeper_promises.specs.ThirtyLaws as thirty
 use Rattle.schema.specs.Refusals as refusal
-
--- numbers that rise from above n: the first whose case holds is above n
-first-above : (n : ℕ) (cs : List Case) → Rising n cs → (firstOf cs ≡ 0) ⊎ (n < firstOf cs)
-first-above n cs rise = go (ℕ-discrete (firstOf cs) 0)
-  where
-    go : Dec (firstOf cs ≡ 0) → (firstOf cs ≡ 0) ⊎ (n < firstOf cs)
-    go (yes e) = inl e
-    go (no d) = inr (among-above n cs rise (first-among (other-first cs d)))
 
 -- an answer's number
 number-of : {x y : Result} → x ≡ y → x .answer .number ≡ y .answer .number
@@ -84,24 +78,25 @@ module _ (sheet : List ℕ) (s : Stores) where
   load-full long t stops = load-no-room sheet s long t (sheet-stops sheet (Full t) .1 stops)
 
   -- a sheet that reads gets 0 or a rule's number
-  read-number : LongEnough s → readSheet sheet .answer ≡ Read → (load sheet s .answer .number ≡ 0) ⊎ (11 < load sheet s .answer .number)
+  read-number : LongEnough s → readSheet sheet .answer ≡ Read
+      → (load sheet s .answer .number ≡ 0) ⊎ (rank refusal.stillNeeded < rank (load sheet s .answer .number))
   read-number long e =
       let m : Schema = schemaFrom (readSheet sheet .rows) in
       let is : load sheet s .answer .number ≡ firstOf (brokenCases (schemaRules Nothing) m) =
       ap (λ (a : Answer). a .number) (judged-answer sheet s long e) ∙ judged-number Nothing m in
-      rw is (first-above 11 (brokenCases (schemaRules Nothing) m) (omega arith))
+      rw is (first-above rank (rank refusal.stillNeeded) (brokenCases (schemaRules Nothing) m) (rising Nothing (broken m)))
 
-  -- a number from 2 to 11 is that of a reading that stopped
-  module _ (n : ℕ) (z : load sheet s .answer .number ≡ n) (l : 1 < n) (k : n < 12) where
+  -- a number from 2 on that comes before the rules is that of a reading that stopped
+  module _ (n : ℕ) (z : load sheet s .answer .number ≡ n) (l : 1 < n) (k : rank n ≤ rank refusal.stillNeeded) where
     stopped : LongEnough s × ((r : SheetRead) × SheetStops sheet r × (sheetAnswer r .number ≡ n))
     stopped = ⊎-elim (λ h. absurd (short h)) (λ long. (long, go long (readSheet sheet .answer) refl)) (short-or-long s)
       where
         short : SomeShort s → ⊥
         short h = let q : load sheet s .answer .number ≡ 1 = number-of (load-one sheet s h) in omega arith
 
-        reads : (load sheet s .answer .number ≡ 0) ⊎ (11 < load sheet s .answer .number) → ⊥
+        reads : (load sheet s .answer .number ≡ 0) ⊎ (rank refusal.stillNeeded < rank (load sheet s .answer .number)) → ⊥
         reads (inl e) = omega arith
-        reads (inr e) = omega arith
+        reads (inr e) = omega (arith, ap rank z)
 
         go : LongEnough s → (r : SheetRead) → readSheet sheet .answer ≡ r → (r : SheetRead) × SheetStops sheet r × (sheetAnswer r .number ≡ n)
         go long Read e = absurd (reads (read-number long e))
@@ -109,6 +104,7 @@ module _ (sheet : List ℕ) (s : Stores) where
         go long (Full t) e = (Full t, sheet-stops sheet (Full t) .0 e, sym (number-of (load-no-room sheet s long t e)) ∙ z)
 
   pub load-four : (load sheet s .answer .number ≡ 4) ↔ (LongEnough s × ((at : ℕ) × SheetStops sheet (Bad at)))
+  unfolding rank position
   load-four = (
     λ z. (let x = stopped 4 z (omega arith) (omega arith) in (x .0, go (x .1 .0) (x .1 .1) (x .1 .2))),
     λ h. number-of (load-unreadable (h .0) (h .1 .0) (h .1 .1)),
@@ -120,6 +116,7 @@ module _ (sheet : List ℕ) (s : Stores) where
       go (Full t) h e = absurd (omega arith)
 
   pub load-six : (load sheet s .answer .number ≡ 6) ↔ (LongEnough s × ((t : TableId) × SheetStops sheet (Full t)))
+  unfolding rank position
   load-six = (
     λ z. (let x = stopped 6 z (omega arith) (omega arith) in (x .0, go (x .1 .0) (x .1 .1) (x .1 .2))),
     λ h. number-of (load-full (h .0) (h .1 .0) (h .1 .1)),
@@ -147,10 +144,10 @@ module _ (x : List ℕ) (s : Stores) where
   pub quick-unreadable : LongEnough s → Shape s → (at : ℕ) → ChangeStops x (changes.Bad at) → quickChange x s ≡ result (changeAnswer (changes.Bad at)) s
   quick-unreadable long shape at stops = quick-bad x s long shape at (change-stops x (changes.Bad at) .1 stops)
 
-  -- a number that is 0 or above 4
-  not-four : {n : ℕ} → n ≡ 4 → (n ≡ 0) ⊎ (4 < n) → ⊥
+  -- a number that is 0 or comes after 4
+  not-four : {n : ℕ} → n ≡ 4 → (n ≡ 0) ⊎ (rank refusal.unreadable < rank n) → ⊥
   not-four e (inl z) = omega arith
-  not-four e (inr l) = omega arith
+  not-four e (inr l) = omega (arith, ap rank e)
 
   abbrev carried : List ℕ
   carried = readChange x .row
@@ -172,10 +169,11 @@ module _ (x : List ℕ) (s : Stores) where
           (shape-or-not s l)
 
   plain-number : InOrder s → (change : Change) → readChange x .answer ≡ changes.Read change
-      → (plainChange x s .answer .number ≡ 0) ⊎ (4 < plainChange x s .answer .number)
+      → (plainChange x s .answer .number ≡ 0) ⊎ (rank refusal.unreadable < rank (plainChange x s .answer .number))
   unfolding changeNumber
   plain-number h change e =
-      rw (number-is x s h change carried (reads e)) (first-above 4 (changeCases change carried (schemaOf s)) (omega arith))
+      rw (number-is x s h change carried (reads e))
+      (first-above rank (rank refusal.unreadable) (changeCases change carried (schemaOf s)) (cases-rise change carried (schemaOf s)))
 
   pub plain-four : (plainChange x s .answer .number ≡ 4) ↔ (InOrder s × ((at : ℕ) × ChangeStops x (changes.Bad at)))
   plain-four = (to, λ h. number-of (plain-unreadable (h .0) (h .1 .0) (h .1 .1)))
@@ -191,14 +189,11 @@ module _ (x : List ℕ) (s : Stores) where
   -- ---- quick: stores not in shape get 1 or 2, and a change that reads 0 or a number from 5 on
 
   quick-number : InShape s → (change : Change) → readChange x .answer ≡ changes.Read change
-      → (quickChange x s .answer .number ≡ 0) ⊎ (4 < quickChange x s .answer .number)
-  unfolding quickNumber
+      → (quickChange x s .answer .number ≡ 0) ⊎ (rank refusal.unreadable < rank (quickChange x s .answer .number))
   quick-number h change e =
-      let k : ℕ = quickNumber change carried (schemaOf s) (s .closure) in
-      let is : quickChange x s .answer .number ≡ k =
-      ap (λ (a : Answer). a .number) (quick-shaped x s h ∙ ap (λ (y : ChangeRead). quickTo y carried s) e) ∙ answer-number change carried (schemaOf s) k in
-      rw is (first-above 4 (askedCases change carried (schemaOf s) ++ (changedCases change carried (schemaOf s)
-      ++ ((refusal.mandatoryDiffers when quickDiffers change carried (schemaOf s) (s .closure)) ∷ []))) (omega arith))
+      rw (thirty.number-is x s change carried (reads e) h)
+      (first-above rank (rank refusal.unreadable) (thirty.before x s change carried (reads e) ++ (thirty.thirtyCase x s change carried (reads e) ∷ []))
+      (thirty.numbers-rise x s change carried (reads e)))
 
   pub quick-four : (quickChange x s .answer .number ≡ 4) ↔ (LongEnough s × Shape s × ((at : ℕ) × ChangeStops x (changes.Bad at)))
   quick-four = (to, λ h. number-of (quick-unreadable (h .0) (h .1) (h .2 .0) (h .2 .1)))

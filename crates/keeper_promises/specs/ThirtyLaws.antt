@@ -18,6 +18,8 @@ use Rattle.prelude.specs.SaysLaws.{says-and, says-fails, says-false, says-iff, 
 use Rattle.sets.specs.Sets.{bit, member, subset}
 use Rattle.sets.specs.SetsLaws.{bit-cases, bit-lt, bit-past, says-member, says-same-sets, says-subset}
 use Rattle.schema.specs.Layout.{attributeSet, demandedAt}
+use Rattle.schema.specs.Order.{rank, position}
+use Rattle.schema.specs.OrderLaws.{rank-zero}
 use Rattle.schema.specs.Store.{Schema, Stores, Table, closureAt, demandedIn, schemaOf}
 use Rattle.schema.specs.declared.answer.Answer.{Answer}
 use Rattle.graph.specs.Graph.{demandedSet, demands}
@@ -101,27 +103,27 @@ says-thirty (Reactivate t) r s = says-never
 says-thirty AddEntry r s = says-entry s (listOf r) (entryOf r) (targetOf r)
 says-thirty RemoveEntry r s = says-other (schemaOf s .classes) (schemaAfter RemoveEntry r (schemaOf s) .classes) (targetOf r)
 
--- ---- a list whose numbers rise to that of its last case
+-- ---- a list whose ranks rise to that of its last case
 
 module _ (last : Case) where
   abbrev ended : List Case → List Case
   ended p = p ++ (last ∷ [])
 
-  last-above : (m : ℕ) (p : List Case) → Rising m (ended p) → m < last .number
+  last-above : (m : ℕ) (p : List Case) → Rising rank m (ended p) → m < rank (last .number)
   last-above m [] r = r .0
-  last-above m (c ∷ p) r = omega (arith, r .0, last-above (c .number) p (r .1))
+  last-above m (c ∷ p) r = omega (arith, r .0, last-above (rank (c .number)) p (r .1))
 
-  last-only : (m : ℕ) (p : List Case) → Rising m (ended p) → firstOf (ended p) ≡ last .number → NoneHolds p × (last .holds ≡ true)
+  last-only : (m : ℕ) (p : List Case) → Rising rank m (ended p) → firstOf (ended p) ≡ last .number → NoneHolds p × (last .holds ≡ true)
   last-only m [] r e = go (true-or-false (last .holds))
     where
       go : (last .holds ≡ true) ⊎ (last .holds ≡ false) → Unit {0} × (last .holds ≡ true)
       go (inl q) = (tt, q)
-      go (inr q) = absurd (omega (arith, r .0, e, first-miss last [] q, first-none))
-  last-only m (c ∷ p) r e = go (last-only (c .number) p (r .1)) (true-or-false (c .holds))
+      go (inr q) = absurd (omega (arith, r .0, ap rank (sym e ∙ first-miss last [] q ∙ first-none), rank-zero))
+  last-only m (c ∷ p) r e = go (last-only (rank (c .number)) p (r .1)) (true-or-false (c .holds))
     where
       go : (firstOf (ended p) ≡ last .number → NoneHolds p × (last .holds ≡ true)) → (c .holds ≡ true) ⊎ (c .holds ≡ false)
           → ((c .holds ≡ false) × NoneHolds p) × (last .holds ≡ true)
-      go ih (inl q) = absurd (omega (arith, last-above (c .number) p (r .1), e, first-hit c (ended p) q))
+      go ih (inl q) = absurd (omega (arith, last-above (rank (c .number)) p (r .1), ap rank (sym (first-hit c (ended p) q) ∙ e)))
       go ih (inr q) = let h = ih (sym (first-miss c (ended p) q) ∙ e) in ((q, h .0), h .1)
 
   none-ended : (p : List Case) → NoneHolds (ended p) ↔ (NoneHolds p × (last .holds ≡ false))
@@ -132,12 +134,12 @@ module _ (last : Case) where
   )
 
   -- its number is the answer exactly where it alone holds, and 0 where none does
-  answer-last : (m : ℕ) (p : List Case) → Rising m (ended p) → (firstOf (ended p) ≡ last .number) ↔ (NoneHolds p × (last .holds ≡ true))
+  answer-last : (m : ℕ) (p : List Case) → Rising rank m (ended p) → (firstOf (ended p) ≡ last .number) ↔ (NoneHolds p × (last .holds ≡ true))
   answer-last m p r = (last-only m p r, λ h. append-miss p (last ∷ []) (h .0) ∙ first-hit last [] (h .1))
 
-  answer-none : (m : ℕ) (p : List Case) → Rising m (ended p) → (firstOf (ended p) ≡ 0) ↔ (NoneHolds p × (last .holds ≡ false))
+  answer-none : (m : ℕ) (p : List Case) → Rising rank m (ended p) → (firstOf (ended p) ≡ 0) ↔ (NoneHolds p × (last .holds ≡ false))
   answer-none m p r =
-      let z = zero-iff-none (ended p) (rising-nonzero m (ended p) r) in
+      let z = zero-iff-none (ended p) (rising-nonzero rank rank-zero m (ended p) r) in
       (λ e. none-ended p .0 (z .0 e), λ h. z .1 (none-ended p .1 h))
 
 -- ---- a change that was read
@@ -159,14 +161,15 @@ module _ (x : List ℕ) (s : Stores) (change : Change) (r : List ℕ) (reads : R
       ∙ answer-number change r m (quickNumber change r m (s .closure))
       ∙ ap firstOf (sym (append-assoc (askedCases change r m) (changedCases change r m) (thirtyCase ∷ [])))
 
-  pub numbers-rise : Rising 0 (before ++ (thirtyCase ∷ []))
+  pub numbers-rise : Rising rank (rank refusal.unreadable) (before ++ (thirtyCase ∷ []))
+  unfolding rank position
   numbers-rise = omega arith
 
   pub gives-thirty : InShape s → (quickChange x s .answer .number ≡ 30) ↔ (Unrefused x s change r × Thirty change r s)
   gives-thirty shape =
       let e = number-is shape in
       let says = says-thirty change r s in
-      let last = answer-last thirtyCase 0 before numbers-rise in (
+      let last = answer-last thirtyCase (rank refusal.unreadable) before numbers-rise in (
         λ q. (let h = last .0 (sym e ∙ q) in (h .0, says .holds (h .1))),
         λ h. e ∙ last .1 (h .0, says .passes (h .1)),
       )
@@ -175,7 +178,7 @@ module _ (x : List ℕ) (s : Stores) (change : Change) (r : List ℕ) (reads : R
   gives-zero shape =
       let e = number-is shape in
       let says = says-thirty change r s in
-      let none = answer-none thirtyCase 0 before numbers-rise in (
+      let none = answer-none thirtyCase (rank refusal.unreadable) before numbers-rise in (
         λ q. (let h = none .0 (sym e ∙ q) in (h .0, says-fails says (h .1))),
         λ h. e ∙ none .1 (h .0, says-false says (h .1)),
       )

@@ -38,9 +38,9 @@ pub record OneName (a b : List ℕ) : Type 0 where
   pub lengths : length a ≡ length b
   pub bytes : (i : ℕ) → i < length a → (getD a i 0 ≡ getD b i 0) ⊎ (SmallOf (getD a i 0) (getD b i 0) ⊎ SmallOf (getD b i 0) (getD a i 0))
 
--- l is smaller than u as signed numbers of 32 bits in two's complement: from 0x80000000 on they are negative
-abbrev pub SignedLess : ℕ → ℕ → Type 0
-SignedLess l u = ((0x80000000 ≤ l) × (u < 0x80000000)) ⊎ ((l < u) × ((u < 0x80000000) ⊎ (0x80000000 ≤ l)))
+-- l is at most u as signed numbers of 32 bits in two's complement: from 0x80000000 on they are negative
+abbrev pub SignedAtMost : ℕ → ℕ → Type 0
+SignedAtMost l u = ((0x80000000 ≤ l) × (u < 0x80000000)) ⊎ ((l ≤ u) × ((u < 0x80000000) ⊎ (0x80000000 ≤ l)))
 
 -- a class whose row this is has y for "its superclass" or one of "its auxiliaries"
 abbrev pub Inherits : List ℕ → ℕ → Type 0
@@ -98,7 +98,7 @@ pub record AttributeSound (a : Table) (row : List ℕ) : Type 0 where
   pub syntaxes : SyntaxPair (syntaxOf row) (omSyntaxOf row)
   pub object : omSyntaxOf row ≡ 127 → RightObjectClass (syntaxOf row) (objectClassOf row)
   pub noObject : ¬ (omSyntaxOf row ≡ 127) → objectClassOf row ≡ []
-  pub range : (l u : ℕ) → rangeLower row ≡ Given l → rangeUpper row ≡ Given u → SignedLess l u
+  pub range : (l u : ℕ) → rangeLower row ≡ Given l → rangeUpper row ≡ Given u → SignedAtMost l u
   -- "An odd linkID without a live attribute holding the number one less; 1 never has one"
   pub forward : linkOf row % 2 ≡ 1 → Some (a .count) (λ j. Usable a row j × ((linkOf (a .row j) + 1 ≡ linkOf row) × ¬ (linkOf (a .row j) ≡ 0)))
 

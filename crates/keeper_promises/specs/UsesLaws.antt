@@ -7,8 +7,7 @@ use Prim.Native.Nat.{ℕ, _+_, _*_, _/_, _≤_, _<_}
 use native.Mathlib.Decide.{decLt, ℕ-discrete}
 use native.Mathlib.Omega.{arith}
 use lib.ListN.{getD}
-use lib.Signed.{ltZ}
-use borrow.Author.Tests.{ltb-true, not-false}
+use borrow.Author.Tests.{ltb-false}
 use Rattle.prelude.specs.BigEndian.{bigEndian}
 use Rattle.prelude.specs.BigEndianLaws.{four-bytes, two-bytes}
 use Rattle.prelude.specs.Part.{Bytes, part}
@@ -40,19 +39,20 @@ use Rattle.rows_read.specs.WellFormed.{isFinished, wellFormed}
 use Rattle.rows_read.specs.WellFormedLaws.{formed-parts}
 use Rattle.rules_names.specs.Name.{SameName, folded}
 use Rattle.rules_unique.specs.IdentifierLaws.{row-arcs}
-use Rattle.rules_attribute.specs.Range.{biased, endsCrossed, signed}
+use Rattle.rules_attribute.specs.Range.{biased, endsCrossed}
 use Rattle.rules_attribute.specs.RangeLaws.{biased-high, biased-low, less-biased, says-crossed}
 use Rattle.rules_attribute.specs.SyntaxLaws.{says-syntax-fits}
-use Rattle.rules_class.specs.Category.{Illegal, listCategory}
+use Rattle.rules_class.specs.Category.{listCategory}
 use Rattle.rules_class.specs.Live.{SuperclassEarly}
 use Rattle.rules.specs.Meets.{Meets, Fitting, nameInvalid, nameTaken, identifierInvalid, identifierTaken, guidTaken, attributeNotLive, classNotLive}
-use Rattle.rules.specs.Meets.{notAnAuxiliary, notASuperior, categoryMisfit, namingUnfit, mapiTaken, rangeEmpty, syntaxMisfit, objectClassWrong}
+use Rattle.rules.specs.Meets.{notAnAuxiliary, notASuperior, rootNotAbstract, abstractUnderOther, auxiliaryUnderStructural, structuralUnderAuxiliary}
+use Rattle.rules.specs.Meets.{namingUnfit, mapiTaken, rangeCrossed, syntaxMisfit, objectClassWrong}
 use Rattle.rules.specs.Meets.{linkTaken, linkAlone}
 use Rattle.rules.specs.declared.row.Added.the-variants.{Nothing}
 use Rattle.tables_shape.specs.ShapeLaws.{table-shaped}
 use Rattle.keeper_promises.specs.PaperTablesLaws.{paper-tables, small-folds}
 use Rattle.keeper_promises.specs.Promises.{InOrder, OfBytes}
-use Rattle.keeper_promises.specs.Uses.{AttributeSound, ClassSound, OneName, ReachSound, Reached, RowSound, RowsApart, SignedLess}
+use Rattle.keeper_promises.specs.Uses.{AttributeSound, ClassSound, OneName, ReachSound, Reached, RowSound, RowsApart, SignedAtMost}
 use Rattle.keeper_promises.specs.Uses.{Uses, Active, Usable, itself, bySuperclass, byFixed, byOpen}
 use Rattle.keeper_promises.specs.UsesGraphLaws.{kept-sound}
 use Rattle.schema.specs.declared.class.Naming.the-variants as naming
@@ -117,18 +117,18 @@ end-below row at x bytes e = go (flagAt at row) refl
         omega arith
 
 -- ends that are not crossed
-signed-less : (l u : ℕ) → l < 4294967296 → u < 4294967296 → endsCrossed (Given l) (Given u) ≡ false → SignedLess l u
+signed-at-most : (l u : ℕ) → l < 4294967296 → u < 4294967296 → endsCrossed (Given l) (Given u) ≡ false → SignedAtMost l u
 unfolding endsCrossed
-signed-less l u hl hu e = go (decLt l 2147483648) (decLt u 2147483648)
+signed-at-most l u hl hu e = go (decLt l 2147483648) (decLt u 2147483648)
   where
-    less : biased l < biased u
-    less = ltb-true (biased l) (biased u) (sym (less-biased l u hl hu) ∙ not-false (ltZ (signed l) (signed u)) e)
+    at-most : biased l ≤ biased u
+    at-most = ltb-false (biased u) (biased l) (sym (less-biased u l hu hl) ∙ e)
 
-    go : Dec (l < 2147483648) → Dec (u < 2147483648) → SignedLess l u
-    go (yes p) (yes q) = inr (omega (arith, less, biased-low l p, biased-low u q), inl q)
-    go (yes p) (no q) = absurd (omega (arith, less, biased-low l p, biased-high u (omega arith)))
+    go : Dec (l < 2147483648) → Dec (u < 2147483648) → SignedAtMost l u
+    go (yes p) (yes q) = inr (omega (arith, at-most, biased-low l p, biased-low u q), inl q)
+    go (yes p) (no q) = absurd (omega (arith, at-most, biased-low l p, biased-high u (omega arith)))
     go (no p) (yes q) = inl (omega arith, q)
-    go (no p) (no q) = inr (omega (arith, less, biased-high l (omega arith), biased-high u (omega arith)), inr (omega arith))
+    go (no p) (no q) = inr (omega (arith, at-most, biased-high l (omega arith), biased-high u (omega arith)), inr (omega arith))
 
 -- a row whose oMSyntax is not 127 has no oMObjectClass
 no-object : (row : List ℕ) → wellFormed Attributes row ≡ true → ¬ (omSyntaxOf row ≡ 127) → objectClassOf row ≡ []
@@ -182,8 +182,8 @@ module _ (m : Schema) (met : Meets Nothing m) where
         object = λ e. paper-tables .object-classes (syntaxOf row) (objectClassOf row) .0
             (says-object-class-fits (syntaxOf row) (objectClassOf row) .passes (met objectClassWrong k l e));
         noObject = no-object row formed;
-        range = λ a b p q. signed-less a b (end-below row rangeLowerAt a bytes p) (end-below row rangeUpperAt b bytes q)
-            (sym (ap₂ endsCrossed p q) ∙ says-false (says-crossed (rangeLower row) (rangeUpper row)) (met rangeEmpty k l));
+        range = λ a b p q. signed-at-most a b (end-below row rangeLowerAt a bytes p) (end-below row rangeUpperAt b bytes q)
+            (sym (ap₂ endsCrossed p q) ∙ says-false (says-crossed (rangeLower row) (rangeUpper row)) (met rangeCrossed k l));
         forward = λ e. (let f = met linkAlone k l e in record {
           at = f .at;
           below = f .below;
@@ -235,15 +235,12 @@ module _ (m : Schema) (met : Meets Nothing m) where
           let u = names-attribute c b l (naming-below row b (bytes c) e) (inr (inr (inr e))) in
           (u, met namingUnfit c l b e (u .0))
 
-      illegal : ¬ (c ≡ 0) → ¬ (Illegal (categoryOf row) (categoryOf (classes .row (superclassOf row))))
-      illegal d = met categoryMisfit .1 c l d (superclass-usable c l .0)
-
       under-abstract : ¬ (c ≡ 0) → categoryOf row ≡ 2 → categoryOf (classes .row (superclassOf row)) ≡ 2
       under-abstract d e = go (ℕ-discrete (categoryOf (classes .row (superclassOf row))) 2)
         where
           go : Dec (categoryOf (classes .row (superclassOf row)) ≡ 2) → categoryOf (classes .row (superclassOf row)) ≡ 2
           go (yes q) = q
-          go (no q) = absurd (illegal d (inl (e, q)))
+          go (no q) = absurd (met abstractUnderOther c l d (superclass-usable c l .0) (e, q))
 
       pub class-sound : ClassSound m c row
       class-sound = record {
@@ -258,12 +255,12 @@ module _ (m : Schema) (met : Meets Nothing m) where
         openSuperior = λ d e. superior-fits d (bit-below openSuperiorAt 16 row d e) (inr e);
         root = λ e. (
           ⊎-elim (λ q. q .1) (λ q. absurd (omega arith)) (early c l),
-          ap (λ (n : ℕ). categoryOf (classes .row n)) e ∙ met categoryMisfit .0 (omega arith),
+          ap (λ (n : ℕ). categoryOf (classes .row n)) e ∙ met rootNotAbstract (omega arith),
         );
         earlier = earlier c l;
         abstract = under-abstract;
-        auxiliary = λ d e q. illegal d (inr (inl (e, q)));
-        structural = λ d e q. illegal d (inr (inr (e, q)));
+        auxiliary = λ d e q. met auxiliaryUnderStructural c l d (superclass-usable c l .0) (e, q);
+        structural = λ d e q. met structuralUnderAuxiliary c l d (superclass-usable c l .0) (e, q);
       }
 
     -- ---- what a class reaches

@@ -1,5 +1,5 @@
 -- The answer of a call: the number of the first case that holds, and 0 where none does. Document 01: "The smallest number whose
--- condition holds." The order is the list's; that the numbers of a list rise is said apart.
+-- condition holds." Document 02: "Demand 2's smallest is the first in this order". The order is the list's; that the ranks of its numbers rise is said apart.
 use mathlib.Core.Path.{_≡_}
 use mathlib.Core.Bool.{Bool, true, false, cond}
 use mathlib.Core.List.{List, [], _∷_}
@@ -38,7 +38,7 @@ abbrev pub NonZero : List Case → Type 0
 NonZero [] = Unit {0}
 NonZero (c ∷ cs) = (0 < c .number) × NonZero cs
 
--- the numbers rise from above n, so that the first is the smallest
-abbrev pub Rising : ℕ → List Case → Type 0
-Rising n [] = Unit {0}
-Rising n (c ∷ cs) = (n < c .number) × Rising (c .number) cs
+-- the ranks of the numbers rise from above n, so that the first has the smallest rank
+abbrev pub Rising : (ℕ → ℕ) → ℕ → List Case → Type 0
+Rising rank n [] = Unit {0}
+Rising rank n (c ∷ cs) = (n < rank (c .number)) × Rising rank (rank (c .number)) cs

@@ -1,11 +1,11 @@
 -- Laws of the first case that holds, for every list of cases.
-use mathlib.Core.Path.{_≡_, refl, sym, _∙_}
+use mathlib.Core.Path.{_≡_, refl, sym, ap, _∙_}
 use mathlib.Core.Bool.{true, false, false≢true}
 use mathlib.Core.Logic.{_⊎_, inl, inr, ⊎-elim, _↔_, ⊎-map}
 use mathlib.Core.List.{List, [], _∷_, _++_}
 use Prim.Native.Nat.{ℕ, _≤_, _<_}
 use native.Mathlib.Omega.{arith}
-use native.Mathlib.Decide.{ℕ-discrete}
+use native.Mathlib.Decide.{ℕ-discrete, decLt}
 use Rattle.prelude.specs.SaysLaws.{true-or-false}
 use Rattle.prelude.specs.First.{Case, firstOf, NoneHolds, FirstHolds, Among, NonZero, Rising}
 
@@ -49,13 +49,13 @@ first-or-none (c ∷ cs) = go (first-or-none cs) (true-or-false (c .holds))
     go (inl h) (inr e) = inl (rw (first-miss c cs e) (FirstHolds.there e h))
     go (inr h) (inr e) = inr (e, h)
 
-first-above : {n : ℕ} (cs : List Case) → NonZero cs → FirstHolds n cs → 0 < n
-first-above (c ∷ cs) z (FirstHolds.here e q) = omega (arith, z .0)
-first-above (c ∷ cs) z (FirstHolds.there e h) = first-above cs (z .1) h
+first-positive : {n : ℕ} (cs : List Case) → NonZero cs → FirstHolds n cs → 0 < n
+first-positive (c ∷ cs) z (FirstHolds.here e q) = omega (arith, z .0)
+first-positive (c ∷ cs) z (FirstHolds.there e h) = first-positive cs (z .1) h
 
 -- 0 is the answer exactly where no condition holds
 pub zero-iff-none : (cs : List Case) → NonZero cs → (firstOf cs ≡ 0) ↔ NoneHolds cs
-zero-iff-none cs z = (λ e. ⊎-elim (λ h. absurd (omega (arith, first-above cs z h))) (λ h. h) (first-or-none cs), none-zero cs)
+zero-iff-none cs z = (λ e. ⊎-elim (λ h. absurd (omega (arith, first-positive cs z h))) (λ h. h) (first-or-none cs), none-zero cs)
 
 -- any other answer is of the first condition that holds
 pub other-first : (cs : List Case) → ¬ (firstOf cs ≡ 0) → FirstHolds (firstOf cs) cs
@@ -65,23 +65,37 @@ pub first-among : {n : ℕ} {cs : List Case} → FirstHolds n cs → Among n cs
 first-among (FirstHolds.here e q) = Among.here e q
 first-among (FirstHolds.there e h) = Among.there (first-among h)
 
--- ---- where the numbers rise, the first is the smallest
+-- ---- where the ranks rise, the first has the smallest
 
-pub among-above : {n : ℕ} (m : ℕ) (cs : List Case) → Rising m cs → Among n cs → m < n
-among-above m (c ∷ cs) r (Among.here e q) = omega (arith, r .0)
-among-above m (c ∷ cs) r (Among.there a) = omega (arith, r .0, among-above (c .number) cs (r .1) a)
+module _ (rank : ℕ → ℕ) where
+  pub among-above : {n : ℕ} (m : ℕ) (cs : List Case) → Rising rank m cs → Among n cs → m < rank n
+  among-above m (c ∷ cs) r (Among.here e q) = omega (arith, r .0, ap rank q)
+  among-above m (c ∷ cs) r (Among.there a) = omega (arith, r .0, among-above (rank (c .number)) cs (r .1) a)
 
-pub rising-nonzero : (m : ℕ) (cs : List Case) → Rising m cs → NonZero cs
-rising-nonzero m [] r = tt
-rising-nonzero m (c ∷ cs) r = (omega (arith, r .0), rising-nonzero (c .number) cs (r .1))
+  -- 0 has the rank 0, so that it stands above nothing
+  pub rising-nonzero : rank 0 ≡ 0 → (m : ℕ) (cs : List Case) → Rising rank m cs → NonZero cs
+  rising-nonzero z m [] r = tt
+  rising-nonzero z m (c ∷ cs) r = (go (decLt 0 (c .number)), rising-nonzero z (rank (c .number)) cs (r .1))
+    where
+      go : Dec (0 < c .number) → 0 < c .number
+      go (yes l) = l
+      go (no d) = let e : c .number ≡ 0 = omega arith in absurd (omega (arith, r .0, ap rank e))
 
-pub first-least : (m n : ℕ) (cs : List Case) → Rising m cs → Among n cs → firstOf cs ≤ n
-first-least m n (c ∷ cs) r (Among.here e q) = omega (arith, first-hit c cs e)
-first-least m n (c ∷ cs) r (Among.there a) = go (first-least (c .number) n cs (r .1) a) (true-or-false (c .holds))
-  where
-    go : firstOf cs ≤ n → (c .holds ≡ true) ⊎ (c .holds ≡ false) → firstOf (c ∷ cs) ≤ n
-    go ih (inl e) = omega (arith, first-hit c cs e, among-above (c .number) cs (r .1) a)
-    go ih (inr e) = omega (arith, first-miss c cs e)
+  pub first-least : (m n : ℕ) (cs : List Case) → Rising rank m cs → Among n cs → rank (firstOf cs) ≤ rank n
+  first-least m n (c ∷ cs) r (Among.here e q) = omega (arith, ap rank (first-hit c cs e ∙ q))
+  first-least m n (c ∷ cs) r (Among.there a) = go (first-least (rank (c .number)) n cs (r .1) a) (true-or-false (c .holds))
+    where
+      go : rank (firstOf cs) ≤ rank n → (c .holds ≡ true) ⊎ (c .holds ≡ false) → rank (firstOf (c ∷ cs)) ≤ rank n
+      go ih (inl e) = omega (arith, ap rank (first-hit c cs e), among-above (rank (c .number)) cs (r .1) a)
+      go ih (inr e) = omega (arith, ap rank (first-miss c cs e))
+
+  -- the first is of a rank above n, or none holds
+  pub first-above : (n : ℕ) (cs : List Case) → Rising rank n cs → (firstOf cs ≡ 0) ⊎ (n < rank (firstOf cs))
+  first-above n cs rise = go (ℕ-discrete (firstOf cs) 0)
+    where
+      go : Dec (firstOf cs ≡ 0) → (firstOf cs ≡ 0) ⊎ (n < rank (firstOf cs))
+      go (yes e) = inl e
+      go (no d) = inr (among-above n cs rise (first-among (other-first cs d)))
 
 -- ---- two lists one after the other: a group of cases that a function of its own judges
 

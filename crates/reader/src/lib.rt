@@ -1,12 +1,15 @@
 // A reader. Document 01: "One reader carries the lent sheet and its place."
 // It holds the lent bytes and a place in them. Its functions are thin: each takes it apart and calls a covered function on slice and number. The borrow
-// checker covers no function over such a struct, so each of these is proved by a walk by hand; `step_at` has plain parameters and serves every other caller.
+// checker covers no function over such a struct, so each of these is proved by a walk by hand; `step_at`, `ends_at` and `tag_at` have plain parameters and
+// serve every other caller, `field_within` those whose fields end before the bytes do.
+use prelude::number::byte_at;
 use wire::FieldRead;
 use wire::field_at;
+use wire::value_of;
 ghost use mathlib.Core.Path.{_≡_};
-ghost use Prim.Native.Nat.{_≤_};
+ghost use Prim.Native.Nat.{_≤_, _<_};
 ghost use lib.Dec.{eqb};
-ghost use lib.ListN.{length};
+ghost use lib.ListN.{getD, length};
 ghost use Rattle.wire.specs.Wire.{fieldAt};
 ghost use Rattle.reader.specs.Reader.{pastField, stepAt};
 
@@ -22,7 +25,7 @@ pub struct Step {
 }
 
 // Whether a place is the end of the bytes.
-pub fn is_end(s: &[u8], at: usize) -> bool
+fn is_end(s: &[u8], at: usize) -> bool
     ensures { λ r. ⌜ r ≡ eqb at (length (now (s .entry))) ⌝ }
 {
     at == s.len()
@@ -52,6 +55,14 @@ fn past_field(s: &[u8], at: usize) -> usize
     end
 }
 
+// The byte that stands there: a field's tag, whether the field is whole or not.
+fn tag_here(s: &[u8], at: usize) -> u8
+    requires { ⌜ at < length (now s) ⌝ }
+    ensures { λ r. ⌜ r ≡ getD (now (s .entry)) at 0 ⌝ }
+{
+    byte_at(s, at)
+}
+
 // A reader at a place of the lent bytes.
 fn reader_at<'a>(bytes: &'a [u8], at: usize) -> Reader<'a>
     ensures { λ r. ⌜ (r .bytes ≡ bytes .entry) × (r .at ≡ at) ⌝ }
@@ -74,6 +85,14 @@ fn next_field<'a>(r: Reader<'a>) -> FieldRead
     field_here(r.bytes, r.at)
 }
 
+// The tag that stands next.
+fn next_tag<'a>(r: Reader<'a>) -> u8
+    requires { ⌜ r .at < length (now (r .bytes)) ⌝ }
+    ensures { λ b. ⌜ b ≡ getD (now (r .entry .bytes)) (r .entry .at) 0 ⌝ }
+{
+    tag_here(r.bytes, r.at)
+}
+
 // The reader past that field.
 fn past<'a>(r: Reader<'a>) -> Reader<'a>
     requires { ⌜ r .at ≤ length (now (r .bytes)) ⌝ }
@@ -94,4 +113,35 @@ pub fn step_at(s: &[u8], at: usize) -> Step
     let field = next_field(r);
     let last = at_end(past(r));
     Step { field, last }
+}
+
+// Whether a reader at a place of a sheet has come to the end.
+pub fn ends_at(s: &[u8], at: usize) -> bool
+    ensures { λ r. ⌜ r ≡ eqb at (length (now (s .entry))) ⌝ }
+{
+    at_end(reader_at(s, at))
+}
+
+// The tag that a reader at a place of a sheet meets.
+pub fn tag_at(s: &[u8], at: usize) -> u8
+    requires { ⌜ at < length (now s) ⌝ }
+    ensures { λ r. ⌜ r ≡ getD (now (s .entry)) at 0 ⌝ }
+{
+    next_tag(reader_at(s, at))
+}
+
+// The field that a reader at a place meets, where nobody asks what comes behind it.
+fn next_at(s: &[u8], at: usize) -> FieldRead
+    requires { ⌜ at ≤ length (now s) ⌝ }
+    ensures { λ r. ⌜ r ≡ fieldAt (now (s .entry)) at (length (now (s .entry))) ⌝ }
+{
+    next_field(reader_at(s, at))
+}
+
+// The field that a reader of the bytes up to end meets at a place.
+pub fn field_within(s: &[u8], at: usize, end: usize) -> FieldRead
+    requires { ⌜ (at ≤ end) × (end ≤ length (now s)) ⌝ }
+    ensures { λ r. ⌜ r ≡ fieldAt (now (s .entry)) at end ⌝ }
+{
+    next_at(value_of(s, 0, end), at)
 }

@@ -2,6 +2,7 @@
 use crate::value::accepts;
 use crate::value::store_value;
 use prelude::part::clear;
+use reader::field_within;
 use rows_format::column::Column;
 use rows_format::column::Presence;
 use rows_format::column::column_width;
@@ -9,7 +10,6 @@ use rows_format::column::is_possible;
 use rows_format::column::is_required;
 use rows_format::column::mark_of;
 use wire::FieldRead;
-use wire::field_at;
 use wire::value_of;
 ghost use mathlib.Core.Bool.{true, _||_};
 ghost use mathlib.Core.Path.{_≡_};
@@ -62,7 +62,7 @@ pub fn turn_of(s: &[u8], at: usize, end: usize, column: Column) -> Turn
         tag,
         start,
         end: stop,
-    } = field_at(s, at, end)
+    } = field_within(s, at, end)
     else {
         return Turn::Refused;
     };

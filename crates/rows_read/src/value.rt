@@ -1,4 +1,4 @@
-// One value: whether a encoding accepts it, and storing it in its cell.
+// One value: whether an encoding accepts it, and storing it in its cell.
 use crate::entries::rises;
 use crate::entries::store_entries;
 use prelude::number::read_u16;

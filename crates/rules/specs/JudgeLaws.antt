@@ -1,25 +1,26 @@
 -- What the judge's answer is: its number is the first rule that some row breaks; 0 exactly where no row breaks any; the place is the lowest row.
-use mathlib.Core.Bool.{Bool, true, false, _||_, false≢true}
+use mathlib.Core.Bool.{Bool, true, false, _||_}
 use mathlib.Core.List.{List, [], _∷_}
 use mathlib.Core.Logic.{_↔_, _⊎_, inl, inr}
-use mathlib.Core.Path.{_≡_, refl, sym, ap, subst, _∙_}
+use mathlib.Core.Path.{_≡_, refl, sym, ap, ap₂, subst, _∙_}
 use Prim.Native.Nat.{ℕ, _+_, _≤_, _<_}
 use native.Mathlib.Omega.{arith}
-use lib.Dec.{eqb}
 use lib.ListN.{length, getD, drop}
-use Rattle.prelude.specs.SaysLaws.{says-true, says-false, says-lt, says-eq, says-or, says-test, says-split, neither}
+use Rattle.prelude.specs.SaysLaws.{says-true, says-false, says-lt, says-or, says-test, neither}
 use Rattle.prelude.specs.BelowLaws.{first-some, any-none, any-false, any-here, first-any}
-use Rattle.prelude.specs.First.{_when_, firstOf, NoneHolds, Rising, Among}
-use Rattle.prelude.specs.FirstLaws.{first-hit, first-miss, first-none, first-least, rising-nonzero, zero-iff-none}
+use Rattle.prelude.specs.First.{_when_, firstOf, NoneHolds}
+use Rattle.prelude.specs.FirstLaws.{first-hit, first-miss, first-none, first-least, zero-iff-none}
 use Rattle.schema.specs.declared.answer.Answer.{Answer}
 use Rattle.schema.specs.declared.number.TableId.{TableId}
 use Rattle.schema.specs.declared.number.TableId.the-variants.{Attributes, Classes}
 use Rattle.schema.specs.Answers.{brokenBy, passed, tableNumber}
+use Rattle.schema.specs.Order.{rank}
 use Rattle.schema.specs.Store.{Schema, table}
 use Rattle.rules.specs.declared.row.Added.{Added}
-use Rattle.rules.specs.Rules.{Rule, schemaRules, numbered, rulesOf, breaks, Each}
-use Rattle.rules.specs.RulesLaws.{rules-next, rules-end, numbered-number}
+use Rattle.rules.specs.Rules.{Rule, schemaRules, noRule, numbered, rulesOf, breaks, Each}
+use Rattle.rules.specs.RulesLaws.{rules-next, rules-end, numbered-number, rising, nonzero, picked-case}
 use Rattle.rules.specs.Judge.{breaksIn, firstRow, judgeTable, judgeRule, judgeRules, judged, broken, brokenCases, Kept, AllKept, Lowest, FirstBroken}
+use Rattle.schema.specs.Refusals as refusal
 
 -- ---- one rule, by case
 
@@ -191,16 +192,12 @@ module _ (rs : List Rule) (ns : List ℕ) (m : Schema) (i : ℕ) where
 
 -- ---- rules 12 to 29
 
--- the numbers rise
-pub rising : (added : Added) (m : Schema) → Rising 0 (brokenCases (schemaRules added) m)
-rising added m = omega arith
-
 -- 0 is the number exactly where no row breaks any of the rules
 pub judged-zero : (added : Added) (m : Schema) → (judged added m .number ≡ 0) ↔ AllKept added m
 unfolding judged
 judged-zero added m =
     let rs = schemaRules added in
-    let z = zero-iff-none (brokenCases rs m) (rising-nonzero 0 (brokenCases rs m) (rising added m)) in
+    let z = zero-iff-none (brokenCases rs m) (nonzero added (broken m)) in
     (λ e. none-kept m rs (z .0 (sym (judge-number rs m) ∙ e)), λ h. judge-number rs m ∙ z .1 (kept-none m rs h))
 
 pub judged-passed : (added : Added) (m : Schema) → AllKept added m → judged added m ≡ passed
@@ -211,31 +208,29 @@ pub judged-first : (added : Added) (m : Schema) → AllKept added m ⊎ FirstBro
 unfolding judged
 judged-first added m = first-or-kept m (schemaRules added)
 
--- a broken rule is one of the cases that hold
-among-broken : (rs : List Rule) (m : Schema) (n : ℕ) (t : TableId) (k : ℕ) → k < table t m .count → numbered rs n .breaks m t k ≡ true
-    → Among n (brokenCases rs m)
-unfolding numbered
-among-broken [] m n t k l e = absurd (false≢true e)
-among-broken (r ∷ rs) m n t k l e = go (λ q. among-broken rs m n t k l q) (says-split (says-eq (r .number) n))
-  where
-    some : (u : TableId) → k < table u m .count → r .breaks m u k ≡ true → broken m r ≡ true
-    some Attributes j q = ap (λ (b : Bool). b || breaksIn r m Classes) (any-here (r .breaks m Attributes) k (m .attributes .count) j q)
-    some Classes j q = says-or (says-test (breaksIn r m Attributes)) (says-test (breaksIn r m Classes)) .passes
-        (inr (any-here (r .breaks m Classes) k (m .classes .count) j q))
+-- a rule that some row breaks is broken; one that no row does is not
+row-breaks : (m : Schema) (r : Rule) (t : TableId) (k : ℕ) → k < table t m .count → r .breaks m t k ≡ true → broken m r ≡ true
+row-breaks m r Attributes k l e = ap (λ (b : Bool). b || breaksIn r m Classes) (any-here (r .breaks m Attributes) k (m .attributes .count) l e)
+row-breaks m r Classes k l e =
+    says-or (says-test (breaksIn r m Attributes)) (says-test (breaksIn r m Classes)) .passes (inr
+    (any-here (r .breaks m Classes) k (m .classes .count) l e))
 
-    go : (numbered rs n .breaks m t k ≡ true → Among n (brokenCases rs m)) → ((eqb (r .number) n ≡ true) × (r .number ≡ n))
-        ⊎ ((eqb (r .number) n ≡ false) × ¬ (r .number ≡ n))
-        → Among n (brokenCases (r ∷ rs) m)
-    go ih (inl q) = Among.here (some t l (rw (q .0) at e)) (q .1)
-    go ih (inr q) = Among.there (ih (rw (q .0) at e))
+pub none-broken : (m : Schema) (n : ℕ) → broken m (noRule n) ≡ false
+none-broken m n =
+    ap₂ (λ (x y : Bool). x || y) (any-false (λ k. false) (m .attributes .count) (λ k l. refl)) (any-false (λ k. false) (m .classes .count) (λ k l. refl))
 
--- "The smallest number whose condition holds": no row breaks a rule of a smaller number
+-- "The smallest number whose condition holds", the first in the order of judging: no row breaks a rule that comes before it
 pub judged-least : (added : Added) (m : Schema) (n : ℕ) (t : TableId) (k : ℕ) → k < table t m .count → breaks added m n t k ≡ true
-    → judged added m .number ≤ n
+    → rank (judged added m .number) ≤ rank n
 unfolding judged
 judged-least added m n t k l e =
     let rs = schemaRules added in
-    omega (arith, judge-number rs m, first-least 0 n (brokenCases rs m) (rising added m) (among-broken rs m n t k l e))
+    omega (
+      arith,
+      ap rank (judge-number rs m),
+      first-least rank (rank refusal.stillNeeded) n (brokenCases rs m) (rising added (broken m))
+          (picked-case (broken m) n rs (none-broken m n) (row-breaks m (numbered rs n) t k l e)),
+    )
 
 -- the judge's number is that of the first rule that some row breaks
 pub judged-number : (added : Added) (m : Schema) → judged added m .number ≡ firstOf (brokenCases (schemaRules added) m)

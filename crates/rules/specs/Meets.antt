@@ -23,6 +23,8 @@ use Rattle.rules_attribute.specs.Syntax.{SyntaxFits}
 use Rattle.rules_attribute.specs.Links.{ForwardOf}
 use Rattle.rules_class.specs.Live.{SuperclassEarly, CanName}
 use Rattle.rules_class.specs.Category.{class88, abstract, listCategory, Illegal}
+use Rattle.rules_class.specs.declared.category.Inheritance.{Inheritance}
+use Rattle.rules_class.specs.declared.category.Inheritance.the-variants.{AbstractUnderOther, AuxiliaryUnderStructural, StructuralUnderAuxiliary}
 use Rattle.rules_class.specs.Chain.{chainLimit, ChainWithin}
 use Rattle.rules.specs.declared.row.Added.{Added}
 use Rattle.rules.specs.declared.row.Added.the-variants.{Nothing, Class, Entry}
@@ -43,7 +45,8 @@ NumbersApart m number =
 -- the rules by name
 pub data RuleName : Type 0 where
   nameInvalid nameTaken identifierInvalid identifierTaken guidTaken attributeNotLive classNotLive notAnAuxiliary notASuperior : RuleName
-  categoryMisfit chainAstray namingUnfit mapiTaken rangeEmpty syntaxMisfit objectClassWrong linkTaken linkAlone : RuleName
+  rootNotAbstract abstractUnderOther auxiliaryUnderStructural structuralUnderAuxiliary : RuleName
+  chainAstray namingUnfit mapiTaken rangeCrossed syntaxMisfit objectClassWrong linkTaken linkAlone : RuleName
 
 abbrev pub ruleNumber : RuleName → ℕ
 ruleNumber nameInvalid = refusal.nameInvalid
@@ -55,11 +58,14 @@ ruleNumber attributeNotLive = refusal.attributeNotLive
 ruleNumber classNotLive = refusal.classNotLive
 ruleNumber notAnAuxiliary = refusal.notAnAuxiliary
 ruleNumber notASuperior = refusal.notASuperior
-ruleNumber categoryMisfit = refusal.categoryMisfit
+ruleNumber rootNotAbstract = refusal.rootNotAbstract
+ruleNumber abstractUnderOther = refusal.abstractUnderOther
+ruleNumber auxiliaryUnderStructural = refusal.auxiliaryUnderStructural
+ruleNumber structuralUnderAuxiliary = refusal.structuralUnderAuxiliary
 ruleNumber chainAstray = refusal.chainAstray
 ruleNumber namingUnfit = refusal.namingUnfit
 ruleNumber mapiTaken = refusal.mapiTaken
-ruleNumber rangeEmpty = refusal.rangeEmpty
+ruleNumber rangeCrossed = refusal.rangeCrossed
 ruleNumber syntaxMisfit = refusal.syntaxMisfit
 ruleNumber objectClassWrong = refusal.objectClassWrong
 ruleNumber linkTaken = refusal.linkTaken
@@ -88,11 +94,11 @@ Fitting kind m =
     (k : ℕ) → k < m .classes .count → (n : ℕ) → n < classLimit → Lists kind (m .classes .row k) n → n < m .classes .count
     → (categoryOf (m .classes .row n) ≡ class88) ⊎ (categoryOf (m .classes .row n) ≡ listCategory kind)
 
--- no class is illegal under its superclass
-abbrev pub Legal : Schema → Type 0
-Legal m =
+-- no class is illegal under its superclass in one of the ways of 38, 39 and 40
+abbrev pub Legal : Inheritance → Schema → Type 0
+Legal x m =
     (k : ℕ) → k < m .classes .count → ¬ (k ≡ 0) → superclassOf (m .classes .row k) < m .classes .count
-    → ¬ (Illegal (categoryOf (m .classes .row k)) (categoryOf (m .classes .row (superclassOf (m .classes .row k)))))
+    → ¬ (Illegal x (categoryOf (m .classes .row k)) (categoryOf (m .classes .row (superclassOf (m .classes .row k)))))
 
 -- each rule
 abbrev pub Met : Added → RuleName → Schema → Type 0
@@ -110,8 +116,11 @@ Met added classNotLive m =
 -- 19, 20
 Met added notAnAuxiliary m = Fitting Auxiliaries m
 Met added notASuperior m = Fitting Superiors m
--- 21 row 0 is abstract; no class is illegal under its superclass
-Met added categoryMisfit m = (0 < m .classes .count → categoryOf (m .classes .row 0) ≡ abstract) × Legal m
+-- 21 row 0 is abstract; 38 no class is abstract under another kind, 39 auxiliary under structural, 40 structural under auxiliary
+Met added rootNotAbstract m = 0 < m .classes .count → categoryOf (m .classes .row 0) ≡ abstract
+Met added abstractUnderOther m = Legal AbstractUnderOther m
+Met added auxiliaryUnderStructural m = Legal AuxiliaryUnderStructural m
+Met added structuralUnderAuxiliary m = Legal StructuralUnderAuxiliary m
 -- 22 every chain ends at row 0, within 128 steps and over rows that are there
 Met added chainAstray m = (k : ℕ) → k < m .classes .count → ChainWithin (m .classes) chainLimit k
 -- 23 a naming attribute that is there can name
@@ -120,7 +129,7 @@ Met added namingUnfit m = (k : ℕ) → k < m .classes .count → (n : ℕ) → 
 -- 24 no two attributes have one mAPIID
 Met added mapiTaken m = NumbersApart m mapiOf
 -- 25 no range has its ends crossed
-Met added rangeEmpty m = (k : ℕ) → k < m .attributes .count → ¬ (EndsCrossed (rangeLower (m .attributes .row k)) (rangeUpper (m .attributes .row k)))
+Met added rangeCrossed m = (k : ℕ) → k < m .attributes .count → ¬ (EndsCrossed (rangeLower (m .attributes .row k)) (rangeUpper (m .attributes .row k)))
 -- 26 syntax and oMSyntax match; 27 with oMSyntax 127 oMObjectClass is one of its syntax's
 Met added syntaxMisfit m = (k : ℕ) → k < m .attributes .count → SyntaxFits (syntaxOf (m .attributes .row k)) (omSyntaxOf (m .attributes .row k))
 Met added objectClassWrong m = (k : ℕ) → k < m .attributes .count → omSyntaxOf (m .attributes .row k) ≡ 127

@@ -3,21 +3,21 @@ use native.Mathlib.Omega.{arith}
 use lib.Dec.{eqb}
 use borrow.Author.Tests.{not-true}
 use mathlib.Core.Bool.{Bool, true, false, false≢true, _&&_, _||_, not}
-use mathlib.Core.List.{List, _∷_, []}
+use mathlib.Core.List.{List, _∷_}
 use mathlib.Core.Logic.{inl, inr, ⊎-elim, _↔_, _⊎_}
 use mathlib.Core.Path.{_≡_, refl, sym, _∙_, ap, ap₂}
 use Prim.Native.Nat.{ℕ, _<_, _≤_}
 use Rattle.prelude.specs.Says.{Says}
 use Rattle.prelude.specs.SaysLaws.{says-and, says-or, says-eq, says-lt, says-test, says-split, says-false, says-fails, neither, says-not, says-iff}
-use Rattle.prelude.specs.BelowLaws.{says-any, any-false}
-use Rattle.prelude.specs.First.{Among, Rising}
+use Rattle.prelude.specs.BelowLaws.{says-any}
+use Rattle.prelude.specs.First.{Among}
 use Rattle.prelude.specs.Below.{Some}
-use Rattle.prelude.specs.FirstLaws.{first-among, first-least, other-first, among-above}
-use Rattle.prelude.specs.SaysLaws.{says-true}
+use Rattle.prelude.specs.FirstLaws.{first-among, first-least, other-first}
 use Rattle.schema.specs.declared.number.TableId.{TableId}
 use Rattle.schema.specs.declared.number.TableId.the-variants.{Attributes, Classes}
 use Rattle.schema.specs.Numbers.{SameRow, sameTable}
 use Rattle.schema.specs.NumbersLaws.{says-same-row, says-same-table}
+use Rattle.schema.specs.Order.{rank}
 use Rattle.schema.specs.Row.{nameOf}
 use Rattle.schema.specs.AttributeRow.{syntaxOf, omSyntaxOf, objectClassOf, isSingleValued, linkOf, mapiOf}
 use Rattle.schema.specs.ClassRow.{categoryOf, superclassOf, namingOf}
@@ -41,19 +41,24 @@ use Rattle.rules_attribute.specs.Syntax.{objectClassWrong}
 use Rattle.rules_attribute.specs.Links.{forwardMissing}
 use Rattle.rules_class.specs.Live.{notLive, classWrong, SuperclassEarly, listsItself, superclassLate, namingWrong}
 use Rattle.rules_class.specs.LiveLaws.{says-not-live, says-naming-wrong, says-lists-itself, says-superclass-late}
-use Rattle.rules_class.specs.Category.{class88, abstract, listCategory, categoryWrong, inheritanceWrong}
+use Rattle.rules_class.specs.Category.{class88, abstract, listCategory, categoryWrong, inheritanceNumber, RootIllegal}
+use Rattle.rules_class.specs.declared.category.Inheritance.{Inheritance}
+use Rattle.rules_class.specs.declared.category.Inheritance.the-variants.{RootNotAbstract, AbstractUnderOther, AuxiliaryUnderStructural}
+use Rattle.rules_class.specs.declared.category.Inheritance.the-variants.{StructuralUnderAuxiliary}
 use Rattle.rules_class.specs.CategoryLaws.{says-category-wrong, says-inheritance-wrong}
 use Rattle.rules_class.specs.Chain.{chainLimit}
 use Rattle.rules_class.specs.ChainLaws.{says-chain, says-chain-wrong}
 use Rattle.rules.specs.declared.row.Added.the-variants.{Nothing}
-use Rattle.rules.specs.Rules.{ofAttributes, ofClasses, schemaRules, numbered, _&_, attributeNotLive, classNotLive, entryDead, barred, Each, Rule}
-use Rattle.rules.specs.RulesLaws.{each-numbered}
+use Rattle.rules.specs.Rules.{ofAttributes, ofClasses, inheritanceRule, schemaRules, numbered, _&_, attributeNotLive, classNotLive}
+use Rattle.rules.specs.Rules.{entryDead, barred, Each, Rule}
+use Rattle.rules.specs.RulesLaws.{each-numbered, case-picked, picked-case, rising}
 use Rattle.rules.specs.Judge.{Kept, AllKept, breaksIn, broken, brokenCases, judged}
 use Rattle.rules.specs.Meets.{Apart, NumbersApart, NamedLive, EntryLive, NotItself, Fitting, Legal, RuleName, ruleNumber, Met, Meets}
 use Rattle.rules.specs.declared.row.Added.{Added}
 use Rattle.rules.specs.declared.row.Added.the-variants.{Class, Entry}
 use Rattle.rules.specs.Rules.{casesOf}
-use Rattle.rules.specs.JudgeLaws.{judge-number, rising}
+use Rattle.rules.specs.JudgeLaws.{judge-number, none-broken}
+use Rattle.schema.specs.Refusals as refusal
 
 -- what is decided by a test, and cannot fail, holds
 sure : {b : Bool} {P : Type 0} → Says b P → ¬ (¬ P) → P
@@ -260,17 +265,31 @@ category-met kind m =
       λ h s. s .is .other (h (s .at) (s .below) (s .is .listed) (s .is .there)),
     ))
 
-inheritance-met : (m : Schema) → ((t : TableId) (k : ℕ) → k < table t m .count → ofClasses (λ x j. inheritanceWrong (x .classes) j) m t k ≡ false)
-    ↔ ((0 < m .classes .count → categoryOf (m .classes .row 0) ≡ abstract) × Legal m)
-inheritance-met m = (
-  λ h. (
-    λ l. sure (says-eq (categoryOf (m .classes .row 0)) abstract)
-        (λ d. says-fails (says-inheritance-wrong (m .classes) 0) (h Classes 0 l) (inl (refl, d))),
-    λ k l d there ill. says-fails (says-inheritance-wrong (m .classes) k) (h Classes k l) (inr (d, (there, ill))),
-  ),
-  λ h. of-classes m _ (λ k l. says-false (says-inheritance-wrong (m .classes) k)
-      (⊎-elim (λ s. s .1 (rw (s .0) (h .0 (rw (s .0) at l)))) (λ s. h .1 k l (s .0) (s .1 .0) (s .1 .1)))),
-)
+-- 21, 38, 39 and 40
+module _ (x : Inheritance) (some : 0 < inheritanceNumber x) (m : Schema) where
+  abbrev NoneInherits : Type 0
+  NoneInherits = Kept m (inheritanceRule (inheritanceNumber x))
+
+  inheritance-met : NoneInherits ↔ ((0 < m .classes .count → ¬ (RootIllegal x (categoryOf (m .classes .row 0)))) × Legal x m)
+  inheritance-met = (
+    λ h. (
+      λ l d. says-fails (says-inheritance-wrong (m .classes) 0 x some) (h Classes 0 l) (inl (refl, d)),
+      λ k l d there ill. says-fails (says-inheritance-wrong (m .classes) k x some) (h Classes k l) (inr (d, (there, ill))),
+    ),
+    λ h. of-classes m _ (λ k l. says-false (says-inheritance-wrong (m .classes) k x some)
+        (⊎-elim (λ s. h .0 (rw (s .0) at l) (rw (s .0) at (s .1))) (λ s. h .1 k l (s .0) (s .1 .0) (s .1 .1)))),
+  )
+
+  -- row 0 has no class above it
+  under-met : ((own : ℕ) → ¬ (RootIllegal x own)) → NoneInherits ↔ Legal x m
+  under-met never = (λ h. inheritance-met .0 h .1, λ h. inheritance-met .1 (λ l. never (categoryOf (m .classes .row 0)), h))
+
+root-met : (m : Schema) → Kept m (inheritanceRule (inheritanceNumber RootNotAbstract)) ↔ Met Nothing RuleName.rootNotAbstract m
+root-met m =
+    let i = inheritance-met RootNotAbstract (omega arith) m in (
+      λ h l. sure (says-eq (categoryOf (m .classes .row 0)) abstract) (i .0 h .0 l),
+      λ h. i .1 (λ l d. d (h l), λ k l d there ill. ill),
+    )
 
 naming-met : (m : Schema)
     → ((t : TableId) (k : ℕ) → k < table t m .count → ofClasses (λ x j. namingWrong (x .attributes) (namingOf (x .classes .row j))) m t k ≡ false)
@@ -308,12 +327,15 @@ kept-met added m RuleName.attributeNotLive = attribute-live-met added m
 kept-met added m RuleName.classNotLive = class-live-met added m
 kept-met added m RuleName.notAnAuxiliary = category-met Auxiliaries m
 kept-met added m RuleName.notASuperior = category-met Superiors m
-kept-met added m RuleName.categoryMisfit = inheritance-met m
+kept-met added m RuleName.rootNotAbstract = root-met m
+kept-met added m RuleName.abstractUnderOther = under-met AbstractUnderOther (omega arith) m (λ own f. f)
+kept-met added m RuleName.auxiliaryUnderStructural = under-met AuxiliaryUnderStructural (omega arith) m (λ own f. f)
+kept-met added m RuleName.structuralUnderAuxiliary = under-met StructuralUnderAuxiliary (omega arith) m (λ own f. f)
 kept-met added m RuleName.chainAstray =
     class-met m _ (λ k. says-chain-wrong (m .classes) k) (λ k l. decided (says-chain (m .classes) chainLimit k))
 kept-met added m RuleName.namingUnfit = naming-met m
 kept-met added m RuleName.mapiTaken = numbers-met m Mapi refl refl mapiOf (λ a b. (λ d. d, λ d. d))
-kept-met added m RuleName.rangeEmpty =
+kept-met added m RuleName.rangeCrossed =
     attribute-met m _ (λ k. says-range-wrong (m .attributes .row k)) (λ k. (λ n. n, λ n. n))
 kept-met added m RuleName.syntaxMisfit =
     attribute-met m _ (λ k. says-syntax-wrong (m .attributes .row k))
@@ -337,10 +359,11 @@ meets added m = (λ h rule. kept-met added m rule .0 (each-numbered (Kept m) (sc
         unfold numbered in
         (kept RuleName.nameInvalid & kept RuleName.nameTaken & kept RuleName.identifierInvalid & kept RuleName.identifierTaken & kept RuleName.guidTaken
         & kept RuleName.attributeNotLive & kept RuleName.classNotLive & kept RuleName.notAnAuxiliary & kept RuleName.notASuperior
-        & kept RuleName.categoryMisfit & kept RuleName.chainAstray & kept RuleName.namingUnfit & kept RuleName.mapiTaken & kept RuleName.rangeEmpty
+        & kept RuleName.rootNotAbstract & kept RuleName.abstractUnderOther & kept RuleName.auxiliaryUnderStructural
+        & kept RuleName.structuralUnderAuxiliary & kept RuleName.chainAstray & kept RuleName.namingUnfit & kept RuleName.mapiTaken & kept RuleName.rangeCrossed
         & kept RuleName.syntaxMisfit & kept RuleName.objectClassWrong & kept RuleName.linkTaken & kept RuleName.linkAlone & tt)
 
--- ---- "The smallest number whose condition holds", in words
+-- ---- "The smallest number whose condition holds", the first in the order of judging, in words
 
 -- some row breaks a rule exactly if the rule is not met
 says-broken : (m : Schema) (r : Rule) → Says (broken m r) (¬ (Kept m r))
@@ -389,8 +412,9 @@ all-named : (added : Added) → Each (λ r. (rule : RuleName) × (ruleNumber rul
 all-named added =
     (RuleName.nameInvalid, refl) & (RuleName.nameTaken, refl) & (RuleName.identifierInvalid, refl) & (RuleName.identifierTaken, refl)
     & (RuleName.guidTaken, refl) & (RuleName.attributeNotLive, refl) & (RuleName.classNotLive, refl) & (RuleName.notAnAuxiliary, refl)
-    & (RuleName.notASuperior, refl) & (RuleName.categoryMisfit, refl) & (RuleName.chainAstray, refl) & (RuleName.namingUnfit, refl)
-    & (RuleName.mapiTaken, refl) & (RuleName.rangeEmpty, refl) & (RuleName.syntaxMisfit, refl) & (RuleName.objectClassWrong, refl)
+    & (RuleName.notASuperior, refl) & (RuleName.rootNotAbstract, refl) & (RuleName.abstractUnderOther, refl)
+    & (RuleName.auxiliaryUnderStructural, refl) & (RuleName.structuralUnderAuxiliary, refl) & (RuleName.chainAstray, refl) & (RuleName.namingUnfit, refl)
+    & (RuleName.mapiTaken, refl) & (RuleName.rangeCrossed, refl) & (RuleName.syntaxMisfit, refl) & (RuleName.objectClassWrong, refl)
     & (RuleName.linkTaken, refl) & (RuleName.linkAlone, refl) & tt
 
 case-named : {n : ℕ} (test : Rule → Bool) (rs : List Rule) → Each (λ r. (rule : RuleName) × (ruleNumber rule ≡ r .number)) rs
@@ -398,51 +422,33 @@ case-named : {n : ℕ} (test : Rule → Bool) (rs : List Rule) → Each (λ r. (
 case-named test (r ∷ rs) h (Among.here e q) = (h .0 .0, h .0 .1 ∙ q)
 case-named test (r ∷ rs) h (Among.there a) = case-named test rs (h .1) a
 
--- a number of the cases, where the numbers rise, is that of the rule that holds; and the other way round
-module _ (m : Schema) where
-  among-holds : {n : ℕ} (k : ℕ) (rs : List Rule) → Rising k (brokenCases rs m) → Among n (brokenCases rs m) → broken m (numbered rs n) ≡ true
-  unfolding numbered
-  among-holds {n} k (r ∷ rs) rise (Among.here e q) = rw (says-true (says-eq (r .number) n) q) e
-  among-holds {n} k (r ∷ rs) rise (Among.there a) =
-      rw (says-false (says-eq (r .number) n) (λ q. omega (arith, q, among-above (r .number) (brokenCases rs m) (rise .1) a))) (among-holds
-      (r .number) rs (rise .1) a)
-
-  among-numbered : (n : ℕ) (rs : List Rule) → broken m (numbered rs n) ≡ true → Among n (brokenCases rs m)
-  unfolding numbered
-  among-numbered n [] e = absurd (false≢true (sym (ap₂ (λ (x y : Bool). x || y) (any-false (λ k. false) (m .attributes .count) (λ k l. refl))
-      (any-false (λ k. false) (m .classes .count) (λ k l. refl))) ∙ e))
-  among-numbered n (r ∷ rs) e = go (among-numbered n rs) (says-split (says-eq (r .number) n))
-    where
-      go : (broken m (numbered rs n) ≡ true → Among n (brokenCases rs m)) → ((eqb (r .number) n ≡ true) × (r .number ≡ n)) ⊎ ((eqb
-          (r .number) n ≡ false) × ¬ (r .number ≡ n)) → Among n (brokenCases (r ∷ rs) m)
-      go ih (inl q) = Among.here (rw (q .0) at e) (q .1)
-      go ih (inr q) = Among.there (ih (rw (q .0) at e))
-
 module _ (added : Added) (m : Schema) where
   -- a number of the judge's cases is that of a rule that is not met
   pub among-unmet : {n : ℕ} → Among n (brokenCases (schemaRules added) m) → (rule : RuleName) × (ruleNumber rule ≡ n) × ¬ (Met added rule m)
   among-unmet a =
       let named = case-named (broken m) (schemaRules added) (all-named added) a in
-      (named .0, named .1, says-unmet added m (named .0) .holds (rw (named .1) (among-holds m 0 (schemaRules added) (rising added m) a)))
+      let picked = case-picked (broken m) (rank refusal.stillNeeded) (schemaRules added) (rising added (broken m)) a in
+      (named .0, named .1, says-unmet added m (named .0) .holds (rw (named .1) picked))
 
   -- and a rule that is not met is among them
   pub unmet-among : (rule : RuleName) → ¬ (Met added rule m) → Among (ruleNumber rule) (brokenCases (schemaRules added) m)
-  unmet-among rule n = among-numbered m (ruleNumber rule) (schemaRules added) (says-unmet added m rule .passes n)
+  unmet-among rule n =
+      picked-case (broken m) (ruleNumber rule) (schemaRules added) (none-broken m (ruleNumber rule)) (says-unmet added m rule .passes n)
 
-  -- so the judge's number is that of a rule that is not met, and no rule with a smaller number is
+  -- so the judge's number is that of a rule that is not met, and no rule that comes before it in the order of judging is
   pub judged-told : ¬ (judged added m .number ≡ 0) → (rule : RuleName) × (ruleNumber rule ≡ judged added m .number) × ¬ (Met added rule m)
   unfolding judged
   judged-told d =
       let e = judge-number (schemaRules added) m in
       rw e (among-unmet (first-among (other-first (brokenCases (schemaRules added) m) (λ z. d (e ∙ z)))))
 
-  pub judged-smallest : (rule : RuleName) → ¬ (Met added rule m) → judged added m .number ≤ ruleNumber rule
+  pub judged-smallest : (rule : RuleName) → ¬ (Met added rule m) → rank (judged added m .number) ≤ rank (ruleNumber rule)
   unfolding judged
   judged-smallest rule n =
       omega (
         arith,
-        judge-number (schemaRules added) m,
-        first-least 0 (ruleNumber rule) (brokenCases (schemaRules added) m) (rising added m)
+        ap rank (judge-number (schemaRules added) m),
+        first-least rank (rank refusal.stillNeeded) (ruleNumber rule) (brokenCases (schemaRules added) m) (rising added (broken m))
             (unmet-among rule n),
       )
 
@@ -458,11 +464,14 @@ meets-nothing added m h RuleName.attributeNotLive = (h RuleName.attributeNotLive
 meets-nothing added m h RuleName.classNotLive = let p = h RuleName.classNotLive in (p .0, p .1, tt, tt)
 meets-nothing added m h RuleName.notAnAuxiliary = h RuleName.notAnAuxiliary
 meets-nothing added m h RuleName.notASuperior = h RuleName.notASuperior
-meets-nothing added m h RuleName.categoryMisfit = h RuleName.categoryMisfit
+meets-nothing added m h RuleName.rootNotAbstract = h RuleName.rootNotAbstract
+meets-nothing added m h RuleName.abstractUnderOther = h RuleName.abstractUnderOther
+meets-nothing added m h RuleName.auxiliaryUnderStructural = h RuleName.auxiliaryUnderStructural
+meets-nothing added m h RuleName.structuralUnderAuxiliary = h RuleName.structuralUnderAuxiliary
 meets-nothing added m h RuleName.chainAstray = h RuleName.chainAstray
 meets-nothing added m h RuleName.namingUnfit = h RuleName.namingUnfit
 meets-nothing added m h RuleName.mapiTaken = h RuleName.mapiTaken
-meets-nothing added m h RuleName.rangeEmpty = h RuleName.rangeEmpty
+meets-nothing added m h RuleName.rangeCrossed = h RuleName.rangeCrossed
 meets-nothing added m h RuleName.syntaxMisfit = h RuleName.syntaxMisfit
 meets-nothing added m h RuleName.objectClassWrong = h RuleName.objectClassWrong
 meets-nothing added m h RuleName.linkTaken = h RuleName.linkTaken

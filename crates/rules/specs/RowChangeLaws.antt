@@ -6,6 +6,7 @@ use mathlib.Core.Logic.{_⊎_, inl, inr, ⊎-elim}
 use mathlib.Core.Path.{_≡_, refl, sym, ap, ap₂, _∙_}
 use Prim.Native.Nat.{ℕ, _<_}
 use native.Mathlib.Omega.{arith}
+use lib.Dec.{eqb}
 use Rattle.prelude.specs.SaysLaws.{says-eq, says-false, true-or-false, neither}
 use Rattle.prelude.specs.Below.{anyBelow}
 use Rattle.prelude.specs.BelowLaws.{any-one, any-false}
@@ -32,13 +33,13 @@ use Rattle.rules_attribute.specs.Syntax.{syntaxWrong, objectClassWrong}
 use Rattle.rules_attribute.specs.Links.{isBackLink, isForwardOf, forwardMissing}
 use Rattle.rules_attribute.specs.LinksLaws.{forward-stays, no-back-link}
 use Rattle.rules_class.specs.Live.{notLive, classWrong, namingWrong, listsItself, superclassLate}
-use Rattle.rules_class.specs.Category.{categoryWrong, inheritanceWrong}
+use Rattle.rules_class.specs.Category.{categoryWrong, inheritanceNumber, inheritanceWrong}
 use Rattle.rules_class.specs.Chain.{chainWrong}
 use Rattle.rules_class.specs.StayLaws.{named-there, not-live-stays, naming-stays, category-stays, inheritance-stays, chain-stays}
 use Rattle.rules.specs.declared.row.Added.{Added}
 use Rattle.rules.specs.declared.row.Added.the-variants.{Nothing, Class, Entry}
 use Rattle.rules.specs.Rules.{ofRows, ofAttributes, ofClasses, barred, entryDead, attributeNotLive}
-use Rattle.rules.specs.Rules.{classNotLive, schemaRules, numbered, breaks, rowCases, Each, _&_}
+use Rattle.rules.specs.Rules.{classNotLive, inheritanceRule, schemaRules, numbered, breaks, rowCases, Each, _&_}
 use Rattle.rules.specs.RulesLaws.{each-numbered, cases-agree, attribute-nothing, class-nothing}
 use Rattle.rules.specs.Judge.{judged, broken, brokenCases, Kept, AllKept}
 use Rattle.rules.specs.JudgeLaws.{judge-number}
@@ -176,14 +177,15 @@ module _ (k : ℕ) (m n : Schema) where
         let was = h .changed .own .old j l d in
         category-stays (h .changed .own) j was d (class-was j was) (λ there. h .fixed there .0) kind (e j was)
 
-    inheritance-kept : (t : TableId) (h : RowChange t k m n) → t ≡ Classes → (j : ℕ) → j < n .classes .count → ¬ (j ≡ k)
-        → inheritanceWrong (n .classes) j ≡ false
-    unfolding numbered
-    inheritance-kept Attributes h q j l d = absurd (apart q)
-    inheritance-kept Classes h q j l d =
+    inheritance-kept : (number : ℕ) → ((j : ℕ) → j < m .classes .count → inheritanceWrong number (m .classes) j ≡ false) → (t : TableId)
+        (h : RowChange t k m n) → t ≡ Classes → (j : ℕ) → j < n .classes .count → ¬ (j ≡ k) → inheritanceWrong number (n .classes) j ≡ false
+    unfolding inheritanceWrong
+    inheritance-kept number e Attributes h q j l d = absurd (apart q)
+    inheritance-kept number e Classes h q j l d =
         let before = h .changed .own .old j l d in
-        inheritance-stays (h .changed .own) j before d (class-was j before) (λ there. h .fixed there .0)
-        (was refusal.categoryMisfit Classes j before)
+        ap (λ x. eqb (inheritanceNumber x) number)
+        (inheritance-stays (h .changed .own) j before d (class-was j before) (λ there. h .fixed there .0))
+        ∙ e j before
 
     chain-kept : (t : TableId) (h : RowChange t k m n) → t ≡ Classes → (j : ℕ) → j < n .classes .count → ¬ (j ≡ k) → chainWrong (n .classes) j ≡ false
     unfolding numbered
@@ -239,6 +241,10 @@ module _ (k : ℕ) (m n : Schema) where
           → Stays t (ofClasses (λ x j. categoryWrong kind (x .classes) (x .classes .row j)))
       category-alone kind e = classes-stay (λ c j. categoryWrong kind c (c .row j)) e t h (category-kept kind e t h)
 
+      inheritance-alone : (number : ℕ) → ((j : ℕ) → j < m .classes .count → inheritanceWrong number (m .classes) j ≡ false)
+          → Stays t (inheritanceRule number .breaks)
+      inheritance-alone number e = classes-stay (inheritanceWrong number) e t h (inheritance-kept number e t h)
+
       each-alone : Each (λ r. broken n r ≡ r .breaks n t k) (schemaRules added)
       unfolding numbered
       each-alone =
@@ -251,11 +257,14 @@ module _ (k : ℕ) (m n : Schema) where
           & alone refusal.classNotLive (classes-live t h added at)
           & alone refusal.notAnAuxiliary (category-alone Auxiliaries (was refusal.notAnAuxiliary Classes))
           & alone refusal.notASuperior (category-alone Superiors (was refusal.notASuperior Classes))
-          & alone refusal.categoryMisfit (classes-stay inheritanceWrong (was refusal.categoryMisfit Classes) t h (inheritance-kept t h))
+          & alone refusal.rootNotAbstract (inheritance-alone refusal.rootNotAbstract (was refusal.rootNotAbstract Classes))
+          & alone refusal.abstractUnderOther (inheritance-alone refusal.abstractUnderOther (was refusal.abstractUnderOther Classes))
+          & alone refusal.auxiliaryUnderStructural (inheritance-alone refusal.auxiliaryUnderStructural (was refusal.auxiliaryUnderStructural Classes))
+          & alone refusal.structuralUnderAuxiliary (inheritance-alone refusal.structuralUnderAuxiliary (was refusal.structuralUnderAuxiliary Classes))
           & alone refusal.chainAstray (classes-stay chainWrong (was refusal.chainAstray Classes) t h (chain-kept t h))
           & alone refusal.namingUnfit (naming-kept t h)
           & taken-here everyRow Mapi (h .changed) (was refusal.mapiTaken)
-          & alone refusal.rangeEmpty (attribute-rows-stay t h rangeWrong (was refusal.rangeEmpty Attributes))
+          & alone refusal.rangeCrossed (attribute-rows-stay t h rangeWrong (was refusal.rangeCrossed Attributes))
           & alone refusal.syntaxMisfit (attribute-rows-stay t h syntaxWrong (was refusal.syntaxMisfit Attributes))
           & alone refusal.objectClassWrong (attribute-rows-stay t h objectClassWrong (was refusal.objectClassWrong Attributes))
           & taken-here everyRow Link (h .changed) (was refusal.linkTaken)

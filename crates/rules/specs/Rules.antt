@@ -1,4 +1,5 @@
--- The schema rules 12 to 29, each once: its number, and which rows break it. The order of the list is the order of judging.
+-- The schema rules, each once: its number, and which rows break it. The order of the list is the order of judging. Document 02: "rules 12 to 29, wherever
+-- these papers name them, include" 38, 39 and 40; so do they wherever this project does.
 use mathlib.Core.Bool.{Bool, false, cond, not, _&&_, _||_}
 use mathlib.Core.List.{List, [], _∷_}
 use Prim.Native.Nat.{ℕ}
@@ -66,7 +67,11 @@ attributeNotLive added m k =
 unfoldable pub classNotLive : Added → Table → ℕ → Bool
 classNotLive added c k = classWrong c k || (barred added c k || entryDead added Classes c (c .row k) k)
 
--- "12 to 29 schema rules below". "All rules bind defunct rows too."
+-- 21, 38, 39 and 40 on a class and its superclass: "The small check answers which, and all who call it pass that on."
+abbrev pub inheritanceRule : ℕ → Rule
+inheritanceRule n = rule n (ofClasses (λ m k. inheritanceWrong n (m .classes) k))
+
+-- "12 to 29 schema rules below". "All rules bind defunct rows too." 38 to 40 "stand at 21's place in the order"
 abbrev pub schemaRules : Added → List Rule
 schemaRules added =
     rule refusal.nameInvalid (ofRows nameInvalid)
@@ -78,11 +83,14 @@ schemaRules added =
     ∷ rule refusal.classNotLive (ofClasses (λ m k. classNotLive added (m .classes) k))
     ∷ rule refusal.notAnAuxiliary (ofClasses (λ m k. categoryWrong Auxiliaries (m .classes) (m .classes .row k)))
     ∷ rule refusal.notASuperior (ofClasses (λ m k. categoryWrong Superiors (m .classes) (m .classes .row k)))
-    ∷ rule refusal.categoryMisfit (ofClasses (λ m k. inheritanceWrong (m .classes) k))
+    ∷ inheritanceRule refusal.rootNotAbstract
+    ∷ inheritanceRule refusal.abstractUnderOther
+    ∷ inheritanceRule refusal.auxiliaryUnderStructural
+    ∷ inheritanceRule refusal.structuralUnderAuxiliary
     ∷ rule refusal.chainAstray (ofClasses (λ m k. chainWrong (m .classes) k))
     ∷ rule refusal.namingUnfit (ofClasses (λ m k. namingWrong (m .attributes) (namingOf (m .classes .row k))))
     ∷ rule refusal.mapiTaken (taken everyRow Mapi)
-    ∷ rule refusal.rangeEmpty (ofAttributes (λ a k. rangeWrong (a .row k)))
+    ∷ rule refusal.rangeCrossed (ofAttributes (λ a k. rangeWrong (a .row k)))
     ∷ rule refusal.syntaxMisfit (ofAttributes (λ a k. syntaxWrong (a .row k)))
     ∷ rule refusal.objectClassWrong (ofAttributes (λ a k. objectClassWrong (a .row k)))
     ∷ rule refusal.linkTaken (taken everyRow Link)

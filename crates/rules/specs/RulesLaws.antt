@@ -1,23 +1,28 @@
 -- Finding a rule by its number: what functions that go by a list of numbers cite, and a fact of each rule by number.
-use mathlib.Core.Bool.{Bool, true, false, cond, _||_}
+use mathlib.Core.Bool.{Bool, true, false, cond, _||_, false≢true}
 use mathlib.Core.List.{List, [], _∷_}
-use mathlib.Core.Logic.{⊎-elim}
+use mathlib.Core.Logic.{_⊎_, inl, inr, ⊎-elim}
 use mathlib.Core.Path.{_≡_, refl, sym, ap, ap₂, _∙_}
 use Prim.Native.Nat.{ℕ, _+_, _≤_, _<_}
 use native.Mathlib.Numerals.{add-one}
+use native.Mathlib.Omega.{arith}
 use lib.Dec.{eqb}
 use lib.ListN.{length, getD, drop, drop-of-length-le}
 use lib.Seq.{drop-cons}
-use Rattle.prelude.specs.SaysLaws.{says-eq, says-split, neither}
-use Rattle.prelude.specs.First.{Case, _when_, firstOf}
-use Rattle.prelude.specs.FirstLaws.{first-hit, first-miss, first-none}
+use Rattle.prelude.specs.SaysLaws.{says-eq, says-split, says-true, says-false, neither}
+use Rattle.prelude.specs.First.{Case, _when_, firstOf, Rising, NonZero, Among}
+use Rattle.prelude.specs.FirstLaws.{first-hit, first-miss, first-none, among-above, rising-nonzero}
 use Rattle.prelude.specs.Unlike.{Unlike, among}
 use Rattle.prelude.specs.UnlikeLaws.{unlike-among}
+use Rattle.schema.specs.Order.{rank, position}
+use Rattle.schema.specs.OrderLaws.{rank-zero}
 use Rattle.schema.specs.Store.{Table, Schema}
 use Rattle.schema.specs.declared.number.TableId.the-variants.{Attributes}
 use Rattle.rules_class.specs.Live.{notLive, classWrong}
+use Rattle.rules.specs.declared.row.Added.{Added}
 use Rattle.rules.specs.declared.row.Added.the-variants.{Nothing}
-use Rattle.rules.specs.Rules.{barred, entryDead, attributeNotLive, classNotLive, Rule, noRule, numbered, rulesOf, casesOf, Each}
+use Rattle.rules.specs.Rules.{barred, entryDead, attributeNotLive, classNotLive, Rule, noRule, numbered, rulesOf, casesOf, Each, schemaRules}
+use Rattle.schema.specs.Refusals as refusal
 
 -- ---- a rule by its number
 
@@ -85,6 +90,36 @@ module _ (test : Rule → Bool) (rs : List Rule) (ns : List ℕ) (i : ℕ) where
 
   pub pick-none : length ns ≤ i → firstOf (casesOf test (rulesOf rs (drop i ns))) ≡ 0
   pick-none l = ap (λ (x : List Rule). firstOf (casesOf test x)) (rules-end rs ns i l) ∙ first-none
+
+-- ---- a number of the cases is that of a rule that the test picks, and the other way round
+
+-- the list stands in the order of judging, after 11
+pub rising : (added : Added) (test : Rule → Bool) → Rising rank (rank refusal.stillNeeded) (casesOf test (schemaRules added))
+unfolding rank position
+rising added test = omega arith
+
+-- so 0 means that no rule is picked
+pub nonzero : (added : Added) (test : Rule → Bool) → NonZero (casesOf test (schemaRules added))
+nonzero added test = rising-nonzero rank rank-zero (rank refusal.stillNeeded) (casesOf test (schemaRules added)) (rising added test)
+
+module _ (test : Rule → Bool) where
+  pub case-picked : {n : ℕ} (k : ℕ) (rs : List Rule) → Rising rank k (casesOf test rs) → Among n (casesOf test rs) → test (numbered rs n) ≡ true
+  unfolding numbered
+  case-picked {n} k (r ∷ rs) rise (Among.here e q) = rw (says-true (says-eq (r .number) n) q) e
+  case-picked {n} k (r ∷ rs) rise (Among.there a) =
+      rw (says-false (says-eq (r .number) n) (λ q. omega (arith, ap rank q, among-above rank (rank (r .number)) (casesOf test rs) (rise .1) a)))
+      (case-picked (rank (r .number)) rs (rise .1) a)
+
+  pub picked-case : (n : ℕ) (rs : List Rule) → test (noRule n) ≡ false → test (numbered rs n) ≡ true → Among n (casesOf test rs)
+  unfolding numbered
+  picked-case n [] none e = absurd (false≢true (sym none ∙ e))
+  picked-case n (r ∷ rs) none e = go (picked-case n rs none) (says-split (says-eq (r .number) n))
+    where
+      go : (test (numbered rs n) ≡ true → Among n (casesOf test rs)) → ((eqb (r .number) n ≡ true) × (r .number ≡ n))
+          ⊎ ((eqb (r .number) n ≡ false) × ¬ (r .number ≡ n))
+          → Among n (casesOf test (r ∷ rs))
+      go ih (inl q) = Among.here (rw (q .0) at e) (q .1)
+      go ih (inr q) = Among.there (ih (rw (q .0) at e))
 
 -- ---- two tests that agree on each rule pick the same
 

@@ -30,10 +30,12 @@ use Rattle.rules_class.specs.SameLaws.{not-live-same, class-wrong-same, lists-i
 use Rattle.rules_class.specs.SameLaws.{chain-wrong-same, naming-wrong-same}
 use Rattle.rules.specs.declared.row.Added.{Added}
 use Rattle.rules.specs.declared.row.Added.the-variants.{Nothing, Class, Entry}
-use Rattle.rules.specs.Rules.{Rule, ofAttributes, ofClasses, barred, schemaRules, rowCases, Each, _&_, attributeNotLive, classNotLive, entryDead}
+use Rattle.rules.specs.Rules.{Rule, ofAttributes, ofClasses, inheritanceRule, barred, schemaRules, rowCases, Each, _&_, attributeNotLive}
+use Rattle.rules.specs.Rules.{classNotLive, entryDead}
 use Rattle.rules.specs.Judge.{judgeTable, judgeRule, judgeRules, judged, AllKept}
 use Rattle.rules.specs.JudgeLaws.{judged-zero}
 use Rattle.rules.specs.Rules.{breaks}
+use Rattle.schema.specs.Refusals as refusal
 
 -- the rows that are there break the rule in one schema as they do in the other
 abbrev SameBreaks : Schema → Schema → (Schema → TableId → ℕ → Bool) → Type 0
@@ -99,6 +101,9 @@ module _ {m n : Schema} (s : SameRows m n) where
       ap₂ (λ (p q : Bool). p || q) (class-wrong-same (s Classes) k l)
       (ap₂ (λ (p q : Bool). p || q) (barred-same added k l) (entry-same added Classes k l))
 
+  inheritance-same : (number : ℕ) → SameBreaks m n (inheritanceRule number .breaks)
+  inheritance-same number = of-classes _ (λ k l. inheritance-wrong-same (s Classes) k l number)
+
   all-same : (added : Added) → Each (λ r. SameBreaks m n (r .breaks)) (schemaRules added)
   all-same added =
       let a = s Attributes in
@@ -112,7 +117,10 @@ module _ {m n : Schema} (s : SameRows m n) where
       & of-classes _ (class-live-same added)
       & of-classes _ (λ k l. category-wrong-same c Auxiliaries (m .classes .row k) ∙ same-by (categoryWrong Auxiliaries (n .classes)) Classes k l)
       & of-classes _ (λ k l. category-wrong-same c Superiors (m .classes .row k) ∙ same-by (categoryWrong Superiors (n .classes)) Classes k l)
-      & of-classes _ (inheritance-wrong-same c)
+      & inheritance-same refusal.rootNotAbstract
+      & inheritance-same refusal.abstractUnderOther
+      & inheritance-same refusal.auxiliaryUnderStructural
+      & inheritance-same refusal.structuralUnderAuxiliary
       & of-classes _ (λ k l. chain-wrong-same c k)
       & of-classes _ (λ k l. naming-wrong-same a (namingOf (m .classes .row k)) ∙ same-by (λ r. namingWrong (n .attributes) (namingOf r)) Classes k l)
       & taken-same everyRow Mapi s

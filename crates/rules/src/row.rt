@@ -22,8 +22,9 @@ use schema::number::RowId;
 use schema::number::TableId;
 use schema::number::number_read;
 use schema::number::same_table;
+use schema::refusal::ABSTRACT_UNDER_OTHER;
 use schema::refusal::ATTRIBUTE_NOT_LIVE;
-use schema::refusal::CATEGORY_MISFIT;
+use schema::refusal::AUXILIARY_UNDER_STRUCTURAL;
 use schema::refusal::CHAIN_ASTRAY;
 use schema::refusal::CLASS_NOT_LIVE;
 use schema::refusal::DONE;
@@ -39,7 +40,9 @@ use schema::refusal::NAMING_UNFIT;
 use schema::refusal::NOT_A_SUPERIOR;
 use schema::refusal::NOT_AN_AUXILIARY;
 use schema::refusal::OBJECT_CLASS_WRONG;
-use schema::refusal::RANGE_EMPTY;
+use schema::refusal::RANGE_CROSSED;
+use schema::refusal::ROOT_NOT_ABSTRACT;
+use schema::refusal::STRUCTURAL_UNDER_AUXILIARY;
 use schema::refusal::SYNTAX_MISFIT;
 use schema::store::attribute_row;
 use schema::store::class_row;
@@ -72,8 +75,8 @@ pub enum Added {
     },
 }
 
-// The order of judging.
-pub const ORDER: [u8; 18] = [
+// The order of judging. 38, 39 and 40 stand at the place of 21.
+pub const ORDER: [u8; 21] = [
     NAME_INVALID,
     NAME_TAKEN,
     IDENTIFIER_INVALID,
@@ -83,11 +86,14 @@ pub const ORDER: [u8; 18] = [
     CLASS_NOT_LIVE,
     NOT_AN_AUXILIARY,
     NOT_A_SUPERIOR,
-    CATEGORY_MISFIT,
+    ROOT_NOT_ABSTRACT,
+    ABSTRACT_UNDER_OTHER,
+    AUXILIARY_UNDER_STRUCTURAL,
+    STRUCTURAL_UNDER_AUXILIARY,
     CHAIN_ASTRAY,
     NAMING_UNFIT,
     MAPI_TAKEN,
-    RANGE_EMPTY,
+    RANGE_CROSSED,
     SYNTAX_MISFIT,
     OBJECT_CLASS_WRONG,
     LINK_TAKEN,
@@ -181,7 +187,7 @@ fn attribute_breaks(
 {
     let row = attribute_row(attributes, a);
     match number {
-        RANGE_EMPTY => range_wrong(row),
+        RANGE_CROSSED => range_wrong(row),
         SYNTAX_MISFIT => syntax_wrong(row),
         OBJECT_CLASS_WRONG => object_class_wrong(row),
         LINK_ALONE => forward_missing(attributes, row),
@@ -200,7 +206,10 @@ fn class_breaks(added: Added, attributes: &[u8], classes: &[u8], number: u8, c: 
         CLASS_NOT_LIVE => class_not_live(added, classes, c),
         NOT_AN_AUXILIARY => category_wrong(ClassList::Auxiliaries, classes, row),
         NOT_A_SUPERIOR => category_wrong(ClassList::Superiors, classes, row),
-        CATEGORY_MISFIT => inheritance_wrong(classes, c),
+        ROOT_NOT_ABSTRACT => inheritance_wrong(number, classes, c),
+        ABSTRACT_UNDER_OTHER => inheritance_wrong(number, classes, c),
+        AUXILIARY_UNDER_STRUCTURAL => inheritance_wrong(number, classes, c),
+        STRUCTURAL_UNDER_AUXILIARY => inheritance_wrong(number, classes, c),
         CHAIN_ASTRAY => chain_wrong(classes, c),
         NAMING_UNFIT => naming_wrong(attributes, row),
         _ => false,

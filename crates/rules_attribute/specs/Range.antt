@@ -1,11 +1,11 @@
 -- Rule 25: the ends of a range.
-use mathlib.Core.Bool.{Bool, false, cond, not}
+use mathlib.Core.Bool.{Bool, false, cond}
 use mathlib.Core.List.{List}
 use mathlib.Core.Path.{_≡_}
 use Prim.Native.Nat.{ℕ, _+_, _-_, _^_}
 use lib.Dec.{ltb}
 use lib.IntN.{ℤ, pos, negsuc}
-use lib.Signed.{ltZ, _≤ℤ_}
+use lib.Signed.{ltZ, _<ℤ_}
 use Rattle.schema.specs.AttributeRow.{rangeLower, rangeUpper}
 use Rattle.schema.specs.declared.attribute.Bound.{Bound}
 use Rattle.schema.specs.declared.attribute.Bound.the-variants.{Given, Absent}
@@ -23,19 +23,20 @@ lessSigned a b = ltZ (signed a) (signed b)
 unfoldable pub biased : ℕ → ℕ
 biased x = cond (ltb x (2 ^ 31)) (x + 2 ^ 31) (x - 2 ^ 31)
 
+-- equal ends are not crossed: "both negative and equal passes too"
 unfoldable pub endsCrossed : Bound → Bound → Bool
-endsCrossed (Given lower) (Given upper) = not (lessSigned lower upper)
+endsCrossed (Given lower) (Given upper) = lessSigned upper lower
 endsCrossed (Given lower) Absent = false
 endsCrossed Absent upper = false
 
--- "25 Both ranges present, and rangeLower not smaller than rangeUpper."
+-- "25 Both ranges present", and, as document 02 has it, "only where rangeLower is greater than rangeUpper"
 unfoldable pub rangeWrong : List ℕ → Bool
 rangeWrong row = endsCrossed (rangeLower row) (rangeUpper row)
 
--- the same as a statement: both are present, and as integers the upper end is no more than the lower
+-- the same as a statement: both are present, and as integers the upper end is smaller than the lower
 pub record EndsCrossed (l u : Bound) : Type 0 where
   pub lower : ℕ
   pub upper : ℕ
   pub lowerGiven : l ≡ Given lower
   pub upperGiven : u ≡ Given upper
-  pub crossed : signed upper ≤ℤ signed lower
+  pub crossed : signed upper <ℤ signed lower

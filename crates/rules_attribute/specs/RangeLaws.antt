@@ -1,13 +1,13 @@
 -- What the test of a range says, and how it is computed by numbers without a sign.
-use mathlib.Core.Bool.{Bool, true, false, not, false≢true}
+use mathlib.Core.Bool.{Bool, true, false, false≢true}
 use mathlib.Core.List.{List}
-use mathlib.Core.Path.{_≡_, refl, sym}
+use mathlib.Core.Path.{_≡_, refl, sym, subst}
 use Prim.Native.Nat.{ℕ, _+_, _-_, _≤_, _<_}
 use native.Mathlib.Decide.{decLt}
 use native.Mathlib.Omega.{arith}
 use lib.Dec.{T, ltb}
 use lib.IntN.{ℤ, pos, negsuc}
-use lib.Signed.{ltZ, _≤ℤ_, ltZ-yes, ltZ-no, clashℤ}
+use lib.Signed.{ltZ, _<ℤ_, ltZ-yes}
 use Rattle.prelude.specs.Says.{Says}
 use Rattle.prelude.specs.SaysLaws.{says-lt, says-same, says-iff, says-true, says-false}
 use Rattle.schema.specs.AttributeRow.{rangeLower, rangeUpper}
@@ -17,23 +17,20 @@ use Rattle.rules_attribute.specs.Range.{signed, biased, endsCrossed, ran
 
 -- ---- with integers
 
-not-less : (a b : ℤ) → Says (not (ltZ a b)) (b ≤ℤ a)
-not-less a b = go (ltZ a b) refl
+says-less : (a b : ℤ) → Says (ltZ a b) (a <ℤ b)
+says-less a b = go (ltZ a b) refl
   where
-    go : (t : Bool) → ltZ a b ≡ t → Says (not t) (b ≤ℤ a)
-    go true e = record { holds = λ q. absurd (false≢true q); passes = λ h. absurd (clashℤ (ltZ-yes (subst-true e)) h) }
-      where
-        subst-true : ltZ a b ≡ true → T (ltZ a b)
-        subst-true q = rw q tt
-    go false e = record { holds = λ q. ltZ-no (rw e tt); passes = λ h. refl }
+    go : (t : Bool) → ltZ a b ≡ t → Says t (a <ℤ b)
+    go true e = record { holds = λ q. ltZ-yes (rw e tt); passes = λ h. refl }
+    go false e = record { holds = λ q. absurd (false≢true q); passes = λ h. absurd (subst T e (h .lt)) }
 
 pub says-crossed : (l u : Bound) → Says (endsCrossed l u) (EndsCrossed l u)
 unfolding endsCrossed
 says-crossed (Given l) (Given u) =
-    says-iff (not-less (signed l) (signed u))
+    says-iff (says-less (signed u) (signed l))
     (λ h. record { lower = l; upper = u; lowerGiven = refl; upperGiven = refl; crossed = h }, λ h. same (h .lowerGiven) (h .upperGiven) (h .crossed))
   where
-    same : {m n : ℕ} → Given l ≡ Given m → Given u ≡ Given n → signed n ≤ℤ signed m → signed u ≤ℤ signed l
+    same : {m n : ℕ} → Given l ≡ Given m → Given u ≡ Given n → signed n <ℤ signed m → signed u <ℤ signed l
     same {m} {n} p q h = let e : l ≡ m = cc in let f : u ≡ n = cc in rw (e, f) h
 says-crossed (Given l) Absent = record { holds = λ q. absurd (false≢true q); passes = λ h. absurd (never (h .upperGiven)) }
   where

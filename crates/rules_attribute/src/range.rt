@@ -1,4 +1,4 @@
-// Rule 25: "Both ranges present, and rangeLower not smaller than rangeUpper."
+// Rule 25: "Both ranges present", and, as document 02 has it, "only where rangeLower is greater than rangeUpper".
 use schema::attribute::Bound;
 use schema::attribute::range_lower;
 use schema::attribute::range_upper;
@@ -40,5 +40,5 @@ pub fn range_wrong(row: &[u8]) -> bool
     let Bound::Given(upper) = u else {
         return false;
     };
-    !less_signed(lower, upper)
+    less_signed(upper, lower)
 }

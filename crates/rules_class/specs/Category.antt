@@ -1,4 +1,4 @@
--- Categories: rules 19, 20 and 21.
+-- Categories: rules 19, 20, 21 and 38 to 40.
 use mathlib.Core.Bool.{Bool, cond, not, _&&_, _||_}
 use mathlib.Core.List.{List}
 use mathlib.Core.Logic.{_⊎_}
@@ -47,9 +47,9 @@ wronglyListed kind c row n = lists kind row n && otherCategory kind c n
 unfoldable pub categoryWrong : ClassList → Table → List ℕ → Bool
 categoryWrong kind c row = anyBelow classLimit (wronglyListed kind c row)
 
--- ---- rule 21
+-- ---- rules 21, 38, 39 and 40
 
--- which line of the rule a category breaks under the category of the superclass. "All else is legal."
+-- which of the rules a category breaks under the category of the superclass. "All else is legal."
 unfoldable pub inheritance : ℕ → ℕ → Inheritance
 inheritance own above =
     cond (eqb own abstract && not (eqb above abstract)) AbstractUnderOther
@@ -66,17 +66,17 @@ inheritanceOf c k =
     cond (eqb k 0) (rootInheritance (categoryOf (c .row k)))
     (cond (ltb (superclassOf (c .row k)) (c .count)) (inheritance (categoryOf (c .row k)) (categoryOf (c .row (superclassOf (c .row k))))) Sound)
 
--- the number of this paper for each answer, 0 for none
+-- the number of the papers for each answer, 0 for none
 abbrev pub inheritanceNumber : Inheritance → ℕ
 inheritanceNumber Sound = refusal.done
-inheritanceNumber RootNotAbstract = refusal.categoryMisfit
-inheritanceNumber AbstractUnderOther = refusal.categoryMisfit
-inheritanceNumber AuxiliaryUnderStructural = refusal.categoryMisfit
-inheritanceNumber StructuralUnderAuxiliary = refusal.categoryMisfit
+inheritanceNumber RootNotAbstract = refusal.rootNotAbstract
+inheritanceNumber AbstractUnderOther = refusal.abstractUnderOther
+inheritanceNumber AuxiliaryUnderStructural = refusal.auxiliaryUnderStructural
+inheritanceNumber StructuralUnderAuxiliary = refusal.structuralUnderAuxiliary
 
--- "21 Row 0 not abstract; abstract under a class not abstract; auxiliary under structural; structural under auxiliary."
-unfoldable pub inheritanceWrong : Table → ℕ → Bool
-inheritanceWrong c k = eqb (inheritanceNumber (inheritanceOf c k)) refusal.categoryMisfit
+-- class k gets a number
+unfoldable pub inheritanceWrong : ℕ → Table → ℕ → Bool
+inheritanceWrong number c k = eqb (inheritanceNumber (inheritanceOf c k)) number
 
 -- ---- the same as statements
 
@@ -88,12 +88,23 @@ pub record WronglyListed (kind : ClassList) (c : Table) (row : List ℕ) (n : �
 abbrev pub CategoryWrong : ClassList → Table → List ℕ → Type 0
 CategoryWrong kind c row = Some classLimit (WronglyListed kind c row)
 
--- own under above
-abbrev pub Illegal : ℕ → ℕ → Type 0
-Illegal own above =
-    ((own ≡ abstract) × ¬ (above ≡ abstract)) ⊎ (((own ≡ auxiliary) × (above ≡ structural)) ⊎ ((own ≡ structural) × (above ≡ auxiliary)))
+-- "21 keeps 'row 0 not abstract'": row 0 by its own category
+abbrev pub RootIllegal : Inheritance → ℕ → Type 0
+RootIllegal RootNotAbstract own = ¬ (own ≡ abstract)
+RootIllegal Sound own = ⊥
+RootIllegal AbstractUnderOther own = ⊥
+RootIllegal AuxiliaryUnderStructural own = ⊥
+RootIllegal StructuralUnderAuxiliary own = ⊥
 
-abbrev pub InheritanceWrong : Table → ℕ → Type 0
-InheritanceWrong c k =
-    ((k ≡ 0) × ¬ (categoryOf (c .row k) ≡ abstract))
-    ⊎ (¬ (k ≡ 0) × ((superclassOf (c .row k) < c .count) × Illegal (categoryOf (c .row k)) (categoryOf (c .row (superclassOf (c .row k))))))
+-- "38 is abstract under another kind, 39 auxiliary under structural, 40 structural under auxiliary": any other class, own under above
+abbrev pub Illegal : Inheritance → ℕ → ℕ → Type 0
+Illegal AbstractUnderOther own above = (own ≡ abstract) × ¬ (above ≡ abstract)
+Illegal AuxiliaryUnderStructural own above = (own ≡ auxiliary) × (above ≡ structural)
+Illegal StructuralUnderAuxiliary own above = (own ≡ structural) × (above ≡ auxiliary)
+Illegal Sound own above = ⊥
+Illegal RootNotAbstract own above = ⊥
+
+abbrev pub InheritanceWrong : Inheritance → Table → ℕ → Type 0
+InheritanceWrong x c k =
+    ((k ≡ 0) × RootIllegal x (categoryOf (c .row k)))
+    ⊎ (¬ (k ≡ 0) × ((superclassOf (c .row k) < c .count) × Illegal x (categoryOf (c .row k)) (categoryOf (c .row (superclassOf (c .row k))))))

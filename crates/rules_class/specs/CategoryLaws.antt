@@ -1,12 +1,14 @@
 -- What the tests of categories say.
-use mathlib.Core.Bool.{Bool, true, false, cond, not, _&&_, _||_}
+use mathlib.Core.Bool.{cond}
 use mathlib.Core.List.{List}
-use mathlib.Core.Path.{_≡_, refl, sym}
+use mathlib.Core.Logic.{_⊎_, inl, inr, ⊎-elim, ⊎-map}
+use mathlib.Core.Path.{_≡_, refl, sym, ap, subst, _∙_}
 use Prim.Native.Nat.{ℕ, _≤_, _<_}
+use native.Mathlib.Decide.{ℕ-discrete, decLt}
 use native.Mathlib.Omega.{arith}
-use lib.Dec.{ltb, eqb}
+use lib.Dec.{eqb}
 use Rattle.prelude.specs.Says.{Says}
-use Rattle.prelude.specs.SaysLaws.{says, says-and, says-or, says-not, says-eq, says-lt, says-true, says-false, says-iff}
+use Rattle.prelude.specs.SaysLaws.{says-and, says-or, says-not, says-eq, says-lt, says-true, says-false, says-iff, says-split}
 use Rattle.prelude.specs.BelowLaws.{says-any}
 use Rattle.schema.specs.Numbers.{classLimit}
 use Rattle.schema.specs.ClassRow.{categoryOf, superclassOf}
@@ -18,7 +20,8 @@ use Rattle.rules_class.specs.declared.category.Inheritance.the-variants.
 use Rattle.rules_class.specs.declared.category.Inheritance.the-variants.{StructuralUnderAuxiliary}
 use Rattle.rules_class.specs.Category.{otherCategory, wronglyListed, structural, abstract, auxiliary, categoryWrong, inheritance}
 use Rattle.rules_class.specs.Category.{rootInheritance, inheritanceOf, inheritanceNumber, inheritanceWrong, CategoryWrong, Illegal}
-use Rattle.rules_class.specs.Category.{InheritanceWrong, class88, listCategory}
+use Rattle.rules_class.specs.Category.{InheritanceWrong, RootIllegal, class88, listCategory}
+use Rattle.schema.specs.Refusals as refusal
 
 -- rules 19 and 20
 pub says-category-wrong : (kind : ClassList) (c : Table) (row : List ℕ) → Says (categoryWrong kind c row) (CategoryWrong kind c row)
@@ -30,53 +33,7 @@ says-category-wrong kind c row =
     (says-not (says-or (says-eq (categoryOf (c .row n)) class88) (says-eq (categoryOf (c .row n)) (listCategory kind))))))
     (λ h. record { listed = h .0; there = h .1 .0; other = h .1 .1 }, λ h. (h .listed, (h .there, h .other))))
 
--- ---- rule 21
-
--- an answer that is picked by tests has the number where one of them holds
-number-of : (x y z : Bool)
-    → eqb (inheritanceNumber (cond x AbstractUnderOther (cond y AuxiliaryUnderStructural (cond z StructuralUnderAuxiliary Sound)))) 21
-    ≡ (x || (y || z))
-number-of true y z = refl
-number-of false true z = refl
-number-of false false true = refl
-number-of false false false = refl
-
-pub says-illegal : (own above : ℕ) → Says (eqb (inheritanceNumber (inheritance own above)) 21) (Illegal own above)
-unfolding inheritance
-says-illegal own above =
-    rw (number-of (eqb own abstract && not (eqb above abstract)) (eqb own auxiliary && eqb above structural)
-    (eqb own structural && eqb above auxiliary)) (search says)
-
-root-number : (x : Bool) → eqb (inheritanceNumber (cond x Sound RootNotAbstract)) 21 ≡ not x
-root-number true = refl
-root-number false = refl
-
-pub says-root : (own : ℕ) → Says (eqb (inheritanceNumber (rootInheritance own)) 21) (¬ (own ≡ abstract))
-unfolding rootInheritance
-says-root own = rw (root-number (eqb own abstract)) (says-not (says-eq own abstract))
-
--- the test of class k, by where its superclass stands
-test-of : (x y : Bool) (a b : Inheritance)
-    → eqb (inheritanceNumber (cond x a (cond y b Sound))) 21
-    ≡ ((x && eqb (inheritanceNumber a) 21) || (not x && (y && eqb (inheritanceNumber b) 21)))
-test-of true y a b = sym (or-none (eqb (inheritanceNumber a) 21))
-  where
-    or-none : (t : Bool) → (t || false) ≡ t
-    or-none true = refl
-    or-none false = refl
-test-of false true a b = refl
-test-of false false a b = refl
-
-pub says-inheritance-wrong : (c : Table) (k : ℕ) → Says (inheritanceWrong c k) (InheritanceWrong c k)
-unfolding inheritanceWrong inheritanceOf
-says-inheritance-wrong c k =
-    let own : ℕ = categoryOf (c .row k) in
-    let above : ℕ = categoryOf (c .row (superclassOf (c .row k))) in
-    rw (test-of (eqb k 0) (ltb (superclassOf (c .row k)) (c .count)) (rootInheritance own) (inheritance own above))
-    (says-or (says-and (says-eq k 0) (says-root own))
-    (says-and (says-not (says-eq k 0)) (says-and (says-lt (superclassOf (c .row k)) (c .count)) (says-illegal own above))))
-
--- ---- for a function that looks for the superclass
+-- ---- rules 21, 38, 39 and 40, by where the superclass stands
 
 module _ (c : Table) (k : ℕ) where
   pub inheritance-root : k ≡ 0 → inheritanceOf c k ≡ rootInheritance (categoryOf (c .row k))
@@ -91,3 +48,79 @@ module _ (c : Table) (k : ℕ) where
       → inheritanceOf c k ≡ inheritance (categoryOf (c .row k)) (categoryOf (c .row s))
   unfolding inheritanceOf
   inheritance-at d s e l = rw (says-false (says-eq k 0) d, e, says-true (says-lt s (c .count)) l)
+
+-- ---- what the answer says
+
+-- the answers have numbers of their own
+answerOf : ℕ → Inheritance
+answerOf n =
+    cond (eqb n refusal.rootNotAbstract) RootNotAbstract
+    (cond (eqb n refusal.abstractUnderOther) AbstractUnderOther
+    (cond (eqb n refusal.auxiliaryUnderStructural) AuxiliaryUnderStructural
+    (cond (eqb n refusal.structuralUnderAuxiliary) StructuralUnderAuxiliary Sound)))
+
+answer-of : (x : Inheritance) → answerOf (inheritanceNumber x) ≡ x
+unfolding answerOf
+answer-of Sound = refl
+answer-of RootNotAbstract = refl
+answer-of AbstractUnderOther = refl
+answer-of AuxiliaryUnderStructural = refl
+answer-of StructuralUnderAuxiliary = refl
+
+-- row 0
+root-given : (x : Inheritance) (own : ℕ) → RootIllegal x own → rootInheritance own ≡ x
+unfolding rootInheritance
+root-given RootNotAbstract own h = rw (says-false (says-eq own abstract) h)
+root-given Sound own h = absurd h
+root-given AbstractUnderOther own h = absurd h
+root-given AuxiliaryUnderStructural own h = absurd h
+root-given StructuralUnderAuxiliary own h = absurd h
+
+given-root : (own : ℕ) → (rootInheritance own ≡ Sound) ⊎ RootIllegal (rootInheritance own) own
+unfolding rootInheritance
+given-root own = ⊎-elim (λ q. rw (q .0) (inl refl)) (λ q. rw (q .0) (inr (q .1))) (says-split (says-eq own abstract))
+
+-- any other class
+illegal-given : (x : Inheritance) (own above : ℕ) → Illegal x own above → inheritance own above ≡ x
+unfolding inheritance
+illegal-given AbstractUnderOther own above h = rw (h .0, says-false (says-eq above abstract) (h .1))
+illegal-given AuxiliaryUnderStructural own above h = rw (h .0, h .1)
+illegal-given StructuralUnderAuxiliary own above h = rw (h .0, h .1)
+illegal-given Sound own above h = absurd h
+illegal-given RootNotAbstract own above h = absurd h
+
+given-illegal : (own above : ℕ) → (inheritance own above ≡ Sound) ⊎ Illegal (inheritance own above) own above
+unfolding inheritance
+given-illegal own above =
+    ⊎-elim (λ a. rw (a .0) (inr (a .1)))
+    (λ a. ⊎-elim (λ b. rw (a .0, b .0) (inr (b .1))) (λ b. ⊎-elim (λ c. rw (a .0, b .0, c .0) (inr (c .1))) (λ c. rw (a .0, b .0, c .0) (inl refl))
+    (says-split (says-and (says-eq own structural) (says-eq above auxiliary))))
+    (says-split (says-and (says-eq own auxiliary) (says-eq above structural))))
+    (says-split (says-and (says-eq own abstract) (says-not (says-eq above abstract))))
+
+module _ (c : Table) (k : ℕ) where
+  wrong-given : (x : Inheritance) → InheritanceWrong x c k → inheritanceOf c k ≡ x
+  wrong-given x = ⊎-elim (λ s. inheritance-root c k (s .0) ∙ root-given x (categoryOf (c .row k)) (s .1))
+      (λ s. inheritance-at c k (s .0) (superclassOf (c .row k)) refl (s .1 .0)
+      ∙ illegal-given x (categoryOf (c .row k)) (categoryOf (c .row (superclassOf (c .row k)))) (s .1 .1))
+
+  given-wrong : (inheritanceOf c k ≡ Sound) ⊎ InheritanceWrong (inheritanceOf c k) c k
+  given-wrong = go (ℕ-discrete k 0) (decLt (superclassOf (c .row k)) (c .count))
+    where
+      go : Dec (k ≡ 0) → Dec (superclassOf (c .row k) < c .count) → (inheritanceOf c k ≡ Sound) ⊎ InheritanceWrong (inheritanceOf c k) c k
+      go (yes e) l = rw (inheritance-root c k e) (⊎-map (λ q. q) (λ q. inl (e, q)) (given-root (categoryOf (c .row k))))
+      go (no d) (yes l) =
+          rw (inheritance-at c k d (superclassOf (c .row k)) refl l)
+          (⊎-map (λ q. q) (λ q. inr (d, (l, q))) (given-illegal (categoryOf (c .row k)) (categoryOf (c .row (superclassOf (c .row k))))))
+      go (no d) (no n) = inl (inheritance-lost c k d (omega arith))
+
+  -- each of the rules: class k gets its number exactly where it is broken
+  pub says-inheritance-wrong : (x : Inheritance) → 0 < inheritanceNumber x → Says (inheritanceWrong (inheritanceNumber x) c k) (InheritanceWrong x c k)
+  unfolding inheritanceWrong
+  says-inheritance-wrong x some =
+      says-iff (says-eq (inheritanceNumber (inheritanceOf c k)) (inheritanceNumber x)) (to, λ h. ap inheritanceNumber (wrong-given x h))
+    where
+      to : inheritanceNumber (inheritanceOf c k) ≡ inheritanceNumber x → InheritanceWrong x c k
+      to e =
+          let is : inheritanceOf c k ≡ x = sym (answer-of (inheritanceOf c k)) ∙ ap answerOf e ∙ answer-of x in
+          ⊎-elim (λ s. absurd (omega (arith, some, e, ap inheritanceNumber s))) (λ w. subst (λ y. InheritanceWrong y c k) is w) given-wrong

@@ -1,4 +1,4 @@
--- Rules 17 to 23 depend only on the rows that the tables hold.
+-- Rules 17 to 23 and 38 to 40 depend only on the rows that the tables hold.
 use mathlib.Core.Bool.{Bool, cond, not, _&&_, _||_}
 use mathlib.Core.List.{List}
 use mathlib.Core.Path.{_≡_, refl, ap, _∙_}
@@ -23,7 +23,6 @@ use Rattle.rules_class.specs.Live.{superclassLate, classWrong, listsItse
 use Rattle.rules_class.specs.Category.{class88, listCategory, categoryWrong, inheritance, rootInheritance, inheritanceOf, inheritanceNumber}
 use Rattle.rules_class.specs.Category.{inheritanceWrong, otherCategory, wronglyListed}
 use Rattle.rules_class.specs.Chain.{chainEnds, chainLimit, chainWrong}
-use Rattle.schema.specs.Refusals as refusal
 
 module _ {t u : Table} (s : Same t u) where
   -- ---- of any row
@@ -73,7 +72,7 @@ module _ {t u : Table} (s : Same t u) where
     unfolding listsItself
     lists-itself-same = ap (λ (r : List ℕ). lists Auxiliaries r k || lists Superiors r k) (s .rows k l)
 
-    -- rule 21
+    -- rules 21, 38, 39 and 40
     inheritance-of-same : inheritanceOf t k ≡ inheritanceOf u k
     unfolding inheritanceOf
     inheritance-of-same =
@@ -82,6 +81,6 @@ module _ {t u : Table} (s : Same t u) where
         ∙ ap (cond (eqb k 0) (rootInheritance (categoryOf (u .row k))))
         (row-same s (superclassOf (u .row k)) (λ b r. cond b (inheritance (categoryOf (u .row k)) (categoryOf r)) Sound) (λ x y. refl))
 
-    pub inheritance-wrong-same : inheritanceWrong t k ≡ inheritanceWrong u k
+    pub inheritance-wrong-same : (number : ℕ) → inheritanceWrong number t k ≡ inheritanceWrong number u k
     unfolding inheritanceWrong
-    inheritance-wrong-same = ap (λ i. eqb (inheritanceNumber i) refusal.categoryMisfit) inheritance-of-same
+    inheritance-wrong-same number = ap (λ i. eqb (inheritanceNumber i) number) inheritance-of-same

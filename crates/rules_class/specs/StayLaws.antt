@@ -3,7 +3,7 @@
 use mathlib.Core.Bool.{true, false}
 use mathlib.Core.List.{List}
 use mathlib.Core.Logic.{_⊎_, inl, inr, ⊎-elim}
-use mathlib.Core.Path.{_≡_, ap, _∙_}
+use mathlib.Core.Path.{_≡_, refl, sym, ap, ap₂, _∙_}
 use Prim.Native.Nat.{ℕ, _<_}
 use native.Mathlib.Decide.{ℕ-discrete, decLt}
 use native.Mathlib.Omega.{arith}
@@ -27,8 +27,8 @@ use Rattle.tables.specs.Chain.{top, up}
 use Rattle.tables.specs.NamedLaws.{says-names}
 use Rattle.rules_class.specs.Live.{classWrong, namingWrong, SuperclassEarly, CanName, notLive}
 use Rattle.rules_class.specs.LiveLaws.{says-class-wrong, says-naming-wrong, says-not-live}
-use Rattle.rules_class.specs.Category.{categoryWrong, inheritanceWrong, CategoryWrong, Illegal, InheritanceWrong}
-use Rattle.rules_class.specs.CategoryLaws.{says-category-wrong, says-inheritance-wrong}
+use Rattle.rules_class.specs.Category.{categoryWrong, inheritance, inheritanceOf, rootInheritance, CategoryWrong}
+use Rattle.rules_class.specs.CategoryLaws.{says-category-wrong, inheritance-root, inheritance-at}
 use Rattle.rules_class.specs.Chain.{chainWrong, PresentChain}
 use Rattle.rules_class.specs.ChainLaws.{says-chain-wrong}
 
@@ -111,26 +111,25 @@ module _ {k : ℕ} {c u : Table} (h : ChangedAt k c u) (j : ℕ) (there : j < c 
             let was : s .at < c .count = named-there Classes c (c .row j) live (s .at) (s .below) (lists-names kind (s .at) listed) in
             record { at = s .at; below = s .below; is = record { listed = listed; there = was; other = rw (category-same (s .at) was) at (s .is .other) } }
 
-    -- so does rule 21
-    pub inheritance-stays : inheritanceWrong c j ≡ false → inheritanceWrong u j ≡ false
-    inheritance-stays e = says-false (says-inheritance-wrong u j) (λ s. says-fails (says-inheritance-wrong c j) e (⊎-elim root above s))
+    -- so do rules 21, 38, 39 and 40
+    superclass-there : ¬ (j ≡ 0) → superclassOf (c .row j) < c .count
+    superclass-there d = go (decLt (superclassOf (c .row j)) (c .count))
       where
-        root : (j ≡ 0) × ¬ (categoryOf (u .row j) ≡ 2) → InheritanceWrong c j
-        root s = inl (s .0, rw row-same at (s .1))
+        go : Dec (superclassOf (c .row j) < c .count) → superclassOf (c .row j) < c .count
+        go (yes l) = l
+        go (no n) = absurd (early (⊎-elim (λ q. d (q .0)) (λ l. n (omega arith))))
 
-        was : ¬ (j ≡ 0) → superclassOf (c .row j) < c .count
-        was d = go (decLt (superclassOf (c .row j)) (c .count))
-          where
-            go : Dec (superclassOf (c .row j) < c .count) → superclassOf (c .row j) < c .count
-            go (yes l) = l
-            go (no n) = absurd (early (⊎-elim (λ q. d (q .0)) (λ l. n (omega arith))))
-
-        above : ¬ (j ≡ 0) × ((superclassOf (u .row j) < u .count) × Illegal (categoryOf (u .row j)) (categoryOf (u .row (superclassOf (u .row j)))))
-            → InheritanceWrong c j
-        above s =
-            let w : superclassOf (c .row j) < c .count = was (s .0) in
-            let ill : Illegal (categoryOf (c .row j)) (categoryOf (u .row (superclassOf (c .row j)))) = rw row-same at (s .1 .1) in
-            inr (s .0, (w, rw (category-same (superclassOf (c .row j)) w) at ill))
+    pub inheritance-stays : inheritanceOf u j ≡ inheritanceOf c j
+    inheritance-stays = go (ℕ-discrete j 0)
+      where
+        go : Dec (j ≡ 0) → inheritanceOf u j ≡ inheritanceOf c j
+        go (yes e) = inheritance-root u j e ∙ ap (λ (r : List ℕ). rootInheritance (categoryOf r)) row-same ∙ sym (inheritance-root c j e)
+        go (no d) =
+            let super : ℕ = superclassOf (c .row j) in
+            let l : super < c .count = superclass-there d in
+            inheritance-at u j d super (ap superclassOf row-same) (h .stays super l)
+            ∙ ap₂ inheritance (ap categoryOf row-same) (category-same super l)
+            ∙ sym (inheritance-at c j d super refl l)
 
 -- rule 22 needs: the changed class has its superclass as before
 pub chain-stays : {k : ℕ} {c u : Table} → ChangedAt k c u → (k < c .count → superclassOf (u .row k) ≡ superclassOf (c .row k)) → (j : ℕ)

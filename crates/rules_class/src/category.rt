@@ -1,4 +1,4 @@
-// Rules 19, 20 and 21: the categories of the classes that a class names.
+// Rules 19, 20, 21 and 38 to 40: the categories of the classes that a class names.
 use crate::blank::is_blank;
 use schema::class::category;
 use schema::class::fixed_auxiliary;
@@ -10,8 +10,11 @@ use schema::layout::CLASS_SET;
 use schema::number::ClassNumber;
 use schema::number::ClassRead;
 use schema::number::TableId;
-use schema::refusal::CATEGORY_MISFIT;
+use schema::refusal::ABSTRACT_UNDER_OTHER;
+use schema::refusal::AUXILIARY_UNDER_STRUCTURAL;
 use schema::refusal::DONE;
+use schema::refusal::ROOT_NOT_ABSTRACT;
+use schema::refusal::STRUCTURAL_UNDER_AUXILIARY;
 use schema::store::class_row;
 use schema::store::row_count;
 use tables::named::ClassList;
@@ -37,7 +40,7 @@ const ABSTRACT: u8 = 2;
 
 const AUXILIARY: u8 = 3;
 
-// Which line of rule 21 a class breaks.
+// Which of rules 21, 38, 39 and 40 a class breaks.
 pub enum Inheritance {
     Sound,
     RootNotAbstract,
@@ -126,7 +129,7 @@ pub fn category_wrong(kind: ClassList, classes: &[u8], row: &[u8]) -> bool
     false
 }
 
-// The line of rule 21 that a category breaks under the superclass's.
+// The rule that a category breaks under the superclass's.
 pub fn inheritance_under(own: u8, above: u8) -> Inheritance
     ensures { λ r. ⌜ r ≡ inheritance own above ⌝ }
 {
@@ -151,7 +154,7 @@ pub fn inheritance_under(own: u8, above: u8) -> Inheritance
     Inheritance::Sound
 }
 
-// The line of rule 21 that the category of row 0 breaks.
+// The rule that the category of row 0 breaks.
 pub fn root_inheritance(own: u8) -> Inheritance
     ensures { λ r. ⌜ r ≡ rootInheritance own ⌝ }
 {
@@ -161,7 +164,7 @@ pub fn root_inheritance(own: u8) -> Inheritance
     Inheritance::RootNotAbstract
 }
 
-// The line of rule 21 that a class breaks.
+// The rule that a class breaks. Nothing else looks at the categories of a class and its superclass: all who ask pass this on.
 pub fn inheritance_of(classes: &[u8], c: ClassNumber) -> Inheritance
     requires { ⌜ TableShaped Classes (now classes) × (c .0 < tableIn Classes (now classes) .count) ⌝ }
     ensures { λ r. ⌜ r ≡ inheritanceOf (tableIn Classes (now (classes .entry))) (c .0) ⌝ }
@@ -180,23 +183,23 @@ pub fn inheritance_of(classes: &[u8], c: ClassNumber) -> Inheritance
     inheritance_under(category(row), category(class_row(classes, s)))
 }
 
-// The paper's number of an answer, 0 for none.
+// The papers' number of an answer, 0 for none.
 pub fn inheritance_number(found: Inheritance) -> u8
     ensures { λ r. ⌜ r ≡ inheritanceNumber found ⌝ }
 {
     match found {
         Inheritance::Sound => DONE,
-        Inheritance::RootNotAbstract => CATEGORY_MISFIT,
-        Inheritance::AbstractUnderOther => CATEGORY_MISFIT,
-        Inheritance::AuxiliaryUnderStructural => CATEGORY_MISFIT,
-        Inheritance::StructuralUnderAuxiliary => CATEGORY_MISFIT,
+        Inheritance::RootNotAbstract => ROOT_NOT_ABSTRACT,
+        Inheritance::AbstractUnderOther => ABSTRACT_UNDER_OTHER,
+        Inheritance::AuxiliaryUnderStructural => AUXILIARY_UNDER_STRUCTURAL,
+        Inheritance::StructuralUnderAuxiliary => STRUCTURAL_UNDER_AUXILIARY,
     }
 }
 
-// Whether a class breaks rule 21.
-pub fn inheritance_wrong(classes: &[u8], c: ClassNumber) -> bool
+// Whether a class breaks the rule of a number.
+pub fn inheritance_wrong(number: u8, classes: &[u8], c: ClassNumber) -> bool
     requires { ⌜ TableShaped Classes (now classes) × (c .0 < tableIn Classes (now classes) .count) ⌝ }
-    ensures { λ r. ⌜ r ≡ inheritanceWrong (tableIn Classes (now (classes .entry))) (c .0) ⌝ }
+    ensures { λ r. ⌜ r ≡ inheritanceWrong number (tableIn Classes (now (classes .entry))) (c .0) ⌝ }
 {
-    inheritance_number(inheritance_of(classes, c)) == CATEGORY_MISFIT
+    inheritance_number(inheritance_of(classes, c)) == number
 }

@@ -165,7 +165,8 @@ module _ (key : Key) (m : Schema) where
 
   -- row p, whose mark was not met or which has no rival
   pub apart-more : (p : ℕ) (marks : List ℕ) → p < placeCount key m → Marked p marks
-      → (met key (rowOf p) marks && taken everyRow key m (tableOf (placeId first p)) (numberOf (placeId first p))) ≡ false → Apart p → Apart (p + 1)
+      → (met key (rowOf p) (keyMark key (rowOf p)) marks && taken everyRow key m (tableOf (placeId first p)) (numberOf (placeId first p))) ≡ false
+      → Apart p → Apart (p + 1)
   unfolding met
   apart-more p marks below h calm a i j l b s = ⊎-elim (λ k. a i j l k s) here (last-or-less (omega (arith, b)))
     where
@@ -225,10 +226,11 @@ module _ (key : Key) (m : Schema) where
               go (no h) = a q p (omega (arith, h, apart)) (place-below t k (r .has) l) same
 
   pub one-taken : (p : ℕ) (marks : List ℕ) → p < placeCount key m
-      → (met key (rowOf p) marks && taken everyRow key m (tableOf (placeId first p)) (numberOf (placeId first p))) ≡ true → anyTaken key m ≡ true
+      → (met key (rowOf p) (keyMark key (rowOf p)) marks && taken everyRow key m (tableOf (placeId first p)) (numberOf (placeId first p))) ≡ true
+      → anyTaken key m ≡ true
   unfolding anyTaken
   one-taken p marks l e = go (tableOf (at-place p)) (numberOf (at-place p)) (placed p l .there)
-      (second (met key (rowOf p) marks) (taken everyRow key m (tableOf (at-place p)) (numberOf (at-place p))) e)
+      (second (met key (rowOf p) (keyMark key (rowOf p)) marks) (taken everyRow key m (tableOf (at-place p)) (numberOf (at-place p))) e)
     where
       second : (a b : Bool) → (a && b) ≡ true → b ≡ true
       second true b q = q

@@ -52,9 +52,9 @@ absent Guid row = false
 absent Mapi row = eqb (mapiOf row) 0
 absent Link row = eqb (linkOf row) 0
 
--- the mark of a row's key is among those met
-unfoldable pub met : Key → List ℕ → List ℕ → Bool
-met key row marks = not (absent key row) && member marks (keyMark key row)
+-- a row has the key, and its mark is among those met
+unfoldable pub met : Key → List ℕ → ℕ → List ℕ → Bool
+met key row mark marks = not (absent key row) && member marks mark
 
 -- place p of the rows of both tables, the n attributes first
 unfoldable pub placeId : ℕ → ℕ → RowId

@@ -20,7 +20,6 @@ ghost use mathlib.Core.Path.{_≡_};
 ghost use Prim.Native.Nat.{_≤_, _<_};
 ghost use lib.ListN.{length};
 ghost use Rattle.prelude.specs.Part.{zeros};
-ghost use Rattle.sets.specs.Sets.{withMember};
 ghost use Rattle.schema.specs.Numbers.{tableOf, numberOf};
 ghost use Rattle.schema.specs.Store.{table, schemaIn};
 ghost use Rattle.tables.specs.Shaped.{Shaped};
@@ -79,15 +78,15 @@ fn is_absent(key: Key, row: &[u8]) -> bool
     }
 }
 
-// Whether the mark of a row's key was met before.
-fn is_met(key: Key, row: &[u8], marks: &[u8]) -> bool
+// Whether a row has the key, and its mark was met before.
+fn is_met(key: Key, row: &[u8], mark: usize, marks: &[u8]) -> bool
     requires { ⌜ Keyed (now row) ⌝ }
-    ensures { λ r. ⌜ r ≡ met key (now (row .entry)) (now (marks .entry)) ⌝ }
+    ensures { λ r. ⌜ r ≡ met key (now (row .entry)) mark (now (marks .entry)) ⌝ }
 {
     if is_absent(key, row) {
         return false;
     }
-    sets::has(marks, key_mark(key, row))
+    sets::has(marks, mark)
 }
 
 // Place p of the rows of both tables, the attributes first.
@@ -118,26 +117,17 @@ fn is_repeated<'a>(
     classes: &'a [u8],
     key: Key,
     id: RowId,
+    mark: usize,
     marks: &[u8],
 ) -> bool
     requires { ⌜ Shaped (now attributes) (now classes) × (numberOf id < table (tableOf id) (schemaIn (now attributes) (now classes)) .count) ⌝ }
-    ensures { λ r. ⌜ r ≡ (met key (table (tableOf id) (schemaIn (now (attributes .entry)) (now (classes .entry))) .row (numberOf id)) (now (marks .entry))
-        && taken everyRow key (schemaIn (now (attributes .entry)) (now (classes .entry))) (tableOf id) (numberOf id)) ⌝ }
+    ensures { λ r. ⌜ r ≡ (met key (table (tableOf id) (schemaIn (now (attributes .entry)) (now (classes .entry))) .row (numberOf id)) mark
+        (now (marks .entry)) && taken everyRow key (schemaIn (now (attributes .entry)) (now (classes .entry))) (tableOf id) (numberOf id)) ⌝ }
 {
-    if is_met(key, schema_row(attributes, classes, id), marks) {
+    if is_met(key, schema_row(attributes, classes, id), mark, marks) {
         return is_taken(attributes, classes, key, id);
     }
     false
-}
-
-// The mark of a row's key is met from now on.
-fn add_mark<'a>(attributes: &'a [u8], classes: &'a [u8], key: Key, id: RowId, marks: &mut [u8])
-    requires { ⌜ Shaped (now attributes) (now classes) × (numberOf id < table (tableOf id) (schemaIn (now attributes) (now classes)) .count) ⌝ }
-    ensures { λ _. ⌜ now (marks .exit)
-        ≡ withMember (keyMark key (table (tableOf id) (schemaIn (now (attributes .entry)) (now (classes .entry))) .row (numberOf id)))
-        (now (marks .entry)) ⌝ }
-{
-    sets::insert(marks, key_mark(key, schema_row(attributes, classes, id)));
 }
 
 // Whether some row has the key of another, with no mark met before.
@@ -150,10 +140,11 @@ fn any_repeated<'a>(attributes: &'a [u8], classes: &'a [u8], key: Key, marks: &m
     let mut p = 0;
     while p < count {
         let id = id_at(first, p);
-        if is_repeated(attributes, classes, key, id, marks) {
+        let mark = key_mark(key, schema_row(attributes, classes, id));
+        if is_repeated(attributes, classes, key, id, mark, marks) {
             return true;
         }
-        add_mark(attributes, classes, key, id, marks);
+        sets::insert(marks, mark);
         p += 1;
     }
     false

@@ -1,6 +1,8 @@
 -- What the keeper holds: numbers, answers, the layout of the stores, rows and tables.
 pub mod Numbers
 pub mod Refusals
+pub mod Order
+pub mod OrderLaws
 pub mod Answers
 pub mod Layout
 pub mod Row

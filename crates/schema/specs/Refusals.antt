@@ -1,4 +1,5 @@
--- The numbers that a call gives back, by name. Document 01, "Numbers given back" and "Schema rules". src/refusal.rt and include/keeper.h have the same names.
+-- The numbers that a call gives back, by name. Document 01, "Numbers given back" and "Schema rules", and document 02. src/refusal.rt and include/keeper.h
+-- have the same names.
 use Prim.Native.Nat.{ℕ}
 
 abbrev pub done : ℕ
@@ -84,9 +85,9 @@ notAnAuxiliary = 19
 abbrev pub notASuperior : ℕ
 notASuperior = 20
 
--- "21 Row 0 not abstract; abstract under a class not abstract; auxiliary under structural; structural under auxiliary."
-abbrev pub categoryMisfit : ℕ
-categoryMisfit = 21
+-- "21 keeps 'row 0 not abstract'"
+abbrev pub rootNotAbstract : ℕ
+rootNotAbstract = 21
 
 -- "22 The chain does not end at row 0 within 128 steps, or meets a number without a row."
 abbrev pub chainAstray : ℕ
@@ -100,9 +101,9 @@ namingUnfit = 23
 abbrev pub mapiTaken : ℕ
 mapiTaken = 24
 
--- "25 Both ranges present, and rangeLower not smaller than rangeUpper."
-abbrev pub rangeEmpty : ℕ
-rangeEmpty = 25
+-- "25 Both ranges present", and, as document 02 has it, "only where rangeLower is greater than rangeUpper"
+abbrev pub rangeCrossed : ℕ
+rangeCrossed = 25
 
 -- "26 Syntax and oMSyntax don't match"
 abbrev pub syntaxMisfit : ℕ
@@ -127,3 +128,13 @@ mandatoryDiffers = 30
 -- "31 write: output too short; place is the length needed"
 abbrev pub shortOutput : ℕ
 shortOutput = 31
+
+-- "38 is abstract under another kind, 39 auxiliary under structural, 40 structural under auxiliary"
+abbrev pub abstractUnderOther : ℕ
+abstractUnderOther = 38
+
+abbrev pub auxiliaryUnderStructural : ℕ
+auxiliaryUnderStructural = 39
+
+abbrev pub structuralUnderAuxiliary : ℕ
+structuralUnderAuxiliary = 40

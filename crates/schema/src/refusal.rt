@@ -1,5 +1,5 @@
-// The numbers that a call gives back, by name. Document 01, "Numbers given back" and "Schema rules". specs/Refusals.antt and include/keeper.h have the same
-// names.
+// The numbers that a call gives back, by name. Document 01, "Numbers given back" and "Schema rules", and document 02. specs/Refusals.antt and
+// include/keeper.h have the same names.
 
 pub const DONE: u8 = 0;
 
@@ -46,7 +46,7 @@ pub const NOT_AN_AUXILIARY: u8 = 19;
 
 pub const NOT_A_SUPERIOR: u8 = 20;
 
-pub const CATEGORY_MISFIT: u8 = 21;
+pub const ROOT_NOT_ABSTRACT: u8 = 21;
 
 pub const CHAIN_ASTRAY: u8 = 22;
 
@@ -54,7 +54,7 @@ pub const NAMING_UNFIT: u8 = 23;
 
 pub const MAPI_TAKEN: u8 = 24;
 
-pub const RANGE_EMPTY: u8 = 25;
+pub const RANGE_CROSSED: u8 = 25;
 
 pub const SYNTAX_MISFIT: u8 = 26;
 
@@ -68,3 +68,10 @@ pub const LINK_ALONE: u8 = 29;
 pub const MANDATORY_DIFFERS: u8 = 30;
 
 pub const SHORT_OUTPUT: u8 = 31;
+
+// Schema rules of document 02. Where they stand in the order of judging, specs/Order.antt says.
+pub const ABSTRACT_UNDER_OTHER: u8 = 38;
+
+pub const AUXILIARY_UNDER_STRUCTURAL: u8 = 39;
+
+pub const STRUCTURAL_UNDER_AUXILIARY: u8 = 40;

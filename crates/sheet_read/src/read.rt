@@ -1,7 +1,8 @@
 // Reads a sheet from left to right. Document 01: "Sheet: field 01 holding 01, attribute rows 20, class rows 30"; it "gives 4 or 6, whichever comes first".
 use prelude::number::byte_at;
-use reader::is_end;
+use reader::ends_at;
 use reader::step_at;
+use reader::tag_at;
 use rows_format::format::Format;
 use rows_read::read::RowRead;
 use rows_read::read::place_of;
@@ -296,7 +297,7 @@ fn take_field(
     ensures { λ r. ⌜ Steps (takeField (now (s .entry)) at phase missing) (now (attributes .entry)) (now (classes .entry)) r (now (attributes .exit))
         (now (classes .exit)) ⌝ }
 {
-    let room = room_in(sheet_tag(byte_at(s, at)), attributes, classes);
+    let room = room_in(sheet_tag(tag_at(s, at)), attributes, classes);
     let Room::Free = room else {
         return room_turn(room);
     };
@@ -335,7 +336,7 @@ pub fn read_sheet(s: &[u8], attributes: &mut [u8], classes: &mut [u8]) -> SheetR
     let mut at = 0;
     let mut phase = Phase::Start;
     let mut missing = true;
-    while !is_end(s, at) {
+    while !ends_at(s, at) {
         let turn = take_field(s, at, phase, missing, attributes, classes);
         let Turn::On {
             at: next,

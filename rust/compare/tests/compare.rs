@@ -22,7 +22,7 @@ fn the_reference_does_not_differ_from_itself_and_every_number_is_reached() {
     println!("{}", report.coverage);
     assert_eq!(report.differences, Vec::<String>::new());
     assert_eq!(report.inputs, expected(COUNT));
-    let quick: u64 = (0..=31)
+    let quick: u64 = (0..=60)
         .map(|number| report.coverage.count("quick", number))
         .sum();
     println!("{quick} quick changes, {} on disorder", report.disordered);
@@ -30,7 +30,7 @@ fn the_reference_does_not_differ_from_itself_and_every_number_is_reached() {
     for call in ["load", "write", "audit", "plain", "quick", "depth"] {
         let is_change = matches!(call, "plain" | "quick");
         let least = if is_change { OFTEN } else { 1 };
-        for number in 0..=40 {
+        for number in 0..=60 {
             let count = report.coverage.count(call, number);
             let expected = may_give(call, number);
             assert_eq!(count > 0, expected, "{call} {number}");

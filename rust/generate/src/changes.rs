@@ -55,7 +55,9 @@ fn add_class(random: &mut Random, schema: &Schema) -> Change {
     if !random.once_in(3) {
         rows::fill_lists(random, schema, &mut class, 3);
     }
-    if random.once_in(2) {
+    if schema.classes.is_empty() && !random.once_in(3) {
+        spoil::root(random, &mut class);
+    } else if random.once_in(2) {
         spoil::class(random, schema, schema.next_class(), &mut class);
     }
     class.common.defunct &= random.once_in(10);
@@ -87,7 +89,7 @@ fn any_row(random: &mut Random, schema: &Schema) -> Row {
 
 fn range(random: &mut Random, schema: &Schema) -> Change {
     let (lower, upper) = match random.below(4) {
-        0 => (Some(random.below(3) as i32), Some(random.below(3) as i32)),
+        0 => (Some(rows::range_end(random)), Some(rows::range_end(random))),
         _ => rows::range(random),
     };
     Change::Alter {

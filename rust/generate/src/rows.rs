@@ -142,16 +142,22 @@ pub fn attribute(random: &mut Random, schema: &Schema, common: Common) -> Attrib
     }
 }
 
-/// A range that rises, where both ends are present.
+/// Ends that a range may have: the last ones, those beside zero, and others.
+pub fn range_end(random: &mut Random) -> i32 {
+    let any = random.number() as i32;
+    let ends = [i32::MIN, -3, -1, 0, 1, 16, i32::MAX - 1, i32::MAX, any];
+    random.pick(&ends).copied().unwrap_or(any)
+}
+
+/// A range that does not fall, where both ends are present, often of equal ends.
 pub fn range(random: &mut Random) -> (Option<i32>, Option<i32>) {
-    let ends = [i32::MIN, -1, 0, 1, 64, i32::MAX, random.number() as i32];
-    let mut end = || random.pick(&ends).copied().unwrap_or(0);
-    let (one, other) = (end(), end());
+    let (one, other) = (range_end(random), range_end(random));
     let (lower, upper) = (one.min(other), one.max(other));
-    match random.below(5) {
+    match random.below(6) {
         0 => (Some(lower), None),
         1 => (None, Some(upper)),
-        2 | 3 if lower < upper => (Some(lower), Some(upper)),
+        2 => (Some(one), Some(one)),
+        3 | 4 => (Some(lower), Some(upper)),
         _ => (None, None),
     }
 }

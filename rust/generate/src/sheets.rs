@@ -84,12 +84,16 @@ fn overfull_or_spoiled(random: &mut Random) -> Vec<u8> {
 /// A readable sheet whose rows break some rule or other.
 pub fn spoiled(random: &mut Random) -> Vec<u8> {
     let mut schema = schemas::any(random);
-    let times = match random.once_in(3) {
-        true => random.within(2..5),
-        false => 1,
+    let times = match random.below(6) {
+        0 | 1 => random.within(2..5),
+        2 => 0,
+        _ => 1,
     };
     for _ in 0..times {
         spoil::any_row(random, &mut schema);
+    }
+    if times == 0 {
+        spoil::inheritances(random, &mut schema);
     }
     writing::sheet(&schema)
 }

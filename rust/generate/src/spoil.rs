@@ -1,8 +1,9 @@
-//! Rows with a fault that one of the rules 12 to 29 tells. Every value stays
-//! one that the reader could have stored.
+//! Rows with a fault that one of the schema rules tells. Every value stays one
+//! that the reader could have stored.
 
 use crate::random::Random;
 use crate::rows;
+use reference::rules::is_live;
 use reference::schema::{
     ATTRIBUTE_LIMIT, Attribute, BASE_FLAG, CLASS_LIMIT, Category, Class, Common, Numbers, Row,
     Schema,
@@ -103,10 +104,14 @@ fn taken(
     random.pick(&numbers).copied()
 }
 
+/// A range that falls, often by 1, seldom one of equal ends.
 fn wrong_range(random: &mut Random, row: &mut Attribute) {
-    let upper = random.number() as i32;
-    let more = random.below(3) as i32;
-    row.range_lower = Some(upper.saturating_add(more));
+    let (one, other) = (rows::range_end(random), rows::range_end(random));
+    let upper = one.min(other);
+    row.range_lower = match random.once_in(2) {
+        true => Some(upper.saturating_add(1)),
+        false => Some(one.max(other)),
+    };
     row.range_upper = Some(upper);
 }
 
@@ -130,7 +135,64 @@ pub fn class(random: &mut Random, schema: &Schema, number: u16, row: &mut Class)
         9 | 10 => any_class_list(random, row, schema.classes.len().max(1)),
         11 => add(any_class_set(random, row), number),
         12 => row.superclass = any_superclass(random, schema),
-        _ => row.category = any_category(random),
+        13 => row.category = any_category(random),
+        _ => inheritance(random, schema, number, row),
+    }
+}
+
+/// Categories that do not go under each other, the own one and the one above,
+/// as 38, 39 and 40 have them.
+fn misfit(random: &mut Random) -> (Category, Category) {
+    use Category::{Abstract, Auxiliary, EightyEight, Structural};
+    let kinds = [EightyEight, Structural, Auxiliary];
+    let other = random.pick(&kinds).copied().unwrap_or_default();
+    let misfits = [
+        (Abstract, other),
+        (Auxiliary, Structural),
+        (Structural, Auxiliary),
+    ];
+    random.pick(&misfits).copied().unwrap_or_default()
+}
+
+/// Puts a class under an earlier one that it does not fit under, if there is
+/// one; row 0 gets any category.
+fn inheritance(random: &mut Random, schema: &Schema, number: u16, row: &mut Class) {
+    let (own, wrong) = misfit(random);
+    let fits = |above: &u16| {
+        let above = schema.class(*above);
+        is_live(above.map(|above| &above.common), &row.common)
+            && above.is_some_and(|above| above.category == wrong)
+    };
+    let above: Vec<u16> = (0..number).filter(fits).collect();
+    match random.pick(&above) {
+        Some(above) => (row.category, row.superclass) = (own, *above),
+        None if number == 0 => root(random, row),
+        None => {}
+    }
+}
+
+/// Gives a class that is to be row 0 any category.
+pub fn root(random: &mut Random, row: &mut Class) {
+    row.category = any_category(random);
+}
+
+/// Puts some classes that no list names under ones that they do not fit under,
+/// so that rows break 38 to 40, seldom 21, and no rule that stands before these.
+pub fn inheritances(random: &mut Random, schema: &mut Schema) {
+    let listed = |schema: &Schema, number| {
+        let mut lists = schema.classes.iter().flat_map(Class::listed_classes);
+        lists.any(|entry| entry == number)
+    };
+    let first = u16::from(!random.once_in(5));
+    let free: Vec<u16> = (first..schema.next_class())
+        .filter(|number| !listed(schema, *number))
+        .collect();
+    for _ in 0..random.within(1..6) {
+        let number = random.pick(&free).copied();
+        if let Some((number, mut row)) = number.and_then(|n| Some((n, schema.class(n)?.clone()))) {
+            inheritance(random, schema, number, &mut row);
+            schema.classes[usize::from(number)] = row;
+        }
     }
 }
 

@@ -150,6 +150,9 @@ pub fn out_of_order(random: &mut Random) -> Stores {
 
 /// Spoils some rows, or none.
 pub fn disorder_rows(random: &mut Random, schema: &mut Schema) {
+    if random.once_in(6) {
+        return spoil::inheritances(random, schema);
+    }
     let times = match random.below(3) {
         0 => random.below(6),
         _ => 1,

@@ -32,7 +32,7 @@ pub fn plain(before: &Tables, change: &[u8]) -> Result<(Tables, Row), Answer> {
     Ok((Tables { schema, kept }, row))
 }
 
-/// The smallest of 12 to 29 that any row of the result breaks.
+/// The first of the rules that any row of the result breaks.
 fn broken_rule(before: &Schema, change: &Change, after: &Schema) -> Option<u64> {
     let judged = Judged {
         schema: after,

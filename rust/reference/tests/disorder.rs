@@ -157,6 +157,28 @@ fn rule_22_above_an_added_class() {
     assert_eq!(lent.quick(&class), (0, 2, 5));
 }
 
+/// 38 to 40 stand before 22 and 30 (W3.4, W3.5); 18 before them.
+#[test]
+fn rules_38_to_40_of_a_changed_row() {
+    let category = |class: usize| 2 + class * 315 + 151;
+    for (above, own, number) in [(1, 2, 38), (3, 1, 40), (1, 3, 39)] {
+        let mut lent = stores();
+        lent.classes[category(3)] = above;
+        lent.classes[category(4)] = own;
+        let renamed = change(0x44, 4, &[field(0x01, b"other")]);
+        assert_eq!(lent.quick(&renamed), (number, 0, 0));
+        lent.classes[2 + 3 * 315 + 152] = 4;
+        assert_eq!(lent.quick(&renamed), (number, 0, 0));
+        lent.classes[2 + 4 * 315 + 152] = 5;
+        assert_eq!(lent.quick(&renamed), (18, 0, 0));
+    }
+    let mut lent = stores();
+    poke(&mut lent, 2, [0b101, 0b1000_0000, 0]);
+    assert_eq!(lent.quick(&entry(0x49, 4, 0x17, 2)), (30, 0, 0));
+    lent.classes[category(4)] = 2;
+    assert_eq!(lent.quick(&entry(0x49, 4, 0x17, 2)), (38, 0, 0));
+}
+
 #[test]
 fn only_the_changed_row_is_judged() {
     let mut lent = stores();

@@ -65,7 +65,7 @@ fn ranges(lower: Option<i32>, upper: Option<i32>) -> Vec<Vec<u8>> {
     lower.into_iter().chain(upper).collect()
 }
 
-/// The same range in a sheet, in a change 42 and nowhere else.
+/// The same range in a sheet, in an addition and in a change 42.
 fn range(lower: Option<i32>, upper: Option<i32>) -> u64 {
     let mut row = Row::attribute(0);
     if let Some(end) = lower {
@@ -74,7 +74,9 @@ fn range(lower: Option<i32>, upper: Option<i32>) -> u64 {
     if let Some(end) = upper {
         row = row.with(0x0B, &end.to_be_bytes());
     }
-    let (loaded, _, _) = load(row);
+    let (loaded, _, _) = load(row.clone());
+    let (added, _, _) = Lent::loaded(&sheet(&[])).both(&row.added());
+    assert_eq!(loaded, added);
     let mut lent = Lent::loaded(&sheet(&[Row::attribute(0)]));
     let (changed, _, _) = lent.both(&change(0x42, 0, &ranges(lower, upper)));
     assert_eq!(loaded, changed);
@@ -84,7 +86,20 @@ fn range(lower: Option<i32>, upper: Option<i32>) -> u64 {
 #[test]
 fn p4_ranges() {
     assert_eq!(range(Some(-1), Some(0)), 0);
-    assert_eq!(range(Some(5), Some(5)), 25);
+    assert_eq!(range(Some(5), Some(5)), 0);
+}
+
+/// Document 02, wish 1: "both negative and equal passes too"; signed, and only
+/// a greater lower end is refused.
+#[test]
+fn p4_equal_ends() {
+    for end in [16, 0, -1, -3, i32::MIN, i32::MAX] {
+        assert_eq!(range(Some(end), Some(end)), 0);
+    }
+    for end in [i32::MIN, -4, -1, 0, 5, i32::MAX - 1] {
+        assert_eq!(range(Some(end + 1), Some(end)), 25);
+        assert_eq!(range(Some(end), Some(end + 1)), 0);
+    }
 }
 
 #[test]
@@ -119,9 +134,9 @@ fn p7_88_class_under_auxiliary() {
 #[test]
 fn p8_abstract_under_structural() {
     let rows = [top(), Row::class(1, 1, 0), Row::class(2, 2, 1)];
-    assert_eq!(load_all(&rows), (21, 2, 2));
+    assert_eq!(load_all(&rows), (38, 2, 2));
     let mut lent = Lent::loaded(&sheet(&rows[..2]));
-    assert_eq!(lent.both(&rows[2].added()), (21, 0, 0));
+    assert_eq!(lent.both(&rows[2].added()), (38, 0, 0));
 }
 
 #[test]

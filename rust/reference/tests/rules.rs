@@ -1,4 +1,4 @@
-//! Rules 12 to 29 at load, rule by rule.
+//! Rules 12 to 29 and 38 to 40 at load, rule by rule, and their order.
 
 mod common;
 
@@ -165,25 +165,78 @@ fn rules_19_and_20() {
 }
 
 #[test]
-fn rule_21() {
+fn rules_21_and_38_to_40() {
     for category in [0, 1, 3] {
         assert_eq!(load(&[Row::class(0, category, 0)]), (21, 2, 0));
     }
     // Rows: the superclass's category; columns: 88, structural, abstract,
-    // auxiliary under it.
-    let legal = [
-        [true, true, false, true],
-        [true, true, false, false],
-        [true, true, true, true],
-        [true, false, false, true],
-    ];
-    for (above, row) in (0..).zip(legal) {
-        for (category, legal) in (0..).zip(row) {
+    // auxiliary under it; 0 where that is legal.
+    let numbers = [[0, 0, 38, 0], [0, 0, 38, 39], [0, 0, 0, 0], [0, 40, 38, 0]];
+    for (above, row) in (0..).zip(numbers) {
+        for (category, number) in (0..).zip(row) {
             let rows = [top(), Row::class(1, above, 0), Row::class(2, category, 1)];
-            let expected = if legal { PASS } else { (21, 2, 2) };
+            let expected = if number == 0 { PASS } else { (number, 2, 2) };
             assert_eq!(load(&rows), expected, "{category} under {above}");
         }
     }
+}
+
+/// Row 0; 1 structural, 2 auxiliary; then classes of these categories, each
+/// under one of the two.
+fn inheriting(under: &[(u8, u16)]) -> Vec<Row> {
+    let first = [top(), Row::class(1, 1, 0), Row::class(2, 3, 0)];
+    let more = (3..).zip(under);
+    let more = more.map(|(number, (category, above))| Row::class(number, *category, *above));
+    first.into_iter().chain(more).collect()
+}
+
+/// "Demand 2's smallest is the first in this order": the number is chosen over
+/// all rows, then the row (W3.1).
+#[test]
+fn the_rule_is_chosen_before_the_row() {
+    let (under_other, auxiliary, structural) = ((2, 1), (3, 1), (1, 2));
+    let load = |under: &[(u8, u16)]| load(&inheriting(under));
+    assert_eq!(load(&[structural, auxiliary, under_other]), (38, 2, 5));
+    assert_eq!(load(&[structural, (1, 1), auxiliary]), (39, 2, 5));
+    assert_eq!(load(&[auxiliary, structural]), (39, 2, 3));
+    assert_eq!(load(&[structural, structural]), (40, 2, 3));
+    assert_eq!(load(&[(0, 2), under_other, (2, 2)]), (38, 2, 4));
+}
+
+/// 18 to 20 stand before 38 to 40, and 21 too; 23 to 29 behind them, though
+/// their numbers are smaller (W3.4).
+#[test]
+fn the_order_of_38_to_40() {
+    let wrong = Row::class(3, 1, 2);
+    let beside = |row: Row| {
+        load(&[
+            top(),
+            Row::class(1, 1, 0),
+            Row::class(2, 3, 0),
+            wrong.clone(),
+            row,
+        ])
+    };
+    assert_eq!(beside(Row::class(4, 1, 4)), (18, 2, 4));
+    assert_eq!(beside(Row::class(4, 1, 0).with_set(0x16, &[1])), (19, 2, 4));
+    assert_eq!(beside(Row::class(4, 1, 0).with_set(0x19, &[2])), (20, 2, 4));
+    let mut rows = inheriting(&[(1, 2)]);
+    rows[0] = Row::class(0, 0, 0);
+    assert_eq!(load(&rows), (21, 2, 0));
+    let attributes = [
+        Row::attribute(0).with(0x07, &[65]),
+        link(Row::attribute(1), 9),
+        Row::attribute(2).with(0x0A, &[1; 4]).with(0x0B, &[0; 4]),
+    ];
+    let named = Row::class(4, 1, 0).with(0x12, &[0, 1]);
+    let classes = [inheriting(&[(1, 2)]), vec![named]].concat();
+    let all = |classes: &[Row]| load(&[&attributes[..], classes].concat());
+    assert_eq!(all(&classes), (40, 2, 3));
+    assert_eq!(
+        all(&[&classes[..3], &[Row::class(3, 1, 1), classes[4].clone()]].concat()),
+        (23, 2, 4)
+    );
+    assert_eq!(all(&classes[..3]), (25, 1, 2));
 }
 
 #[test]

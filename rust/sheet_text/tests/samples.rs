@@ -66,7 +66,7 @@ fn the_forest_is_accepted_and_comes_back_byte_for_byte() {
 }
 
 /// What the sample is to show: base rows, defunct rows in both tables, links,
-/// ranges, auxiliaries that bring each other.
+/// ranges, a fixed length, auxiliaries that bring each other.
 #[test]
 fn the_forest_shows_every_kind_of_row() {
     let text = String::from_utf8_lossy(&bytes("forest.schema")).into_owned();
@@ -86,6 +86,11 @@ fn the_forest_shows_every_kind_of_row() {
         attributes
             .iter()
             .any(|row| row.range_lower.is_some_and(|end| end < 0))
+    );
+    assert!(
+        attributes
+            .iter()
+            .any(|row| row.range_lower == Some(16) && row.range_upper == Some(16))
     );
     let brings = |one: u16, other: u16| {
         let class = forest.class(one);

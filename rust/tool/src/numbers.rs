@@ -1,6 +1,8 @@
 //! What a number means and what can be done about it: docs/NUMBERS.md, so that
 //! it is said once.
 
+use crate::words::joined;
+
 const PAGE: &str = include_str!("../../../docs/NUMBERS.md");
 
 /// One section of the page.
@@ -25,6 +27,22 @@ pub fn sections() -> impl Iterator<Item = Section> {
 /// The section of a number.
 pub fn section_of(number: u64) -> Option<Section> {
     sections().find(|section| section.number == number)
+}
+
+/// All numbers in words: 0 to 31 and 38 to 40.
+pub fn known() -> String {
+    let mut runs: Vec<(u64, u64)> = Vec::new();
+    for Section { number, .. } in sections() {
+        match runs.last_mut() {
+            Some((_, last)) if *last + 1 == number => *last = number,
+            _ => runs.push((number, number)),
+        }
+    }
+    let run = |(first, last): &(u64, u64)| match first == last {
+        true => first.to_string(),
+        false => format!("{first} to {last}"),
+    };
+    joined(&runs.iter().map(run).collect::<Vec<_>>())
 }
 
 /// A number with its name: 13, name taken.
@@ -81,7 +99,8 @@ mod tests {
 
     #[test]
     fn every_number_is_there_with_its_words() {
-        assert!(sections().map(|section| section.number).eq(0..=31));
+        let numbers = sections().map(|section| section.number);
+        assert!(numbers.eq((0..=31).chain(38..=40)));
         assert!(
             sections().all(|section| !section.meaning.is_empty() && !section.advice.is_empty())
         );

@@ -70,6 +70,7 @@ fn each_kind_of_change_is_made() {
         ),
         ("rename class stand forestStand", "class 18 `forestStand`"),
         ("range attribute standAge 0 900", "attribute 27 `standAge`"),
+        ("range attribute standAge 80 80", "attribute 27 `standAge`"),
         (
             "range attribute elevationM -500 none",
             "attribute 19 `elevationM`",
@@ -212,8 +213,8 @@ const REFUSALS: &[(&str, &str)] = &[
         "19, not an auxiliary: class 18 `stand`: its open auxiliary classes hold class 17 `parcel`, which is structural",
     ),
     (
-        "range attribute standAge 5 5",
-        "25, range empty: attribute 27 `standAge`: its range is 5 to 5",
+        "range attribute standAge 6 5",
+        "25, range crossed: attribute 27 `standAge`: its range is 6 to 5",
     ),
     (
         "reactivate attribute formerlyOwned",

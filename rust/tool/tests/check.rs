@@ -84,6 +84,12 @@ fn class(lines: &str) -> String {
     format!("{CN}{TOP}{head} {}\n", lines.replace(';', "\n "))
 }
 
+/// One more class with these lines.
+fn site(lines: &str) -> String {
+    let head = "class site 2.999.3\n guid 00000000000000000000000000000005\n";
+    format!("{head} {}\n", lines.replace(';', "\n "))
+}
+
 #[test]
 fn rules_of_attributes_are_told_with_what_breaks_them() {
     assert_eq!(
@@ -105,10 +111,10 @@ fn rules_of_attributes_are_told_with_what_breaks_them() {
     let text = attribute("age", "syntax 9 2").replace("0003\n", "0001\n");
     let words = "16, guid taken: attribute 0 `cn`: GUID 00000000000000000000000000000001 of attribute 0 `cn` and attribute 1 `age`";
     assert_eq!(told(&text), words);
-    let text = attribute("age", "syntax 9 2;lower 5;upper 5");
+    let text = attribute("age", "syntax 9 2;lower 6;upper 5");
     assert_eq!(
         told(&text),
-        "25, range empty: attribute 1 `age`: its range is 5 to 5"
+        "25, range crossed: attribute 1 `age`: its range is 6 to 5"
     );
     let text = attribute("age", "syntax 9 65");
     assert_eq!(
@@ -155,8 +161,19 @@ fn rules_of_classes_are_told_with_what_breaks_them() {
     let words = "20, not a superior: class 1 `stand`: its fixed possible superiors hold class 0 `top`, which is abstract";
     assert_eq!(told(&text), words);
     let text = class("structural;under top").replacen("abstract", "auxiliary", 1);
-    let words = "21, category misfit: class 0 `top`: it is auxiliary, and class 0 must be abstract";
+    let words =
+        "21, root not abstract: class 0 `top`: it is auxiliary, and class 0 must be abstract";
     assert_eq!(told(&text), words);
+    for (own, above, words) in [
+        ("abstract", "structural", "38, abstract under other"),
+        ("abstract", "auxiliary", "38, abstract under other"),
+        ("auxiliary", "structural", "39, auxiliary under structural"),
+        ("structural", "auxiliary", "40, structural under auxiliary"),
+    ] {
+        let text = class(&format!("{above};under top")) + &site(&format!("{own};under stand"));
+        let detail = format!("it is {own}, and its superclass, class 1 `stand`, is {above}");
+        assert_eq!(told(&text), format!("{words}: class 2 `site`: {detail}"));
+    }
     let text = class("structural;under top;naming cn").replacen(" single\n", "", 1);
     let words = "23, naming unfit: class 1 `stand`: it is named by attribute 0 `cn`, of syntax 2.5.5.12, multi-valued";
     assert_eq!(told(&text), words);

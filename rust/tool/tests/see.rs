@@ -108,20 +108,18 @@ fn the_tree_has_auxiliaries_beside_the_classes() {
 
 #[test]
 fn a_number_is_explained_from_the_page() {
-    let expected = "25, range empty
-  Both ends of a range are there, and rangeLower is not smaller than rangeUpper.
-  The ends are signed numbers; equal ends break the rule too.
+    let expected = "25, range crossed
+  Both ends of a range are there, and rangeLower is greater than rangeUpper. The
+  ends are signed numbers. Equal ends are a fixed length and pass.
   Do: correct the range, or leave one end out.
   Given by: load, audit, plain change, quick change.
 ";
     assert_eq!(done(&["explain", "25"]), expected);
-    assert_eq!(done(&["explain"]).lines().count(), 32);
-    assert_eq!(
-        refused(2, &["explain", "32"]),
-        "32: no such number; there are 0 to 31\n"
-    );
-    assert_eq!(
-        refused(2, &["explain", "x"]),
-        "x: no such number; there are 0 to 31\n"
-    );
+    assert_eq!(done(&["explain"]).lines().count(), 35);
+    for word in ["32", "37", "41", "x"] {
+        assert_eq!(
+            refused(2, &["explain", word]),
+            format!("{word}: no such number; there are 0 to 31 and 38 to 40\n")
+        );
+    }
 }

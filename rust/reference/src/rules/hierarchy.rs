@@ -1,5 +1,5 @@
-//! Rules 19 to 23: categories, the chain of superclasses, the naming
-//! attribute. A named row that is not there breaks none of 19, 20, 21 and 23
+//! Rules 19 to 23 and 38 to 40: categories, the chain of superclasses, the
+//! naming attribute. A named row that is not there breaks none of these but 22
 //! (R56); 17 or 18 tells it.
 
 use crate::schema::{Category, Class, Schema};
@@ -24,21 +24,33 @@ fn categories(
     classes.map(|class| class.category)
 }
 
-/// "21 Row 0 not abstract; abstract under a class not abstract; auxiliary
-/// under structural; structural under auxiliary. All else is legal."
-pub fn wrong_category(schema: &Schema, number: u16, class: &Class) -> bool {
-    if number == 0 {
-        return class.category != Category::Abstract;
-    }
-    let Some(superclass) = schema.class(class.superclass) else {
-        return false;
-    };
-    match (class.category, superclass.category) {
-        (Category::Abstract, above) => above != Category::Abstract,
-        (Category::Auxiliary, Category::Structural) => true,
-        (Category::Structural, Category::Auxiliary) => true,
-        _ => false,
-    }
+/// "21 keeps "row 0 not abstract"" (document 02, wish 3)
+pub fn root_not_abstract(number: u16, class: &Class) -> bool {
+    number == 0 && class.category != Category::Abstract
+}
+
+/// "38 is abstract under another kind"
+pub fn abstract_under_other(schema: &Schema, number: u16, class: &Class) -> bool {
+    let other = |above| above != Category::Abstract;
+    class.category == Category::Abstract && above(schema, number, class).is_some_and(other)
+}
+
+/// "39 auxiliary under structural"
+pub fn auxiliary_under_structural(schema: &Schema, number: u16, class: &Class) -> bool {
+    let structural = |above| above == Category::Structural;
+    class.category == Category::Auxiliary && above(schema, number, class).is_some_and(structural)
+}
+
+/// "40 structural under auxiliary"
+pub fn structural_under_auxiliary(schema: &Schema, number: u16, class: &Class) -> bool {
+    let auxiliary = |above| above == Category::Auxiliary;
+    class.category == Category::Structural && above(schema, number, class).is_some_and(auxiliary)
+}
+
+/// The category of the class above; row 0 has none above it.
+fn above(schema: &Schema, number: u16, class: &Class) -> Option<Category> {
+    let superclass = schema.class(class.superclass).filter(|_| number != 0);
+    superclass.map(|superclass| superclass.category)
 }
 
 /// "22 The chain does not end at row 0 within 128 steps, or meets a number

@@ -1,5 +1,6 @@
-//! "Schema rules (000, X.660, RFC 4512)": rules 12 to 29. "All rules bind
-//! defunct rows too."
+//! "Schema rules (000, X.660, RFC 4512)": rules 12 to 29, and 38 to 40, which
+//! "rules 12 to 29, wherever these papers name them, include" (document 02,
+//! wish 3). "All rules bind defunct rows too."
 
 mod hierarchy;
 mod identity;
@@ -9,10 +10,13 @@ mod values;
 pub use naming::is_live;
 
 use crate::schema::{Attribute, Class, Row, Schema};
-use std::ops::RangeInclusive;
 
-/// "12 to 29: schema rules below"
-pub const RULES: RangeInclusive<u64> = 12..=29;
+/// The schema rules in the order of judging: 38 to 40 "stand at 21's place in
+/// the order, in the order given here, though their numbers are higher", and
+/// the "smallest is the first in this order" (document 02, wish 3).
+pub const RULES: [u64; 21] = [
+    12, 13, 14, 15, 16, 17, 18, 19, 20, 21, 38, 39, 40, 22, 23, 24, 25, 26, 27, 28, 29,
+];
 
 /// The rows to be judged, and which of them was just added, if one was.
 #[derive(Clone, Copy)]
@@ -32,7 +36,7 @@ impl<'a> Judged<'a> {
         }
     }
 
-    /// The smallest rule broken by any row, and the first row that breaks it:
+    /// The first rule broken by any row, and the first row that breaks it:
     /// "the table and lowest row that break the rule found, attributes first".
     pub fn first_broken(&self) -> Option<(u64, Row)> {
         let breaker = |rule| self.schema.rows().find(|row| self.breaks(rule, *row));
@@ -41,7 +45,7 @@ impl<'a> Judged<'a> {
             .find_map(|rule| Some((rule, breaker(rule)?)))
     }
 
-    /// The smallest rule broken by one row, "for the changed row alone,
+    /// The first rule broken by one row, "for the changed row alone,
     /// against all rows".
     pub fn first_broken_by(&self, row: Row) -> Option<u64> {
         RULES.into_iter().find(|rule| self.breaks(*rule, row))
@@ -75,7 +79,10 @@ impl<'a> Judged<'a> {
             }
             19 => hierarchy::wrong_auxiliary(schema, class),
             20 => hierarchy::wrong_possible_superior(schema, class),
-            21 => hierarchy::wrong_category(schema, number, class),
+            21 => hierarchy::root_not_abstract(number, class),
+            38 => hierarchy::abstract_under_other(schema, number, class),
+            39 => hierarchy::auxiliary_under_structural(schema, number, class),
+            40 => hierarchy::structural_under_auxiliary(schema, number, class),
             22 => hierarchy::chain_astray(schema, number),
             23 => hierarchy::wrong_naming_attribute(schema, class),
             _ => false,
@@ -86,7 +93,7 @@ impl<'a> Judged<'a> {
         let schema = self.schema;
         match rule {
             24 => values::mapi_id_taken(schema, number, attribute),
-            25 => values::range_not_rising(attribute),
+            25 => values::range_crossed(attribute),
             26 => values::syntaxes_do_not_match(attribute),
             27 => values::wrong_object_class(attribute),
             28 => values::link_id_taken(schema, number, attribute),

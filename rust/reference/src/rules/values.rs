@@ -10,10 +10,11 @@ pub fn mapi_id_taken(schema: &Schema, number: u16, attribute: &Attribute) -> boo
         && others(schema, number).any(|rival| rival.mapi_id == attribute.mapi_id)
 }
 
-/// "25 Both ranges present, and rangeLower not smaller than rangeUpper."
-pub fn range_not_rising(attribute: &Attribute) -> bool {
+/// "25 Both ranges present", and, as document 02's wish 1 has it, "only where
+/// rangeLower is greater than rangeUpper; both negative and equal passes too".
+pub fn range_crossed(attribute: &Attribute) -> bool {
     match (attribute.range_lower, attribute.range_upper) {
-        (Some(lower), Some(upper)) => lower >= upper,
+        (Some(lower), Some(upper)) => lower > upper,
         _ => false,
     }
 }

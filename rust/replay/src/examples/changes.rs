@@ -289,8 +289,10 @@ fn rules(record: &mut Record) {
     record.refused(&rename(0x43, 8, b"C7"), 13);
     record.refused(&rename(0x44, 18, b"A3"), 13);
     record.refused(&rename(0x44, 18, b"c17"), 13);
-    record.refused(&range(8, Some(0), Some(0)), 25);
+    record.refused(&range(8, Some(1), Some(0)), 25);
     record.refused(&range(1, Some(1), Some(-1)), 25);
+    record.refused(&range(8, Some(-2), Some(-3)), 25);
+    record.refused(&range(8, Some(i32::MIN + 1), Some(i32::MIN)), 25);
     for dead in [3, 15, 18, 128, 255, 256, 0x0108, 65535] {
         record.refused(&entry(0x49, 18, 0x15, dead), 17);
     }
@@ -307,7 +309,7 @@ fn rules(record: &mut Record) {
 /// Rules that an added row breaks, with defunct rivals too.
 fn rules_added(record: &mut Record) {
     let (attribute, class) = (Row::attribute(15), Row::class(19));
-    let refused: [(Row, u64); 18] = [
+    let refused: [(Row, u64); 21] = [
         (attribute.clone().named("-"), 12),
         (attribute.clone().named("A3"), 13),
         (class.clone().named("C16"), 13),
@@ -320,9 +322,12 @@ fn rules_added(record: &mut Record) {
         (class.clone().under(19), 18),
         (class.clone().set(0x16, &[4]), 19),
         (class.clone().set(0x18, &[2]), 20),
-        (class.clone().category(2).under(4), 21),
+        (class.clone().category(2).under(4), 38),
+        (class.clone().category(3).under(4), 39),
+        (class.clone().under(3), 40),
         (class.naming(8), 23),
         (attribute.clone().mapi(4), 24),
+        (attribute.clone().range(17, 16), 25),
         (attribute.clone().syntax(9, 65), 26),
         (attribute.clone().syntax(1, 127).with(0x08, &[1]), 27),
         (attribute.clone().link(5), 28),
@@ -375,6 +380,10 @@ fn order_of_numbers(record: &mut Record) {
     record.refused(&class.clone().set(0x15, &[1]).under(19).added(), 18);
     record.refused(&class.clone().set(0x15, &[1]).added(), 19);
     record.refused(&class.set(0x15, &[1]).set(0x17, &[3]).added(), 20);
+    let misfit = Row::class(19).naming(8).category(3).under(4);
+    record.refused(&misfit.clone().set(0x19, &[2]).added(), 20);
+    record.refused(&misfit.clone().added(), 39);
+    record.refused(&misfit.category(0).added(), 23);
     let link = Row::attribute(15).range(2, 1).link(2).syntax(1, 1);
     record.refused(&link.clone().mapi(4).added(), 24);
     record.refused(&link.clone().added(), 25);
@@ -389,6 +398,9 @@ fn done(record: &mut Record) {
         (Some(0), None),
         (None, Some(0)),
         (Some(-1), Some(0)),
+        (Some(16), Some(16)),
+        (Some(-3), Some(-3)),
+        (least, least),
         (None, None),
     ];
     for (lower, upper) in ends {
@@ -396,6 +408,9 @@ fn done(record: &mut Record) {
     }
     record.plain(&range(8, None, Some(-5)), (0, 1, 8));
     record.plain(&range(8, Some(5), None), (0, 1, 8));
+    record.plain(&range(8, Some(-1), Some(-1)), (0, 1, 8));
+    record.plain(&alter(0x45, 8, &[]), (0, 1, 8));
+    record.plain(&alter(0x47, 8, &[]), (0, 1, 8));
     record.plain(&rename(0x43, 8, b"A8"), (0, 1, 8));
     record.plain(&rename(0x43, 8, &[b'n'; 64]), (0, 1, 8));
     record.plain(&rename(0x43, 8, b"n"), (0, 1, 8));
@@ -424,6 +439,8 @@ fn added(record: &mut Record) {
         &Row::attribute(17).syntax(12, 64).with(0x08, &[1]).added(),
         number(17, 1),
     );
+    let fixed = Row::attribute(18).syntax(10, 4).range(16, 16);
+    record.plain(&fixed.added(), number(18, 1));
     let class = Row::class(19)
         .category(0)
         .under(3)

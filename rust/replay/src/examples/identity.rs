@@ -141,7 +141,7 @@ fn first_found(record: &mut Record) {
     );
     record.rows(&[row(0), row(1), Row::class(0), one], (12, 2, 1));
     record.rows(
-        &[row(0), row(1).range(3, 3), row(2).range(2, 1)],
+        &[row(0), row(1).range(3, 2), row(2).range(2, 1)],
         (25, 1, 1),
     );
     let both = row(0)

@@ -38,7 +38,7 @@ pub const SHEETS: [(&str, &str); 4] = [
         "no name oid must may\n0 c0 2.48.0 2 2\n1 c1 2.4294967295.0 2 4\n",
     ),
     ("none", "no name oid must may\n"),
-    ("range", "refused 25 1 2\n"),
+    ("range", "refused 38 2 5\n"),
     ("unreadable", "refused 4 0 4\n"),
 ];
 
@@ -58,10 +58,12 @@ pub fn listed(name: &str) -> Option<Vec<u8>> {
 pub fn script(name: &str) -> Result<Vec<u8>, String> {
     let mut record = Record::default();
     match name {
-        "places" => places::examples(&mut record),
+        "places" => {
+            places::examples(&mut record);
+            named::examples(&mut record);
+        }
         "rules" => {
             identity::examples(&mut record);
-            named::examples(&mut record);
             values::examples(&mut record);
         }
         "changes" => {

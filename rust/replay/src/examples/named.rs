@@ -1,4 +1,4 @@
-//! Rules 17 to 23: the rows that a class names.
+//! Rules 17 to 23 and 38 to 40: the rows that a class names.
 
 use super::record::Record;
 use super::rows::Row;
@@ -20,6 +20,8 @@ pub fn examples(record: &mut Record) {
     possible_superiors(record);
     row_zero(record);
     categories(record);
+    rule_before_row(record);
+    before_smaller_numbers(record);
     naming_attributes(record);
 }
 
@@ -166,18 +168,72 @@ fn row_zero(record: &mut Record) {
     record.pass(&[Row::class(0).defunct()]);
 }
 
-/// The sixteen pairs: "abstract under a class not abstract; auxiliary under
-/// structural; structural under auxiliary. All else is legal."
+/// The sixteen pairs: "38 is abstract under another kind, 39 auxiliary under
+/// structural, 40 structural under auxiliary" (document 02, wish 3). "All else
+/// is legal."
 fn categories(record: &mut Record) {
-    let wrong = [(2, 0), (2, 1), (2, 3), (3, 1), (1, 3)];
+    let number = |own: u8, above: u8| match (own, above) {
+        (2, 0 | 1 | 3) => Some(38),
+        (3, 1) => Some(39),
+        (1, 3) => Some(40),
+        _ => None,
+    };
     let pairs = (0..4).flat_map(|own| (0..4).map(move |above| (own, above)));
     for (own, above) in pairs {
         let class = Row::class(2).category(own).under(1);
         let rows = [Row::class(0), Row::class(1).category(above), class];
-        match wrong.contains(&(own, above)) {
-            true => record.both(&rows, 2, (21, 2, 2)),
-            false => record.pass(&rows),
+        match number(own, above) {
+            Some(number) => record.both(&rows, 2, (number, 2, 2)),
+            None => record.pass(&rows),
         }
+    }
+}
+
+/// Row 0, structural 1 and auxiliary 2, and classes that do not fit: the own
+/// category and the class above.
+fn misfits(of: &[(u8, u16)]) -> Vec<Row> {
+    let first = [Row::class(0), Row::class(1), Row::class(2).category(3)];
+    let class =
+        |(number, (own, above)): (u16, &(u8, u16))| Row::class(number).category(*own).under(*above);
+    let rest = (3..).zip(of).map(class);
+    first.into_iter().chain(rest).collect()
+}
+
+/// One that breaks 38, 39 and 40 each, as `misfits` takes them.
+const ABSTRACT: (u8, u16) = (2, 1);
+const AUXILIARY: (u8, u16) = (3, 1);
+const STRUCTURAL: (u8, u16) = (1, 2);
+
+/// "in the order given here": the rule is chosen over all rows, then the row.
+fn rule_before_row(record: &mut Record) {
+    let mut breaks = |of: &[(u8, u16)], given| record.rows(&misfits(of), given);
+    breaks(&[STRUCTURAL, (0, 2), ABSTRACT], (38, 2, 5));
+    breaks(&[STRUCTURAL, AUXILIARY, ABSTRACT], (38, 2, 5));
+    breaks(&[AUXILIARY, (2, 2)], (38, 2, 4));
+    breaks(&[STRUCTURAL, AUXILIARY], (39, 2, 4));
+    breaks(&[AUXILIARY, STRUCTURAL], (39, 2, 3));
+    breaks(&[(1, 1), STRUCTURAL, STRUCTURAL], (40, 2, 4));
+    let mut rows = misfits(&[ABSTRACT, AUXILIARY]);
+    rows[0] = rows[0].clone().category(1);
+    record.rows(&rows, (21, 2, 0));
+}
+
+/// 38 to 40 stand "at 21's place in the order .. though their numbers are
+/// higher": behind 18 to 20, before 23 and the attributes' rules.
+fn before_smaller_numbers(record: &mut Record) {
+    for (of, number) in [(ABSTRACT, 38), (AUXILIARY, 39), (STRUCTURAL, 40)] {
+        let wrong = misfits(&[of]);
+        let beside = |row: Row| [&wrong[..], &[row]].concat();
+        let four = Row::class(4);
+        record.rows(&beside(four.clone().under(4)), (18, 2, 4));
+        record.rows(&beside(four.clone().set(0x16, &[1])), (19, 2, 4));
+        record.rows(&beside(four.clone().set(0x19, &[2])), (20, 2, 4));
+        let attributes = [
+            Row::attribute(0).range(2, 1).syntax(9, 65),
+            Row::attribute(1).link(7),
+        ];
+        let all = [&attributes[..], &beside(four.naming(0))].concat();
+        record.rows(&all, (number, 2, 3));
     }
 }
 

@@ -16,6 +16,11 @@ fn superclass(class: usize) -> usize {
     2 + 315 * class + 152
 }
 
+/// Where a class row's category stands.
+fn category(class: usize) -> usize {
+    2 + 315 * class + 151
+}
+
 /// All of them, each from the base schema.
 pub fn examples(record: &mut Record) {
     refused(record);
@@ -26,6 +31,7 @@ pub fn examples(record: &mut Record) {
     demands(record);
     only_the_changed_row(record);
     astray(record);
+    misfits(record);
     demands_as_kept(record);
     union_as_kept(record);
     joined_as_kept(record);
@@ -64,7 +70,8 @@ fn rules(record: &mut Record) {
     record.pass(&base::all());
     number(record, &rename(0x43, 8, b"1"), 12);
     number(record, &rename(0x44, 18, b"A3"), 13);
-    number(record, &range(8, Some(1), Some(1)), 25);
+    number(record, &range(8, Some(2), Some(1)), 25);
+    number(record, &range(8, Some(-2), Some(-3)), 25);
     number(record, &entry(0x49, 18, 0x15, 3), 17);
     number(record, &entry(0x49, 18, 0x17, 7), 18);
     number(record, &entry(0x49, 18, 0x17, 4), 19);
@@ -77,7 +84,10 @@ fn rules(record: &mut Record) {
         &Row::class(19).category(3).set(0x17, &[19]).added(),
         18,
     );
-    number(record, &Row::class(19).category(3).under(4).added(), 21);
+    number(record, &Row::class(19).category(2).under(4).added(), 38);
+    number(record, &Row::class(19).category(2).under(3).added(), 38);
+    number(record, &Row::class(19).category(3).under(4).added(), 39);
+    number(record, &Row::class(19).under(3).added(), 40);
     number(record, &Row::class(19).naming(1).added(), 23);
     number(record, &Row::attribute(15).link(9).added(), 29);
     number(record, &Row::attribute(15).arcs(&[1, 40]).added(), 14);
@@ -103,6 +113,8 @@ fn full(record: &mut Record) {
 fn done(record: &mut Record) {
     record.pass(&base::all());
     record.quick(&range(1, None, Some(3)), (0, 1, 1));
+    record.quick(&range(1, Some(16), Some(16)), (0, 1, 1));
+    record.quick(&range(8, Some(i32::MIN), Some(i32::MIN)), (0, 1, 8));
     record.quick(&rename(0x43, 8, b"A8"), (0, 1, 8));
     record.quick(&rename(0x44, 18, b"eighteen"), (0, 2, 18));
     record.quick(&alter(0x45, 8, &[]), (0, 1, 8));
@@ -126,7 +138,8 @@ fn done(record: &mut Record) {
 /// "An added class gets the union of its superclass's and auxiliaries' kept
 /// sets, its own lists and itself": in order, what is worked out afresh.
 fn added(record: &mut Record) {
-    record.quick(&Row::attribute(15).mapi(9).added(), (0, 1, 15));
+    let row = Row::attribute(15).mapi(9).range(-3, -3);
+    record.quick(&row.added(), (0, 1, 15));
     let class = Row::class(19).under(1).set(0x13, &[8]).set(0x14, &[4]);
     let class = class.set(0x15, &[5]).set(0x16, &[12]).set(0x17, &[15]);
     record.quick(&class.added(), (0, 2, 19));
@@ -190,6 +203,29 @@ fn astray(record: &mut Record) {
     record.poke(1, superclass(0), 5);
     record.quick(&rename(0x44, 8, b"y"), (0, 2, 8));
     number(record, &entry(0x49, 0, 0x15, 8), 18);
+}
+
+/// A row that breaks 38, 39 or 40: behind 18, before 22 and 30, though their
+/// numbers are smaller; 12 before all. Another row's do not matter.
+fn misfits(record: &mut Record) {
+    record.pass(&base::all());
+    number(record, &entry(0x49, 8, 0x17, 13), 30);
+    for (above, own, rule) in [(1, 2, 38), (0, 2, 38), (1, 3, 39), (3, 1, 40)] {
+        record.poke(1, category(4), above);
+        record.poke(1, category(8), own);
+        number(record, &rename(0x44, 8, b"x"), rule);
+        number(record, &entry(0x49, 8, 0x15, 8), rule);
+        number(record, &entry(0x49, 8, 0x17, 13), rule);
+        number(record, &rename(0x44, 8, b"1"), 12);
+        number(record, &alter(0x46, 8, &[]), rule);
+        record.poke(1, superclass(4), 8);
+        number(record, &rename(0x44, 8, b"x"), rule);
+        record.poke(1, superclass(8), 9);
+        number(record, &rename(0x44, 8, b"x"), 18);
+        record.quick(&rename(0x44, 18, b"y"), (0, 2, 18));
+        record.poke(1, superclass(4), 0);
+        record.poke(1, superclass(8), 4);
+    }
 }
 
 /// "Rule 30 for an added auxiliary holds exactly when its kept mandatory set is
@@ -291,7 +327,15 @@ fn without_a_row(record: &mut Record) {
 /// at its superclass, itself, is joined.
 fn first_class(record: &mut Record) {
     record.pass(&[]);
+    for wrong in [0, 1, 3] {
+        number(record, &Row::class(0).category(wrong).added(), 21);
+    }
     record.quick(&Row::class(0).added(), (0, 2, 0));
+    record.poke(1, category(0), 1);
+    number(record, &rename(0x44, 0, b"x"), 21);
+    record.quick(&Row::class(1).added(), (0, 2, 1));
+    number(record, &Row::class(2).category(2).added(), 38);
+    record.poke(1, category(0), 2);
     record.audit(PASSED);
     record.pass(&[]);
     record.poke(2, 1, 1);

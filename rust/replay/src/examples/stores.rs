@@ -291,6 +291,9 @@ fn rules_audited(record: &mut Record) {
     audited(1, class_byte(4, 251), 0x20, (19, 2, 4));
     audited(1, class_byte(4, 283), 0x04, (20, 2, 4));
     audited(1, class_byte(0, 151), 1, (21, 2, 0));
+    audited(1, class_byte(8, 151), 2, (38, 2, 8));
+    audited(1, class_byte(8, 151), 3, (39, 2, 8));
+    audited(1, class_byte(14, 151), 1, (40, 2, 14));
     audited(1, class_byte(1, 154), 1, (23, 2, 1));
     audited(0, attribute_byte(8, 188), 4, (24, 1, 6));
     audited(0, attribute_byte(1, 172), 0x7F, (25, 1, 1));

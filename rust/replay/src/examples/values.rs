@@ -36,13 +36,19 @@ fn taken(record: &mut Record, rule: u64, with: fn(u16, u32) -> Row) {
     record.pass(&[Row::attribute(0), Row::attribute(1)]);
 }
 
-/// P4, P5 and their neighbours: signed, and only where both ends are present.
+/// P4, P5 and their neighbours: signed, only where both ends are present, and
+/// "both negative and equal passes too" (document 02, wish 1).
 fn ranges(record: &mut Record) {
     let row = Row::attribute;
     let (least, most) = (i32::MIN, i32::MAX);
-    for (lower, upper) in [(5, 5), (6, 5), (0, -1), (0, 0), (most, least), (1, 0)] {
+    for (lower, upper) in [(6, 5), (0, -1), (-2, -3), (most, least), (1, 0)] {
         record.both(&[row(0).range(lower, upper)], 0, (25, 1, 0));
     }
+    for end in [5, 16, 0, -3, least, most] {
+        record.pass(&[row(0).range(end, end)]);
+    }
+    record.pass(&[row(0).range(-1, -1).defunct()]);
+    record.rows(&[row(0).range(5, 5), row(1).range(6, 5)], (25, 1, 1));
     for (lower, upper) in [
         (-1, 0),
         (least, most),

@@ -3,7 +3,7 @@
 use super::{Command, Io};
 use crate::arguments::{Arguments, text};
 use crate::failure::Failure;
-use crate::numbers::{Section, section_of, sections, wrapped};
+use crate::numbers::{Section, known, section_of, sections, wrapped};
 
 pub const COMMAND: Command = Command {
     name: "explain",
@@ -29,7 +29,7 @@ fn act(arguments: &Arguments, io: &mut Io) -> Result<(), Failure> {
     let [word] = arguments.exactly(COMMAND.usage)?;
     let word = text(word)?;
     let section = word.parse().ok().and_then(section_of);
-    let unknown = || Failure::unusable(format!("{word}: no such number; there are 0 to 31"));
+    let unknown = || Failure::unusable(format!("{word}: no such number; there are {}", known()));
     let section = section.ok_or_else(unknown)?;
     let meaning = wrapped(&section.meaning, "  ", 80);
     let advice = wrapped(&format!("Do: {}", section.advice), "  ", 80);

@@ -1,5 +1,5 @@
-//! Which rows break a rule, 12 to 29, after the keeper has said that this row
-//! does.
+//! Which rows break a rule, 12 to 29 or 38 to 40, after the keeper has said that
+//! this row does.
 
 use super::named::named;
 use crate::rows::{Attribute, Class, Common, List, RowId, Schema, Table};
@@ -105,19 +105,23 @@ fn class(number: u64, schema: &Schema, at: usize, row: &Class) -> Option<String>
         18 => not_live(schema, at, row, Table::Classes),
         19 => misfits(schema, row, auxiliaries, &[0, 3]),
         20 => misfits(schema, row, superiors, &[0, 1]),
-        21 => category(schema, at, row),
+        21 => Some(root(row)),
+        38..=40 => category(schema, row),
         22 => Some("its superclasses do not lead to class 0".to_owned()),
         23 => naming(schema, row),
         _ => None,
     }
 }
 
-/// A category that does not fit under the superclass's.
-fn category(schema: &Schema, at: usize, row: &Class) -> Option<String> {
+/// Class 0 of another category than abstract.
+fn root(row: &Class) -> String {
     let own = row.category_word();
-    if at == 0 {
-        return Some(format!("it is {own}, and class 0 must be abstract"));
-    }
+    format!("it is {own}, and class 0 must be abstract")
+}
+
+/// A category that does not fit under the superclass's.
+fn category(schema: &Schema, row: &Class) -> Option<String> {
+    let own = row.category_word();
     let above = schema
         .classes
         .get(usize::from(row.superclass))?

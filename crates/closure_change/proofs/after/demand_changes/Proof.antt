@@ -1,4 +1,5 @@
 use mathlib.Core.Path.{_∙_, ap, sym, subst}
+use Rattle.schema.specs.NumbersLaws.{class-is, class-beyond}
 use Rattle.schema.specs.Numbers.{classLimit}
 use Rattle.schema.specs.Store.{tableIn}
 use Rattle.schema.specs.declared.number.TableId.the-variants.{Classes}
@@ -7,6 +8,7 @@ use Prim.Native.Nat.{_<_}
 use mathlib.Core.Bool.{not}
 use Rattle.prelude.specs.Part.{sameBytes}
 use Rattle.graph.specs.Graph.{demandedSet}
+use native.Mathlib.Omega.{arith}
 use borrow.Author.Needs.{needs}
 use Rattle.closure_change.proofs.after.demand_changes.Statement.{statement}
 use Rattle.closure_change.proofs.after.demand_changes.Tie as tie
@@ -29,6 +31,35 @@ enum-told-5 c = search needs
 enum-told-6 : tie.Need-enum-told-6
 enum-told-6 c = search needs
 
+target-of-requires : tie.Need-target-of-requires
+target-of-requires c κs = search needs
+
+cast-new : tie.Need-cast-new
+cast-new c = search needs
+
+new-requires : tie.Need-new-requires
+new-requires c κs = search needs
+
+enum-known-k : tie.Need-enum-known-k
+enum-known-k c = search needs
+
+enum-told-7 : tie.Need-enum-told-7
+enum-told-7 c = search needs
+
+returns : tie.Need-returns
+returns c =
+    let c₁ = c .before .before in
+    let c₂ = c₁ .before in
+    let c₃ = c₂ .before in
+    let start = c₃ .before .before .before .before .before .before in
+    absurd (omega (
+      arith,
+      class-beyond (c₂ .target-of .result) (sym (c₁ .new .ensures)
+          ∙ c .enum-told7 .given .1),
+      c₂ .target-of .ensures,
+      start .pre .target (c₃ .enum-told6 .given .1),
+    ))
+
 list-of-requires : tie.Need-list-of-requires
 list-of-requires c κs = search needs
 
@@ -38,41 +69,54 @@ entry-of-requires c κs = search needs
 cast-entry-demands : tie.Need-cast-entry-demands
 cast-entry-demands c = search needs
 
-target-of-requires : tie.Need-target-of-requires
-target-of-requires c κs = search needs
-
-cast-t11 : tie.Need-cast-t11
-cast-t11 c = search needs
-
 entry-demands-requires : tie.Need-entry-demands-requires
 entry-demands-requires c κs =
     let c₁ = c .before in
-    let c₂ = c₁ .before in
-    let c₃ = c₂ .before in
-    let start = c₃ .before .before .before .before .before .before in (
+    let c₂ = c₁ .before .before in
+    let c₃ = c₂ .before .before in
+    let c₄ = c₃ .before in
+    let c₅ = c₄ .before in
+    let start = c₅ .before .before .before .before .before .before in
+    let w = class-is (c₄ .target-of .result) _ (sym (c₃ .new .ensures) ∙ c₂ .k .given .1) in (
       start .pre .long,
-      λ e. subst (λ x. x < classLimit) (sym (c₁ .entry-of .ensures)) (start .pre .entry (c₃ .enum-told6 .given .1) (sym
-          (c₂ .list-of .ensures) ∙ e)),
-      subst (λ x. x < classLimit) (sym (c .target-of .ensures)) (start .pre .target (c₃ .enum-told6 .given .1)),
+      λ e. subst (λ x. x < classLimit) (sym (c .entry-of .ensures)) (start .pre .entry (c₅ .enum-told6 .given .1) (sym (c₁ .list-of .ensures) ∙ e)),
+      omega (arith, w .0, w .1),
     )
 
-enum-told-7 : tie.Need-enum-told-7
-enum-told-7 c = search needs
+enum-told-8 : tie.Need-enum-told-8
+enum-told-8 c = search needs
 
 target-of-requires-2 : tie.Need-target-of-requires-2
 target-of-requires-2 c κs = search needs
 
-cast-t14 : tie.Need-cast-t14
-cast-t14 c = search needs
+cast-new-2 : tie.Need-cast-new-2
+cast-new-2 c = search needs
+
+new-requires-2 : tie.Need-new-requires-2
+new-requires-2 c κs = search needs
+
+enum-known-k-2 : tie.Need-enum-known-k-2
+enum-known-k-2 c = search needs
+
+enum-told-9 : tie.Need-enum-told-9
+enum-told-9 c = search needs
+
+returns-2 : tie.Need-returns-2
+returns-2 c =
+    let c₁ = c .before .before in
+    let c₂ = c₁ .before in
+    let c₃ = c₂ .before in
+    let start = c₃ .before .before .before .before .before .before in
+    absurd (omega (
+      arith,
+      class-beyond (c₂ .target-of2 .result) (sym (c₁ .new2 .ensures)
+          ∙ c .enum-told9 .given .1),
+      c₂ .target-of2 .ensures,
+      start .pre .removed (c₃ .enum-told8 .given .1),
+    ))
 
 demand-differs-requires : tie.Need-demand-differs-requires
 demand-differs-requires c κs = search needs
-
-returns : tie.Need-returns
-returns c = search needs
-
-returns-2 : tie.Need-returns-2
-returns-2 c = search needs
 
 returns-3 : tie.Need-returns-3
 returns-3 c = search needs
@@ -84,22 +128,34 @@ returns-5 : tie.Need-returns-5
 returns-5 c = search needs
 
 returns-6 : tie.Need-returns-6
-returns-6 c =
+returns-6 c = search needs
+
+returns-7 : tie.Need-returns-7
+returns-7 c = search needs
+
+returns-8 : tie.Need-returns-8
+returns-8 c =
     let c₁ = c .before in
     let c₂ = c₁ .before in
+    let c₃ = c₂ .before .before in
+    let c₄ = c₃ .before .before in
+    let c₅ = c₄ .before in
+    let c₆ = c₅ .before in
+    let start = c₆ .before .before .before .before .before .before in
+    let w = class-is (c₅ .target-of .result) _ (sym (c₄ .new .ensures) ∙ c₃ .k .given .1) in
+    rw (c₆ .enum-told6 .given .1) (c .entry-demands .ensures ∙ entry-same (c₂ .list-of .ensures) (c₁ .entry-of .ensures) (sym (w .0) ∙ c₅ .target-of .ensures)
+    (start .args .closure .now))
+
+returns-9 : tie.Need-returns-9
+returns-9 c =
+    let c₁ = c .before .before in
+    let c₂ = c₁ .before .before in
     let c₃ = c₂ .before in
     let c₄ = c₃ .before in
     let start = c₄ .before .before .before .before .before .before in
-    rw (c₄ .enum-told6 .given .1) (c .entry-demands .ensures ∙ entry-same (c₃ .list-of .ensures) (c₂ .entry-of .ensures) (c₁ .target-of .ensures)
-    (start .args .closure .now))
-
-returns-7 : tie.Need-returns-7
-returns-7 c =
-    let c₁ = c .before in
-    let c₂ = c₁ .before in
-    let start = c₂ .before .before .before .before .before .before in
-    rw (c₂ .enum-told7 .given .1) (c .demand-differs .ensures ∙ ap (λ k. not (sameBytes (start .args .before .now) (demandedSet (tableIn Classes
-    (start .args .classes .now)) k))) (c₁ .target-of2 .ensures))
+    let w = class-is (c₃ .target-of2 .result) _ (sym (c₂ .new2 .ensures) ∙ c₁ .k2 .given .1) in
+    rw (c₄ .enum-told8 .given .1) (c .demand-differs .ensures ∙ ap (λ k. not (sameBytes (start .args .before .now) (demandedSet (tableIn Classes
+    (start .args .classes .now)) k))) (sym (w .0) ∙ c₃ .target-of2 .ensures))
 
 pub demand-changes-spec : {M : Type 1} → statement M
 demand-changes-spec =
@@ -111,20 +167,28 @@ demand-changes-spec =
     enum-told-4
     enum-told-5
     enum-told-6
+    target-of-requires
+    cast-new
+    new-requires
+    enum-known-k
+    enum-told-7
+    returns
     list-of-requires
     entry-of-requires
     cast-entry-demands
-    target-of-requires
-    cast-t11
     entry-demands-requires
-    enum-told-7
+    enum-told-8
     target-of-requires-2
-    cast-t14
-    demand-differs-requires
-    returns
+    cast-new-2
+    new-requires-2
+    enum-known-k-2
+    enum-told-9
     returns-2
+    demand-differs-requires
     returns-3
     returns-4
     returns-5
     returns-6
-    returns-7)
+    returns-7
+    returns-8
+    returns-9)

@@ -31,8 +31,8 @@ part-of-requires c κs =
 has-requires : tie.Need-has-requires
 has-requires c κs = search needs
 
-mul-at : tie.Need-mul-at
-mul-at c = search needs
+closure-start-requires : tie.Need-closure-start-requires
+closure-start-requires c κs = search needs
 
 add-end : tie.Need-add-end
 add-end c = search needs
@@ -56,16 +56,17 @@ returns : tie.Need-returns
 unfolding passedRow
 returns c =
     let c₁ = c .before .before in
-    let c₂ = c₁ .before .before .before in
+    let s = c₁ .before .before in
+    let c₂ = s .before in
     let c₃ = c₂ .before in
     let c₄ = c₃ .before in
     let c₅ = c₄ .before in
     let start = c₅ .before .before .before .before in
-    row-lent-back (start .args .c .0) _ _ (start .args .closure .now) _ (union (closureAt (start .args .closure .now) (start .args .c .0))
-    (start .args .own .now)) refl refl (union-length _ _ ∙ row-length 0 closureWidth classLimit (start .args .c .0) (start .args .closure .now) (omega
-    (arith, start .pre .0)) (start .pre .1)) (c₁ .join .ensures ∙ ap (λ (row : List ℕ). union row (start .args .own .now)) (row-lent (start .args .c .0) _ _
-    (start .args .closure .now) refl refl)) ∙ ap (λ (q : Bool). splice (closureWidth * start .args .c .0) (cond q (union (closureAt
-    (start .args .closure .now) (start .args .c .0)) (start .args .own .now)) (closureAt (start .args .closure .now) (start .args .c .0)))
+    let row = closureAt (start .args .closure .now) (start .args .c .0) in
+    row-lent-back (start .args .c .0) _ _ (start .args .closure .now) _ (union row (start .args .own .now)) (s .closure-start .ensures) refl (union-length _ _
+    ∙ row-length 0 closureWidth classLimit (start .args .c .0) (start .args .closure .now) (omega (arith, start .pre .0)) (start .pre .1))
+    (c₁ .join .ensures ∙ ap (λ (r : List ℕ). union r (start .args .own .now)) (row-lent (start .args .c .0) _ _ (start .args .closure .now)
+    (s .closure-start .ensures) refl)) ∙ ap (λ (q : Bool). splice (closureWidth * start .args .c .0) (cond q (union row (start .args .own .now)) row)
     (start .args .closure .now)) (sym (passed-test _ _ (start .args .k) _ _ (c₅ .closure-row .ensures) (c₄ .part-of .ensures) (c₃ .has .ensures)
     ∙ c₂ .if1 .taken))
 
@@ -91,7 +92,7 @@ pass-to-spec =
     closure-row-requires
     part-of-requires
     has-requires
-    mul-at
+    closure-start-requires
     add-end
     sub-join
     part-join-start

@@ -7,8 +7,8 @@ use borrow.Author.Needs.{needs}
 use Rattle.graph.proofs.stages.write_first_at.Statement.{statement}
 use Rattle.graph.proofs.stages.write_first_at.Tie as tie
 
-mul-at : tie.Need-mul-at
-mul-at c = search needs
+closure-start-requires : tie.Need-closure-start-requires
+closure-start-requires c κs = search needs
 
 add-end : tie.Need-add-end
 add-end c = search needs
@@ -31,15 +31,17 @@ same-length c = search needs
 returns : tie.Need-returns
 returns c =
     let c₁ = c .before .before in
-    let start = c₁ .before .before .before .before .before in
+    let c₂ = c₁ .before .before in
+    let start = c₂ .before .before .before in
     row-lent-back (start .args .c .0) _ _ (start .args .closure .now) _ (stageRow (tableIn Classes (start .args .classes .now)) 0
-    (start .args .c .0)) refl refl (stage-length (tableIn Classes (start .args .classes .now)) 0 (start .args .c .0)) (c₁ .write-first .ensures)
+    (start .args .c .0)) (c₂ .closure-start .ensures) refl (stage-length (tableIn Classes (start .args .classes .now)) 0 (start .args .c .0))
+    (c₁ .write-first .ensures)
 
 pub write-first-at-spec : {M : Type 1} → statement M
 write-first-at-spec =
     tie.close
     (tie.spec
-    mul-at
+    closure-start-requires
     add-end
     sub-write-first
     part-write-first-start

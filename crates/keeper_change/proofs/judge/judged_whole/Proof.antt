@@ -2,9 +2,10 @@ use mathlib.Core.List.{[]}
 use mathlib.Core.Path.{_∙_, ap, sym}
 use borrow.Author.Needs.{needs}
 use Rattle.keeper_change.proofs.judge.judged_whole.Statement.{statement}
-use Rattle.prelude.specs.FirstLaws.{append-first, append-second, first-hit, first-miss, first-none, rising-nonzero}
-use Rattle.rules.specs.Judge.{brokenCases}
-use Rattle.rules.specs.JudgeLaws.{judged-number, rising}
+use Rattle.prelude.specs.FirstLaws.{append-first, append-second, first-hit, first-miss, first-none}
+use Rattle.rules.specs.Judge.{broken, brokenCases}
+use Rattle.rules.specs.JudgeLaws.{judged-number}
+use Rattle.rules.specs.RulesLaws.{nonzero}
 use Rattle.rules.specs.Rules.{schemaRules}
 use Rattle.keeper_change.specs.Judged.{judgedWhole}
 use Rattle.schema.specs.Store.{schemaIn}
@@ -34,8 +35,7 @@ returns-2 c =
     let c₃ = c₂ .before in
     let start = c₃ .before .before .before .before in
     sym (append-second (brokenCases (schemaRules (start .args .added)) (schemaIn (start .args .attributes .now) (start .args .classes .now))) _
-    (rising-nonzero 0 (brokenCases (schemaRules (start .args .added)) (schemaIn (start .args .attributes .now) (start .args .classes .now)))
-    (rising (start .args .added) (schemaIn (start .args .attributes .now) (start .args .classes .now)))) (sym (judged-number
+    (nonzero (start .args .added) (broken (schemaIn (start .args .attributes .now) (start .args .classes .now)))) (sym (judged-number
     (start .args .added) (schemaIn (start .args .attributes .now) (start .args .classes .now))) ∙ sym (ap (λ a. a .number)
     (c₃ .judge .ensures)) ∙ c₂ .if1 .left) ∙ first-hit _ [] (sym (c₁ .demands-differ .ensures) ∙ c .if2 .taken))
 
@@ -47,8 +47,7 @@ returns-3 c =
     let c₃ = c₂ .before in
     let start = c₃ .before .before .before .before in
     sym (append-second (brokenCases (schemaRules (start .args .added)) (schemaIn (start .args .attributes .now) (start .args .classes .now))) _
-    (rising-nonzero 0 (brokenCases (schemaRules (start .args .added)) (schemaIn (start .args .attributes .now) (start .args .classes .now)))
-    (rising (start .args .added) (schemaIn (start .args .attributes .now) (start .args .classes .now)))) (sym (judged-number
+    (nonzero (start .args .added) (broken (schemaIn (start .args .attributes .now) (start .args .classes .now)))) (sym (judged-number
     (start .args .added) (schemaIn (start .args .attributes .now) (start .args .classes .now))) ∙ sym (ap (λ a. a .number)
     (c₃ .judge .ensures)) ∙ c₂ .if1 .left) ∙ first-miss _ [] (sym (c₁ .demands-differ .ensures) ∙ c .if2 .left) ∙ first-none)
 

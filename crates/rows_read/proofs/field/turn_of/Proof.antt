@@ -14,8 +14,8 @@ returns c =
     turn-end (start .args .s .now) (start .args .column) (start .args .at) (start .args .end) (field-end (start .args .s .now) (start .args .at)
     (start .args .end) (c .if1 .taken)) refl
 
-field-at-requires : tie.Need-field-at-requires
-field-at-requires c κs = search needs
+field-within-requires : tie.Need-field-within-requires
+field-within-requires c κs = search needs
 
 enum-known-tag : tie.Need-enum-known-tag
 enum-known-tag c = search needs
@@ -25,20 +25,20 @@ returns-2 c =
     let c₁ = c .before in
     let c₂ = c₁ .before in
     let start = c₂ .before .before in
-    turn-cut (start .args .s .now) (start .args .column) (start .args .at) (start .args .end) (c₂ .if1 .left) _ (c₁ .field-at .ensures) (c .match .keys2)
+    turn-cut (start .args .s .now) (start .args .column) (start .args .at) (start .args .end) (c₂ .if1 .left) _ (c₁ .field-within .ensures) (c .match .keys2)
 
 returns-3 : tie.Need-returns-3
 returns-3 c =
     let c₁ = c .before .before .before in
     let c₂ = c₁ .before .before in
     let start = c₂ .before .before .before in
-    turn-other (start .args .s .now) (start .args .column) (start .args .at) (start .args .end) (c₂ .field-at .ensures) (c₁ .tag .given .1) (c .if2 .taken)
+    turn-other (start .args .s .now) (start .args .column) (start .args .at) (start .args .end) (c₂ .field-within .ensures) (c₁ .tag .given .1) (c .if2 .taken)
 
 value-of-requires : tie.Need-value-of-requires
 value-of-requires c κs =
     let c₁ = c .before .before .before in
     let c₂ = c₁ .before .before in
-    let w = field-is _ _ _ _ _ _ (sym (c₂ .field-at .ensures) ∙ c₁ .tag .given .1) in
+    let w = field-is _ _ _ _ _ _ (sym (c₂ .field-within .ensures) ∙ c₁ .tag .given .1) in
     omega (arith, w)
 
 takes-requires : tie.Need-takes-requires
@@ -52,7 +52,7 @@ returns-4 c =
     let c₄ = c₃ .before .before .before in
     let c₅ = c₄ .before .before in
     let start = c₅ .before .before .before in
-    turn-taken (start .args .s .now) (start .args .column) (start .args .at) (start .args .end) (c₅ .field-at .ensures) (c₄ .tag .given .1) (c₃ .if2 .left)
+    turn-taken (start .args .s .now) (start .args .column) (start .args .at) (start .args .end) (c₅ .field-within .ensures) (c₄ .tag .given .1) (c₃ .if2 .left)
     (sym (c₁ .takes .ensures ∙ ap (takes (start .args .column)) (c₂ .value-of .ensures)) ∙ c .if3 .taken)
 
 returns-5 : tie.Need-returns-5
@@ -63,7 +63,7 @@ returns-5 c =
     let c₄ = c₃ .before .before .before in
     let c₅ = c₄ .before .before in
     let start = c₅ .before .before .before in
-    turn-refused (start .args .s .now) (start .args .column) (start .args .at) (start .args .end) (c₅ .field-at .ensures) (c₄ .tag .given .1)
+    turn-refused (start .args .s .now) (start .args .column) (start .args .at) (start .args .end) (c₅ .field-within .ensures) (c₄ .tag .given .1)
     (c₃ .if2 .left) (sym (c₁ .takes .ensures ∙ ap (takes (start .args .column)) (c₂ .value-of .ensures)) ∙ c .if3 .left)
 
 pub turn-of-spec : {M : Type 1} → statement M
@@ -71,7 +71,7 @@ turn-of-spec =
     tie.close
     (tie.spec
     returns
-    field-at-requires
+    field-within-requires
     enum-known-tag
     returns-2
     returns-3

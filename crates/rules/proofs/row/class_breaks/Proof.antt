@@ -36,6 +36,15 @@ category-wrong-requires-2 c κs =
 inheritance-wrong-requires : tie.Need-inheritance-wrong-requires
 inheritance-wrong-requires c κs = search needs
 
+inheritance-wrong-requires-2 : tie.Need-inheritance-wrong-requires-2
+inheritance-wrong-requires-2 c κs = search needs
+
+inheritance-wrong-requires-3 : tie.Need-inheritance-wrong-requires-3
+inheritance-wrong-requires-3 c κs = search needs
+
+inheritance-wrong-requires-4 : tie.Need-inheritance-wrong-requires-4
+inheritance-wrong-requires-4 c κs = search needs
+
 chain-wrong-requires : tie.Need-chain-wrong-requires
 chain-wrong-requires c κs = search needs
 
@@ -63,23 +72,35 @@ returns-4 c = let c₁ = c .before in let c₂ = c₁ .before in rw (c₁ .match
 
 returns-5 : tie.Need-returns-5
 unfolding numbered
-returns-5 c = rw (c .before .match .keys5) (c .inheritance-wrong .ensures)
+returns-5 c = let c₁ = c .before in rw (c₁ .match .keys5) (rw (c₁ .match .keys5) at (c .inheritance-wrong .ensures))
 
 returns-6 : tie.Need-returns-6
 unfolding numbered
-returns-6 c = rw (c .before .match .keys6) (c .chain-wrong .ensures)
+returns-6 c = let c₁ = c .before in rw (c₁ .match .keys6) (rw (c₁ .match .keys6) at (c .inheritance-wrong2 .ensures))
 
 returns-7 : tie.Need-returns-7
 unfolding numbered
-returns-7 c = let c₁ = c .before in let c₂ = c₁ .before in rw (c₁ .match .keys7, ← (c₂ .class-row .ensures)) (c .naming-wrong .ensures)
+returns-7 c = let c₁ = c .before in rw (c₁ .match .keys7) (rw (c₁ .match .keys7) at (c .inheritance-wrong3 .ensures))
 
 returns-8 : tie.Need-returns-8
-returns-8 c =
+unfolding numbered
+returns-8 c = let c₁ = c .before in rw (c₁ .match .keys8) (rw (c₁ .match .keys8) at (c .inheritance-wrong4 .ensures))
+
+returns-9 : tie.Need-returns-9
+unfolding numbered
+returns-9 c = rw (c .before .match .keys9) (c .chain-wrong .ensures)
+
+returns-10 : tie.Need-returns-10
+unfolding numbered
+returns-10 c = let c₁ = c .before in let c₂ = c₁ .before in rw (c₁ .match .keys10, ← (c₂ .class-row .ensures)) (c .naming-wrong .ensures)
+
+returns-11 : tie.Need-returns-11
+returns-11 c =
     let start = c .before .before .before .before in
     sym
     (numbered-unlike (λ r. r .breaks (schemaIn (start .args .attributes .now) (start .args .classes .now)) Classes (start .args .c .0)) (λ n. refl)
-    (refusal.namingUnfit ∷ refusal.chainAstray ∷ refusal.categoryMisfit ∷ refusal.notASuperior ∷ refusal.notAnAuxiliary ∷ refusal.classNotLive ∷
-    refusal.attributeNotLive ∷ [])
+    (refusal.namingUnfit ∷ refusal.chainAstray ∷ refusal.structuralUnderAuxiliary ∷ refusal.auxiliaryUnderStructural ∷ refusal.abstractUnderOther ∷
+    refusal.rootNotAbstract ∷ refusal.notASuperior ∷ refusal.notAnAuxiliary ∷ refusal.classNotLive ∷ refusal.attributeNotLive ∷ [])
     commonNumbers (schemaRules (start .args .added)) (start .args .number) (c .match .rest) (start .pre .2) (unfold strays among in refl))
 
 pub class-breaks-spec : {M : Type 1} → statement M
@@ -92,6 +113,9 @@ class-breaks-spec =
     category-wrong-requires
     category-wrong-requires-2
     inheritance-wrong-requires
+    inheritance-wrong-requires-2
+    inheritance-wrong-requires-3
+    inheritance-wrong-requires-4
     chain-wrong-requires
     naming-wrong-requires
     returns
@@ -101,4 +125,7 @@ class-breaks-spec =
     returns-5
     returns-6
     returns-7
-    returns-8)
+    returns-8
+    returns-9
+    returns-10
+    returns-11)

@@ -1,7 +1,9 @@
 use Rattle.rules_unique.proofs.Places.{Apart, Marked, apart-more, marked-more, none-taken, one-taken, place-there}
 use Rattle.rules_unique.specs.Marks.{keyMark, marksWidth, met, placeCount, placeId}
 use Rattle.rules_unique.specs.Unique.{everyRow, taken}
-use Rattle.schema.specs.Store.{table}
+use Rattle.rules_unique.specs.UniqueLaws.{schema-keyed}
+use Rattle.tables.specs.ShapedLaws.{shaped-within}
+use Rattle.schema.specs.Store.{schemaIn, table}
 use Rattle.schema.specs.Numbers.{tableOf, numberOf}
 use Rattle.schema.specs.declared.number.RowId.{RowId}
 use Rattle.sets.specs.SetsLaws.{with-length}
@@ -11,7 +13,6 @@ use lib.ListN.{length}
 use Prim.Native.Nat.{ℕ, _≤_, _<_, _-_}
 use mathlib.Core.Path.{_≡_, sym, ap, subst, _∙_}
 use mathlib.Core.Bool.{true, false, _&&_}
-use Rattle.schema.specs.Store.{schemaIn}
 use native.Mathlib.Omega.{arith}
 use borrow.Author.Needs.{needs}
 use Rattle.rules_unique.proofs.marks.any_repeated.Statement.{statement}
@@ -42,23 +43,51 @@ loop-holds c =
 id-at-requires : tie.Need-id-at-requires Inv-loop μ-loop
 id-at-requires c κs = search needs
 
-is-repeated-requires : tie.Need-is-repeated-requires Inv-loop μ-loop
-is-repeated-requires c κs =
+schema-row-requires : tie.Need-schema-row-requires Inv-loop μ-loop
+schema-row-requires c κs =
+    let c₁ = c .before in
+    let c₂ = c₁ .before in
+    let c₃ = c₂ .before in
+    let c₄ = c₃ .before in
+    let start = c₄ .before .before .before .before in
+    let m = (schemaIn (start .args .attributes .now) (start .args .classes .now)) in (
+      start .pre .0 .attributes .long,
+      start .pre .0 .classes .long,
+      shaped-within (start .pre .0) (tableOf (c .id-at .result)) (numberOf (c .id-at .result)) (subst (λ (i : RowId). numberOf i < table
+          (tableOf i) m .count) (sym (c .id-at .ensures ∙ ap (λ (n : ℕ). placeId n (c₂ .loop .p)) (c₄ .row-count .ensures))) (place-there (start .args .key) m
+          (c₂ .loop .p) (omega (arith, c₁ .loop-test .taken, c₃ .place-count .ensures)))),
+    )
+
+key-mark-requires : tie.Need-key-mark-requires Inv-loop μ-loop
+key-mark-requires c κs =
     let c₁ = c .before in
     let c₂ = c₁ .before in
     let c₃ = c₂ .before in
     let c₄ = c₃ .before in
     let c₅ = c₄ .before in
-    let start = c₅ .before .before .before .before in (
+    let start = c₅ .before .before .before .before in
+    let m = (schemaIn (start .args .attributes .now) (start .args .classes .now)) in
+    rw (c .schema-row .ensures) (schema-keyed (start .pre .0) (tableOf (c₁ .id-at .result)) (numberOf (c₁ .id-at .result)) (subst (λ
+    (i : RowId). numberOf i < table (tableOf i) m .count) (sym (c₁ .id-at .ensures ∙ ap (λ (n : ℕ). placeId n (c₃ .loop .p)) (c₅ .row-count .ensures)))
+    (place-there (start .args .key) m (c₃ .loop .p) (omega (arith, c₂ .loop-test .taken, c₄ .place-count .ensures)))))
+
+is-repeated-requires : tie.Need-is-repeated-requires Inv-loop μ-loop
+is-repeated-requires c κs =
+    let c₁ = c .before .before .before in
+    let c₂ = c₁ .before in
+    let c₃ = c₂ .before in
+    let c₄ = c₃ .before in
+    let c₅ = c₄ .before in
+    let start = c₅ .before .before .before .before in
+    let m = (schemaIn (start .args .attributes .now) (start .args .classes .now)) in (
       start .pre .0,
-      subst (λ (i : RowId). numberOf i < table (tableOf i) (schemaIn (start .args .attributes .now) (start .args .classes .now)) .count) (sym
-          (c₁ .id-at .ensures ∙ ap (λ (n : ℕ). placeId n (c₃ .loop .p)) (c₅ .row-count .ensures))) (place-there (start .args .key) (schemaIn
-          (start .args .attributes .now) (start .args .classes .now)) (c₃ .loop .p) (omega (arith, c₂ .loop-test .taken, c₄ .place-count .ensures))),
+      (subst (λ (i : RowId). numberOf i < table (tableOf i) m .count) (sym (c₁ .id-at .ensures ∙ ap (λ (n : ℕ). placeId n (c₃ .loop .p))
+          (c₅ .row-count .ensures))) (place-there (start .args .key) m (c₃ .loop .p) (omega (arith, c₂ .loop-test .taken, c₄ .place-count .ensures)))),
     )
 
 same-length : tie.Need-same-length Inv-loop μ-loop
 same-length c =
-    let c₁ = c .before .before .before .before .before in
+    let c₁ = c .before .before .before .before .before .before .before in
     let start = c₁ .before .before .before .before .before .before in
     c₁ .loop .inv .1 ∙ sym (ap length (start .pre .1) ∙ zeros-length marksWidth)
 
@@ -70,26 +99,19 @@ returns c =
     let c₄ = c₃ .before in
     let c₅ = c₄ .before in
     let c₆ = c₅ .before in
-    let start = c₆ .before .before .before .before in
-    sym (one-taken (start .args .key) (schemaIn (start .args .attributes .now) (start .args .classes .now)) (c₄ .loop .p) (c₄ .loop .marks) (omega
-    (arith, c₃ .loop-test .taken, c₅ .place-count .ensures)) (subst (λ (i : RowId). (met (start .args .key) (table (tableOf i) (schemaIn
-    (start .args .attributes .now) (start .args .classes .now)) .row (numberOf i)) (c₄ .loop .marks) && taken everyRow (start .args .key) (schemaIn
-    (start .args .attributes .now) (start .args .classes .now)) (tableOf i) (numberOf i)) ≡ true) (c₂ .id-at .ensures ∙ ap (λ (n : ℕ). placeId n
-    (c₄ .loop .p)) (c₆ .row-count .ensures)) (sym (c₁ .is-repeated .ensures) ∙ c .if1 .taken)))
+    let c₇ = c₆ .before in
+    let c₈ = c₇ .before in
+    let start = c₈ .before .before .before .before in
+    let m = (schemaIn (start .args .attributes .now) (start .args .classes .now)) in
+    sym (one-taken (start .args .key) m (c₆ .loop .p) (c₆ .loop .marks) (omega (arith, c₅ .loop-test .taken, c₇ .place-count .ensures)) (subst (λ
+    (i : RowId). (met (start .args .key) (table (tableOf i) m .row (numberOf i)) (keyMark (start .args .key) (table (tableOf i) m .row (numberOf i)))
+    (c₆ .loop .marks) && taken everyRow (start .args .key) m (tableOf i) (numberOf i)) ≡ true) (c₄ .id-at .ensures ∙ ap (λ (n : ℕ). placeId n
+    (c₆ .loop .p)) (c₈ .row-count .ensures)) (ap (λ (x : ℕ). met (start .args .key) (table (tableOf (c₄ .id-at .result)) m .row (numberOf
+    (c₄ .id-at .result))) x (c₆ .loop .marks) && taken everyRow (start .args .key) m (tableOf (c₄ .id-at .result)) (numberOf (c₄ .id-at .result))) (sym
+    (c₂ .key-mark .ensures ∙ ap (keyMark (start .args .key)) (c₃ .schema-row .ensures))) ∙ sym (c₁ .is-repeated .ensures) ∙ c .if1 .taken)))
 
-add-mark-requires : tie.Need-add-mark-requires Inv-loop μ-loop
-add-mark-requires c κs =
-    let c₁ = c .before .before .before .before in
-    let c₂ = c₁ .before in
-    let c₃ = c₂ .before in
-    let c₄ = c₃ .before in
-    let c₅ = c₄ .before in
-    let start = c₅ .before .before .before .before in (
-      start .pre .0,
-      subst (λ (i : RowId). numberOf i < table (tableOf i) (schemaIn (start .args .attributes .now) (start .args .classes .now)) .count) (sym
-          (c₁ .id-at .ensures ∙ ap (λ (n : ℕ). placeId n (c₃ .loop .p)) (c₅ .row-count .ensures))) (place-there (start .args .key) (schemaIn
-          (start .args .attributes .now) (start .args .classes .now)) (c₃ .loop .p) (omega (arith, c₂ .loop-test .taken, c₄ .place-count .ensures))),
-    )
+insert-requires : tie.Need-insert-requires Inv-loop μ-loop
+insert-requires c κs = search needs
 
 add-p : tie.Need-add-p Inv-loop μ-loop
 add-p c = search needs
@@ -107,23 +129,24 @@ loop-again c =
     let c₆ = c₅ .before in
     let c₇ = c₆ .before in
     let c₈ = c₇ .before in
-    let start = c₈ .before .before .before .before in
-    let marked = c₁ .add-mark .ensures ∙ ap (λ (i : RowId). withMember (keyMark (start .args .key) (table (tableOf i) (schemaIn
-    (start .args .attributes .now) (start .args .classes .now)) .row (numberOf i))) (c₆ .loop .marks)) (c₄ .id-at .ensures ∙ ap (λ (n : ℕ). placeId n
-    (c₆ .loop .p)) (c₈ .row-count .ensures)) in (
-      omega (arith, c₅ .loop-test .taken),
-      ap length marked ∙ with-length _ (c₆ .loop .marks) ∙ c₆ .loop .inv .1,
+    let c₉ = c₈ .before in
+    let c₁₀ = c₉ .before in
+    let start = c₁₀ .before .before .before .before in
+    let m = (schemaIn (start .args .attributes .now) (start .args .classes .now)) in
+    let marked = c₁ .insert .ensures ∙ ap (λ (x : ℕ). withMember x (c₈ .loop .marks)) (c₄ .key-mark .ensures ∙ ap (keyMark (start .args .key))
+    (c₅ .schema-row .ensures)) ∙ ap (λ (i : RowId). withMember (keyMark (start .args .key) (table (tableOf i) m .row (numberOf i))) (c₈ .loop .marks))
+    (c₆ .id-at .ensures ∙ ap (λ (n : ℕ). placeId n (c₈ .loop .p)) (c₁₀ .row-count .ensures)) in (
+      omega (arith, c₇ .loop-test .taken),
+      ap length marked ∙ with-length _ (c₈ .loop .marks) ∙ c₈ .loop .inv .1,
       (
-        marked-more (start .args .key) (schemaIn
-            (start .args .attributes .now) (start .args .classes .now)) (c₆ .loop .p) (c₆ .loop .marks) _ (c₆ .loop .inv .1) marked
-            (c₆ .loop .inv .2 .0),
-        apart-more (start .args .key) (schemaIn (start .args .attributes .now) (start .args .classes .now)) (c₆ .loop .p)
-            (c₆ .loop .marks) (omega (arith, c₅ .loop-test .taken, c₇ .place-count .ensures)) (c₆ .loop .inv .2 .0) (subst (λ (i : RowId). (met
-            (start .args .key)
-            (table (tableOf i) (schemaIn (start .args .attributes .now) (start .args .classes .now)) .row (numberOf i)) (c₆ .loop .marks) && taken everyRow
-            (start .args .key) (schemaIn (start .args .attributes .now) (start .args .classes .now)) (tableOf i) (numberOf i)) ≡ false)
-            (c₄ .id-at .ensures ∙ ap (λ
-            (n : ℕ). placeId n (c₆ .loop .p)) (c₈ .row-count .ensures)) (sym (c₃ .is-repeated .ensures) ∙ c₂ .if1 .left)) (c₆ .loop .inv .2 .1),
+        marked-more (start .args .key) m (c₈ .loop .p) (c₈ .loop .marks) _ (c₈ .loop .inv .1) marked (c₈ .loop .inv .2 .0),
+        apart-more (start .args .key) m (c₈ .loop .p) (c₈ .loop .marks) (omega (arith, c₇ .loop-test .taken, c₉ .place-count .ensures))
+            (c₈ .loop .inv .2 .0) (subst (λ (i : RowId). (met (start .args .key) (table (tableOf i) m .row (numberOf i)) (keyMark (start .args .key) (table
+            (tableOf i) m .row (numberOf i))) (c₈ .loop .marks) && taken everyRow (start .args .key) m (tableOf i) (numberOf i)) ≡ false) (c₆ .id-at .ensures
+            ∙ ap (λ (n : ℕ). placeId n (c₈ .loop .p)) (c₁₀ .row-count .ensures)) (ap (λ (x : ℕ). met (start .args .key) (table (tableOf
+            (c₆ .id-at .result)) m .row (numberOf (c₆ .id-at .result))) x (c₈ .loop .marks) && taken everyRow (start .args .key) m (tableOf
+            (c₆ .id-at .result)) (numberOf (c₆ .id-at .result))) (sym (c₄ .key-mark .ensures ∙ ap (keyMark (start .args .key)) (c₅ .schema-row .ensures)))
+            ∙ sym (c₃ .is-repeated .ensures) ∙ c₂ .if1 .left)) (c₈ .loop .inv .2 .1),
       ),
     )
 
@@ -138,9 +161,9 @@ returns-2 c =
     let c₁ = c .before in
     let c₂ = c₁ .before in
     let start = c₂ .before .before .before .before .before in
-    let e : placeCount (start .args .key) (schemaIn (start .args .attributes .now) (start .args .classes .now)) ≡ c₁ .loop .p = omega
-    (arith, c₁ .loop .inv .0, c .loop-test .left, c₂ .place-count .ensures) in
-    sym (none-taken (start .args .key) (schemaIn (start .args .attributes .now) (start .args .classes .now)) (rw e (c₁ .loop .inv .2 .1)))
+    let m = (schemaIn (start .args .attributes .now) (start .args .classes .now)) in
+    let e : placeCount (start .args .key) m ≡ c₁ .loop .p = omega (arith, c₁ .loop .inv .0, c .loop-test .left, c₂ .place-count .ensures) in
+    sym (none-taken (start .args .key) m (rw e (c₁ .loop .inv .2 .1)))
 
 pub any-repeated-spec : {M : Type 1} → statement M
 any-repeated-spec =
@@ -152,10 +175,12 @@ any-repeated-spec =
     place-count-requires
     loop-holds
     id-at-requires
+    schema-row-requires
+    key-mark-requires
     is-repeated-requires
     same-length
     returns
-    add-mark-requires
+    insert-requires
     add-p
     loop-less
     loop-again

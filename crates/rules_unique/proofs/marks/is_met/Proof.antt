@@ -13,9 +13,6 @@ returns c =
     let c₁ = c .before in
     rw (sym (c₁ .is-absent .ensures) ∙ c .if1 .taken)
 
-key-mark-requires : tie.Need-key-mark-requires
-key-mark-requires c κs = search needs
-
 has-requires : tie.Need-has-requires
 has-requires c κs = search needs
 
@@ -24,8 +21,7 @@ unfolding met
 returns-2 c =
     let c₁ = c .before in
     let c₂ = c₁ .before in
-    let c₃ = c₂ .before in
-    rw (sym (c₃ .is-absent .ensures) ∙ c₂ .if1 .left, ← (c₁ .key-mark .ensures)) (c .has .ensures)
+    rw (sym (c₂ .is-absent .ensures) ∙ c₁ .if1 .left) (c .has .ensures)
 
 pub is-met-spec : {M : Type 1} → statement M
 is-met-spec =
@@ -33,6 +29,5 @@ is-met-spec =
     (tie.spec
     is-absent-requires
     returns
-    key-mark-requires
     has-requires
     returns-2)

@@ -50,15 +50,15 @@ loop-holds c =
       refl,
     )
 
-is-end-requires : tie.Need-is-end-requires Inv-loop μ-loop
-is-end-requires c κs = search needs
+ends-at-requires : tie.Need-ends-at-requires Inv-loop μ-loop
+ends-at-requires c κs = search needs
 
 take-field-requires : tie.Need-take-field-requires Inv-loop μ-loop
 take-field-requires c κs =
     let c₁ = c .before .before in
     let c₂ = c₁ .before in
     let c₃ = c₂ .before in (
-      (reading-before (c₃ .loop .inv .0) _ (c₂ .is-end .ensures) (c₁ .if1 .taken)),
+      (reading-before (c₃ .loop .inv .0) _ (c₂ .ends-at .ensures) (c₁ .if1 .taken)),
       record {
         lent = c₃ .loop .inv .0 .lent;
         few = held-few
@@ -107,7 +107,7 @@ returns c =
     left-emptied (start .args .s .now) attributes classes _ _ (start .pre) (c₈ .empty .ensures ∙ ap (λ n. splice 0 (zeros n) attributes)
     (c₉ .store-length .ensures)) (c₆ .empty2 .ensures ∙ ap (λ n. splice 0 (zeros n) classes) (c₇ .store-length2 .ensures))
     (λ i. c₁₀ .shared-slice-known .given i .fits)
-    (rw (c .stopped .ensures) (reading-stop (c₅ .loop .inv .0) (reading-before (c₅ .loop .inv .0) _ (c₄ .is-end .ensures) (c₃ .if1 .taken)) _ _ _
+    (rw (c .stopped .ensures) (reading-stop (c₅ .loop .inv .0) (reading-before (c₅ .loop .inv .0) _ (c₄ .ends-at .ensures) (c₃ .if1 .taken)) _ _ _
     (c₂ .take-field .ensures) _ (c₁ .enum-told .given .1)))
 
 loop-less : tie.Need-loop-less Inv-loop μ-loop
@@ -117,9 +117,9 @@ loop-less c =
     let c₃ = c₂ .before .before .before in
     let c₄ = c₃ .before in
     let c₅ = c₄ .before in
-    let f = reading-forward (c₅ .loop .inv .0) (reading-before (c₅ .loop .inv .0) _ (c₄ .is-end .ensures) (c₃ .if1 .taken)) _ _ _ (c₂ .take-field .ensures)
+    let f = reading-forward (c₅ .loop .inv .0) (reading-before (c₅ .loop .inv .0) _ (c₄ .ends-at .ensures) (c₃ .if1 .taken)) _ _ _ (c₂ .take-field .ensures)
     _ _ _ (c₁ .turn .given .1) in
-    omega (arith, f .0, f .1, (reading-before (c₅ .loop .inv .0) _ (c₄ .is-end .ensures) (c₃ .if1 .taken)))
+    omega (arith, f .0, f .1, (reading-before (c₅ .loop .inv .0) _ (c₄ .ends-at .ensures) (c₃ .if1 .taken)))
 
 loop-again : tie.Need-loop-again Inv-loop μ-loop
 loop-again c =
@@ -128,7 +128,7 @@ loop-again c =
     let c₃ = c₂ .before .before .before in
     let c₄ = c₃ .before in
     let c₅ = c₄ .before in (
-      reading-on (c₅ .loop .inv .0) (reading-before (c₅ .loop .inv .0) _ (c₄ .is-end .ensures) (c₃ .if1 .taken)) _ _ _ (c₂ .take-field .ensures) _ _ _
+      reading-on (c₅ .loop .inv .0) (reading-before (c₅ .loop .inv .0) _ (c₄ .ends-at .ensures) (c₃ .if1 .taken)) _ _ _ (c₂ .take-field .ensures) _ _ _
           (c₁ .turn .given .1) (c₂ .take-field .kept .1 .1 .1 .1 .0) (c₂ .take-field .kept .1 .1 .1 .1 .1 .0),
       c₂ .take-field .kept .1 .1 .1 .1 .0 ∙
           c₅ .loop .inv .1,
@@ -163,7 +163,7 @@ returns-2 c =
     left-emptied (start .args .s .now) attributes classes _ _ (start .pre) (c₆ .empty .ensures ∙ ap (λ n. splice 0 (zeros n) attributes)
     (c₇ .store-length .ensures)) (c₄ .empty2 .ensures ∙ ap (λ n. splice 0 (zeros n) classes) (c₅ .store-length2 .ensures))
     (λ i. c₈ .shared-slice-known .given i .fits) (reading-end (c₃ .loop .inv .0) true (c .if2 .taken)
-    (reading-over (c₃ .loop .inv .0) _ (c₂ .is-end .ensures) (c₁ .if1 .left)))
+    (reading-over (c₃ .loop .inv .0) _ (c₂ .ends-at .ensures) (c₁ .if1 .left)))
 
 same-length-5 : tie.Need-same-length-5 Inv-loop μ-loop
 same-length-5 c =
@@ -193,7 +193,7 @@ returns-3 c =
     left-emptied (start .args .s .now) attributes classes _ _ (start .pre) (c₆ .empty .ensures ∙ ap (λ n. splice 0 (zeros n) attributes)
     (c₇ .store-length .ensures)) (c₄ .empty2 .ensures ∙ ap (λ n. splice 0 (zeros n) classes) (c₅ .store-length2 .ensures))
     (λ i. c₈ .shared-slice-known .given i .fits) (reading-end (c₃ .loop .inv .0) false (c .if2 .left)
-    (reading-over (c₃ .loop .inv .0) _ (c₂ .is-end .ensures) (c₁ .if1 .left)))
+    (reading-over (c₃ .loop .inv .0) _ (c₂ .ends-at .ensures) (c₁ .if1 .left)))
 
 pub read-sheet-spec : {M : Type 1} → statement M
 read-sheet-spec =
@@ -206,7 +206,7 @@ read-sheet-spec =
     store-length-requires-2
     empty-requires-2
     loop-holds
-    is-end-requires
+    ends-at-requires
     take-field-requires
     enum-known-turn
     enum-told

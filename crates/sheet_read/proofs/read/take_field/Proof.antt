@@ -11,8 +11,8 @@ use borrow.Author.Needs.{needs}
 use Rattle.sheet_read.proofs.read.take_field.Statement.{statement}
 use Rattle.sheet_read.proofs.read.take_field.Tie as tie
 
-byte-at-requires : tie.Need-byte-at-requires
-byte-at-requires c κs = search needs
+tag-at-requires : tie.Need-tag-at-requires
+tag-at-requires c κs = search needs
 
 sheet-tag-requires : tie.Need-sheet-tag-requires
 sheet-tag-requires c κs = search needs
@@ -47,7 +47,7 @@ returns c =
     let phase = start .args .phase in
     let missing = start .args .missing in
     as-step (takeField s at phase missing) _ (start .args .attributes .now) (start .args .classes .now) (λ x a c′ h. ap (λ turn. step turn x)
-    (c .room-turn .ensures) ∙ step-full s at phase missing h _ (c₃ .sheet-tag .ensures ∙ ap sheetTag (c₄ .byte-at .ensures)) _ (c₂ .room-in .ensures)
+    (c .room-turn .ensures) ∙ step-full s at phase missing h _ (c₃ .sheet-tag .ensures ∙ ap sheetTag (c₄ .tag-at .ensures)) _ (c₂ .room-in .ensures)
     (λ q. (let e = c₁ .enum-told2 .given .1 in let no : _≡_ {A = ℕ} 0 1 = cc in omega arith)))
 
 step-at-requires : tie.Need-step-at-requires
@@ -75,7 +75,7 @@ returns-2 c =
     let phase = start .args .phase in
     let missing = start .args .missing in
     as-step (takeField s at phase missing) _ (start .args .attributes .now) (start .args .classes .now) (λ x a c′ h. step-cut s at phase missing h _
-    (c₄ .sheet-tag .ensures ∙ ap sheetTag (c₅ .byte-at .ensures)) _ (c₃ .room-in .ensures) (c₂ .enum-told .given .1) _
+    (c₄ .sheet-tag .ensures ∙ ap sheetTag (c₅ .tag-at .ensures)) _ (c₃ .room-in .ensures) (c₂ .enum-told .given .1) _
     (step-field s at _ (c₁ .step-at .ensures)) (no-field _ (c .match2 .keys2)))
 
 sheet-tag-requires-2 : tie.Need-sheet-tag-requires-2
@@ -100,7 +100,7 @@ take-tagged-requires c κs =
       (
         begin .pre .1 .lent,
         free-room _ attributes classes (begin .pre .1 .few)
-            (ap (λ g. roomIn g attributes classes) (c₁ .sheet-tag2 .ensures ∙ ap sheetTag (w .tag-is ∙ sym (c₇ .byte-at .ensures)) ∙
+            (ap (λ g. roomIn g attributes classes) (c₁ .sheet-tag2 .ensures ∙ ap sheetTag (w .tag-is ∙ sym (c₇ .tag-at .ensures)) ∙
             sym (c₆ .sheet-tag .ensures)) ∙ sym (c₅ .room-in .ensures) ∙ c₄ .enum-told .given .1),
       ),
     )
@@ -128,14 +128,14 @@ returns-3 c =
     let missing = start .args .missing in
     same-step (takeTagged (c₂ .sheet-tag2 .result) s at phase missing (c₃ .field .given .0 .1 .0) (c₃ .field .given .0 .1 .1 .0))
     (takeField s at phase missing) (λ x a c′ h. ap (λ tag. takeTagged tag s at phase missing (c₃ .field .given .0 .1 .0) (c₃ .field .given .0 .1 .1 .0) x)
-    (c₂ .sheet-tag2 .ensures) ∙ step-whole s at phase missing h _ (c₇ .sheet-tag .ensures ∙ ap sheetTag (c₈ .byte-at .ensures)) _ (c₆ .room-in .ensures)
+    (c₂ .sheet-tag2 .ensures) ∙ step-whole s at phase missing h _ (c₇ .sheet-tag .ensures ∙ ap sheetTag (c₈ .tag-at .ensures)) _ (c₆ .room-in .ensures)
     (c₅ .enum-told .given .1) _ _ _ _ (step-field s at _ (c₄ .step-at .ensures)) (c₃ .field .given .1)) (c₁ .take-tagged .ensures)
 
 pub take-field-spec : {M : Type 1} → statement M
 take-field-spec =
     tie.close
     (tie.spec
-    byte-at-requires
+    tag-at-requires
     sheet-tag-requires
     room-in-requires
     enum-told
