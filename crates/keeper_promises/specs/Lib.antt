@@ -19,8 +19,6 @@ pub mod ThirtyLaws
 pub mod QuickSetsLaws
 pub mod QuickAnswers
 pub mod QuickAnswersLaws
-pub mod NoChain
-pub mod NoChainLaws
 pub mod Promises
 pub mod Demand3
 pub mod Demand3Laws

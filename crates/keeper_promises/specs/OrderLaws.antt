@@ -101,7 +101,7 @@ module _ (s : Stores) where
     unfolding audit
     in-shape = append-passed (shapeAnswers s) deeper passed (passed-shape s (has-shape long shape))
 
-    pub audit-judged : ¬ Meets Nothing (schemaOf s) → audit s ≡ verdict
+    audit-judged : ¬ Meets Nothing (schemaOf s) → audit s ≡ verdict
     audit-judged d = in-shape ∙ first-refused verdict _ passed (λ z. d (judged-meets s z))
 
     pub audit-rule : ¬ Meets Nothing (schemaOf s) → FirstBroken (schemaOf s) (schemaRules Nothing) (audit s)

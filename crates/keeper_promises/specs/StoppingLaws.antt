@@ -52,16 +52,16 @@ number-of : {x y : Result} → x ≡ y → x .answer .number ≡ y .answer .numb
 number-of e = ap (λ (x : Result). x .answer .number) e
 
 -- stores are too short, or long enough
-pub short-or-long : (s : Stores) → SomeShort s ⊎ LongEnough s
+short-or-long : (s : Stores) → SomeShort s ⊎ LongEnough s
 short-or-long s = ⊎-elim (λ e. inl (e .1)) (λ e. inr (long-enough s (e .0))) (says-split (says-short s))
 
 -- and then in shape or not
-pub shape-or-not : (s : Stores) → LongEnough s → Shape s ⊎ (¬ Shape s)
+shape-or-not : (s : Stores) → LongEnough s → Shape s ⊎ (¬ Shape s)
 shape-or-not s long =
     ⊎-elim (λ e. inl (e .1)) (λ e. inr (e .1)) (says-split (says-formed (s .attributes) (s .classes) (long .attributes) (long .classes)))
 
 -- in order or not
-pub order-or-not : (s : Stores) → InOrder s ⊎ (¬ InOrder s)
+order-or-not : (s : Stores) → InOrder s ⊎ (¬ InOrder s)
 order-or-not s = go (ℕ-discrete (firstAnswer (orderAnswers s) passed .number) 0)
   where
     go : Dec (firstAnswer (orderAnswers s) passed .number ≡ 0) → InOrder s ⊎ (¬ InOrder s)
@@ -157,7 +157,7 @@ module _ (x : List ℕ) (s : Stores) where
 
   -- ---- plain: stores not in order get 1, 2 or 3, and a change that reads 0 or a number from 5 on
 
-  pub disorder-number : ¬ InOrder s → plainChange x s .answer .number < 4
+  disorder-number : ¬ InOrder s → plainChange x s .answer .number < 4
   disorder-number d = ⊎-elim short long (short-or-long s)
     where
       short : SomeShort s → plainChange x s .answer .number < 4
