@@ -110,7 +110,7 @@ extern "C" {
 #define KEEPER_ABSTRACT_UNDER_OTHER 38
 #define KEEPER_AUXILIARY_UNDER_STRUCTURAL 39
 #define KEEPER_STRUCTURAL_UNDER_AUXILIARY 40
-#define KEEPER_CHAIN_ASTRAY 22
+/* 22 is not used (it was: a chain of superclasses that does not come to class 0), and will not be used again. */
 #define KEEPER_NAMING_UNFIT 23
 #define KEEPER_MAPI_TAKEN 24
 #define KEEPER_RANGE_CROSSED 25

@@ -62,8 +62,7 @@ front-fixed Attributes at new row l wide = (
   flag-kept at new row (omega arith) singleValuedAt (inr (omega arith)),
   number-kept at new row (omega arith) linkAt 4 (inr (omega arith)),
 )
-front-fixed Classes at new row l wide =
-    (byte-kept at new row (omega arith) categoryAt (inr (omega arith)), byte-kept at new row (omega arith) superclassAt (inr (omega arith)))
+front-fixed Classes at new row l wide = byte-kept at new row (omega arith) categoryAt (inr (omega arith))
 
 -- the two ends of a range
 range-fixed : (new row : List ℕ) → length new ≡ 10 → length row ≡ attributeWidth → Fixed Attributes row (splice rangeLowerAt new row)
@@ -84,9 +83,7 @@ module _ (list : OpenList) (new row : List ℕ) (n : length new ≡ listWidth li
   list-fits = omega (arith, list-inside list)
 
   list-fixed : Fixed Classes row (splice (openAt list) new row)
-  list-fixed =
-      let late = list-late list in
-      (byte-kept (openAt list) new row list-fits categoryAt (inl (omega arith)), byte-kept (openAt list) new row list-fits superclassAt (inl (omega arith)))
+  list-fixed = let late = list-late list in byte-kept (openAt list) new row list-fits categoryAt (inl (omega arith))
 
   list-state : isDefunct (splice (openAt list) new row) ≡ isDefunct row
   list-state = let late = list-late list in flag-kept (openAt list) new row list-fits defunctAt (inl (omega arith))

@@ -10,17 +10,23 @@ use Rattle.schema.specs.Answers.{classAnswer, done, passed, refused, shortOutpu
 use Rattle.schema.specs.Numbers.{classRead}
 use Rattle.schema.specs.NumbersLaws.{class-beyond}
 use Rattle.schema.specs.declared.number.ClassRead.{ClassRead}
-use Rattle.schema.specs.Store.{LongEnough, Stores, schemaOf}
+use Rattle.schema.specs.Store.{LongEnough, Schema, Stores, schemaOf}
 use Rattle.schema.specs.StoreLaws.{says-short}
+use Rattle.tables.specs.ChainLaws.{chain-map}
 use Rattle.graph.specs.Depth.{EarlierChain, depthAnswer}
 use Rattle.graph.specs.DepthLaws.{chain-depth, late-no-chain}
+use Rattle.rules_class.specs.Chain.{ChainEnds}
+use Rattle.rules_class.specs.ChainLaws.{superclass-chain}
+use Rattle.rules.specs.declared.row.Added.{Added}
+use Rattle.rules.specs.declared.row.Added.the-variants.{Nothing}
+use Rattle.rules.specs.Meets.{Met, classNotLive}
 use Rattle.tables_shape.specs.ShapeLaws.{says-formed}
 use Rattle.keeper.specs.Answering.{firstAnswer, shapeAnswers}
 use Rattle.keeper.specs.AnsweringLaws.{broken-stores, formed-stores, not-short, short-stores}
 use Rattle.keeper.specs.CheckedLaws.{readable-classes}
 use Rattle.keeper.specs.Depth.{depth}
 use Rattle.keeper.specs.Write.{sheetOf, write, writeAnswer, written}
-use Rattle.keeper_promises.specs.Promises.{Shape, SomeShort}
+use Rattle.keeper_promises.specs.Promises.{InOrder, Shape, SomeShort}
 use Rattle.keeper_promises.specs.OrderLaws.{has-shape}
 use Rattle.schema.specs.Refusals as refusal
 use Rattle.schema.specs.declared.number.ClassRead.the-variants as class
@@ -82,3 +88,14 @@ module _ (s : Stores) (c : ℕ) where
 
     pub depth-late : c < schemaOf s .classes .count → ((k : ℕ) → ¬ EarlierChain (schemaOf s .classes) c k) → depth s c ≡ refused refusal.classNotLive
     depth-late l none = sym (ends.depth-present s c (shaped s h f) refl l) ∙ ap depthAnswer (late-no-chain (schemaOf s .classes) c .1 none)
+
+-- ---- depth on stores in order
+
+pub chain-ends : (added : Added) (m : Schema) → Met added classNotLive m → (c : ℕ) → c < m .classes .count → ChainEnds (m .classes) c
+chain-ends added m h = superclass-chain (m .classes) (h .1)
+
+pub depth-order : (s : Stores) (c : ℕ) → InOrder s → c < schemaOf s .classes .count
+    → (ends : ChainEnds (schemaOf s .classes) c) × (depth s c ≡ done (ends .steps))
+depth-order s c h l =
+    let e = chain-ends Nothing (schemaOf s) (h .rules classNotLive) c l in
+    (e, depth-steps s c (h .long) (h .shape) (e .steps) l (chain-map (λ x p. p .1) (e .chain)))

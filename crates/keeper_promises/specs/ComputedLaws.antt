@@ -30,7 +30,6 @@ use Rattle.rules_attribute.specs.Links.{isBackLink, isForwardOf, forwardMissing
 use Rattle.rules_attribute.specs.Range.{signed, endsCrossed, rangeWrong}
 use Rattle.rules_attribute.specs.Syntax.{syntaxFits, syntaxWrong, objectClassWrong}
 use Rattle.rules_class.specs.Category.{categoryWrong, wronglyListed, otherCategory, inheritance, rootInheritance, inheritanceOf, inheritanceWrong}
-use Rattle.rules_class.specs.Chain.{chainEnds, chainWrong}
 use Rattle.rules_class.specs.Live.{namesDead, notLive, superclassLate, classWrong, namingWrong}
 use Rattle.rules.specs.Judge.{judgeTable, judgeRule, judgeRules, judged}
 use Rattle.rules.specs.Rules.{barred, entryDead, attributeNotLive, classNotLive}
@@ -47,7 +46,7 @@ unfolding under alone attributeNotLive classNotLive barred entryDead sameTable p
     firstBelow digit bit member boundAt namingOf between isLetter isNameByte validName folded sameName nameInvalid identifierInvalid live sameKey
     hasKey samePresent sameRow rivalIn taken signed endsCrossed rangeWrong syntaxFits syntaxWrong objectClasses objectClassFits objectClassWrong
     isBackLink isForwardOf forwardMissing lists namedBy names namesDead notLive superclassLate classWrong namingWrong categoryWrong wronglyListed
-    otherCategory inheritance rootInheritance inheritanceOf inheritanceWrong chainEnds chainWrong judgeTable judgeRule judgeRules judged arcBytes
+    otherCategory inheritance rootInheritance inheritanceOf inheritanceWrong judgeTable judgeRule judgeRules judged arcBytes
     common classRow judgedRows classes
 categories = record { under-88 = refl; under-structural = refl; under-abstract = refl; under-auxiliary = refl; row-zero = refl }
 

@@ -36,7 +36,6 @@ use Rattle.rules_attribute.specs.Links.{forwardMissing, isBackLink, isForwardOf
 use Rattle.rules_attribute.specs.Range.{endsCrossed, rangeWrong, signed}
 use Rattle.rules_attribute.specs.Syntax.{syntaxFits, syntaxWrong, objectClassWrong}
 use Rattle.rules_class.specs.Category.{categoryWrong, inheritance, inheritanceOf, inheritanceWrong, otherCategory, rootInheritance, wronglyListed}
-use Rattle.rules_class.specs.Chain.{chainEnds, chainWrong}
 use Rattle.rules_class.specs.Live.{classWrong, namesDead, namingWrong, notLive, superclassLate}
 use Rattle.rules.specs.Judge.{judgeRule, judgeRules, judgeTable, judged}
 use Rattle.rules.specs.JudgeLaws.{judged-zero}
@@ -87,7 +86,7 @@ unfolding fields.onward sheets.onward paperSheet hexBytes hexDigit text readShee
     allBelow firstBelow digit bit member boundAt namingOf between isLetter isNameByte validName folded sameName nameInvalid identifierInvalid live
     sameKey hasKey samePresent sameRow rivalIn taken signed endsCrossed rangeWrong syntaxFits syntaxWrong objectClasses objectClassFits
     objectClassWrong isBackLink isForwardOf forwardMissing lists namedBy names namesDead notLive superclassLate classWrong namingWrong categoryWrong
-    wronglyListed otherCategory inheritance rootInheritance inheritanceOf inheritanceWrong chainEnds chainWrong judgeTable judgeRule judgeRules judged
+    wronglyListed otherCategory inheritance rootInheritance inheritanceOf inheritanceWrong judgeTable judgeRule judgeRules judged
 judges = refl
 
 pub accepted : Acceptable paperSheet

@@ -18,7 +18,6 @@ use Rattle.rules_attribute.specs.Links.{isBackLink, isForwardOf, forwardMissing
 use Rattle.tables.specs.Named.{lists, namedBy, names}
 use Rattle.rules_class.specs.Live.{namesDead, notLive, superclassLate, classWrong, namingWrong}
 use Rattle.rules_class.specs.Category.{categoryWrong, wronglyListed, otherCategory, inheritance, rootInheritance, inheritanceOf, inheritanceWrong}
-use Rattle.rules_class.specs.Chain.{chainEnds, chainWrong}
 use Rattle.rules.specs.Judge.{judgeTable, judgeRule, judgeRules, judged}
 use Rattle.prelude.specs.First.{firstOf}
 use Rattle.schema.specs.Store.{withRow}
@@ -39,7 +38,7 @@ unfolding attributeNotLive classNotLive barred entryDead sameTable part zeros pa
     isNameByte validName folded sameName nameInvalid identifierInvalid live sameKey hasKey samePresent sameRow rivalIn taken signed endsCrossed
     rangeWrong syntaxFits syntaxWrong objectClasses objectClassFits objectClassWrong isBackLink isForwardOf forwardMissing lists namedBy names
     namesDead notLive superclassLate classWrong namingWrong categoryWrong wronglyListed otherCategory inheritance rootInheritance inheritanceOf
-    inheritanceWrong chainEnds chainWrong judgeTable judgeRule judgeRules judged arcBytes common endBytes attributeRow classRow judgedRows
+    inheritanceWrong judgeTable judgeRule judgeRules judged arcBytes common endBytes attributeRow classRow judgedRows
     areaHa one byName byArcs bySyntax byRange linked classes
     splice firstOf digitsOf setOf withMember withRow schemaAfter tableAfter editedRow openList listTag targetAbsent tableFull baseAdded
     via reachesBy collectsBy inherits listsMandatory demandedSet mandatoryDiffers changeNumber demanding twoAttributes threeClasses sample joining renaming

@@ -25,10 +25,12 @@ use Rattle.sheet_read.specs.declared.read.SheetRead.{SheetRead}
 use Rattle.sheet_read.specs.declared.read.SheetRead.the-variants.{Bad, Full, Read}
 use Rattle.sheet_read.specs.Stopping.{SheetStops}
 use Rattle.sheet_read.specs.Reading.{readSheet, schemaFrom, sheetAnswer}
+use Rattle.rules_class.specs.Chain.{ChainEnds}
+use Rattle.rules.specs.declared.row.Added.{Added}
 use Rattle.rules.specs.declared.row.Added.the-variants.{Nothing}
 use Rattle.rules.specs.Rules.{schemaRules}
 use Rattle.rules.specs.Judge.{FirstBroken}
-use Rattle.rules.specs.Meets.{Meets, Met, RuleName, ruleNumber}
+use Rattle.rules.specs.Meets.{Meets, Met, RuleName, ruleNumber, classNotLive}
 use Rattle.tables_shape.specs.Shape.{StoresFormed}
 use Rattle.tables.specs.Same.{SameRows}
 use Rattle.rows_read.specs.declared.read.RowRead.{RowRead}
@@ -264,6 +266,11 @@ pub record Demand2 : Type 0 where
       → depth s c ≡ depthAnswer (Steps k)
   pub depth-late : (s : Stores) (c : ℕ) → LongEnough s → Shape s → c < schemaOf s .classes .count → ((k : ℕ) → ¬ EarlierChain (schemaOf s .classes) c k)
       → depth s c ≡ depthAnswer NotEarlier
+  -- where rule 18 is met every chain of superclasses comes to row 0, in at most as many steps as the number of its class says
+  pub chain-ends : (added : Added) (m : Schema) → Met added classNotLive m → (c : ℕ) → c < m .classes .count → ChainEnds (m .classes) c
+  -- so on stores in order depth never refuses by 18: it tells the steps of that chain
+  pub depth-order : (s : Stores) (c : ℕ) → InOrder s → c < schemaOf s .classes .count
+      → (ends : ChainEnds (schemaOf s .classes) c) × (depth s c ≡ depthAnswer (Steps (ends .steps)))
   -- "Tables, sheet, tables gives the same bytes if in order": written into any output with room, and loaded into any stores
   pub write-load : (s t : Stores) (out : List ℕ) → InOrder s → OfBytes s → LongEnough t → length (sheetOf s) ≤ length out
       → load (part 0 (write s out .answer .place) (write s out .output)) t ≡ result passed (moved s t)

@@ -8,7 +8,6 @@ use Prim.Native.Nat.{ℕ, _+_, _%_, _≤_, _<_}
 use lib.ListN.{length, getD}
 use Rattle.prelude.specs.Below.{Some}
 use Rattle.sets.specs.Sets.{bit}
-use Rattle.schema.specs.Answers.{done}
 use Rattle.schema.specs.AttributeRow.{isSingleValued, linkOf, mapiOf, objectClassOf, omSyntaxOf, rangeLower, rangeUpper, syntaxOf}
 use Rattle.schema.specs.ClassRow.{categoryOf, fixedAuxiliaryOf, fixedOptionalOf, fixedSuperiorOf, mandatoryOf, namingOf, openAuxiliaryOf}
 use Rattle.schema.specs.ClassRow.{openOptionalOf, openSuperiorOf, superclassOf}
@@ -18,8 +17,6 @@ use Rattle.schema.specs.Store.{Schema, Stores, Table, allowedIn, demandedIn, re
 use Rattle.schema.specs.declared.attribute.Bound.the-variants.{Given}
 use Rattle.schema.specs.declared.class.Naming.the-variants.{By}
 use Rattle.schema.specs.declared.number.TableId.{TableId}
-use Rattle.tables.specs.Chain.{Chain}
-use Rattle.keeper.specs.Depth.{depth}
 use Rattle.keeper_promises.specs.PaperTables.{RightObjectClass, SmallOf, SyntaxPair}
 
 -- ---- words
@@ -149,13 +146,6 @@ pub record ReachSound (m : Schema) (c : ℕ) : Type 0 where
   pub demanded : (b : ℕ) → Demanded (m .classes) c b → Usable (m .attributes) (m .classes .row c) b
   pub allowed : (b : ℕ) → Allowed (m .classes) c b → Usable (m .attributes) (m .classes .row c) b
 
--- the chain of superclasses from class c ends at row 0: in so many steps, each to an earlier class, and depth tells them
-pub record ChainSound (s : Stores) (c : ℕ) : Type 0 where
-  pub steps : ℕ
-  pub few : steps ≤ c
-  pub chain : Chain (schemaOf s .classes) (λ x. superclassOf (schemaOf s .classes .row x) < x) c steps
-  pub told : depth s c ≡ done steps
-
 -- ---- all of it
 
 pub record Uses (s : Stores) : Type 0 where
@@ -167,4 +157,3 @@ pub record Uses (s : Stores) : Type 0 where
   -- of the classes that there are, and of no others, "zero for unused rows": these reach nothing
   pub kept : (c : ℕ) → c < 128 → KeptSound s c
   pub reach : (c : ℕ) → c < schemaOf s .classes .count → ReachSound (schemaOf s) c
-  pub chains : (c : ℕ) → c < schemaOf s .classes .count → ChainSound s c

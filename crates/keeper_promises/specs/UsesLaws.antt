@@ -2,8 +2,8 @@
 use mathlib.Core.Bool.{Bool, true, false, cond, true≢false}
 use mathlib.Core.List.{List, []}
 use mathlib.Core.Logic.{_⊎_, inl, inr, ⊎-elim}
-use mathlib.Core.Path.{_≡_, refl, sym, ap, ap₂, subst, _∙_}
-use Prim.Native.Nat.{ℕ, suc, zero, _+_, _*_, _/_, _≤_, _<_}
+use mathlib.Core.Path.{_≡_, refl, sym, ap, ap₂, _∙_}
+use Prim.Native.Nat.{ℕ, _+_, _*_, _/_, _≤_, _<_}
 use native.Mathlib.Decide.{decLt, ℕ-discrete}
 use native.Mathlib.Omega.{arith}
 use lib.ListN.{getD}
@@ -29,7 +29,6 @@ use Rattle.schema.specs.declared.class.Naming.{Naming}
 use Rattle.schema.specs.declared.class.Naming.the-variants.{By}
 use Rattle.schema.specs.declared.number.TableId.{TableId}
 use Rattle.schema.specs.declared.number.TableId.the-variants.{Attributes, Classes}
-use Rattle.tables.specs.Chain.{Chain, top, up}
 use Rattle.tables.specs.Live.{Live}
 use Rattle.tables.specs.Named.{Lists, Names}
 use Rattle.tables.specs.Shaped.{TableShaped}
@@ -53,8 +52,7 @@ use Rattle.rules.specs.declared.row.Added.the-variants.{Nothing}
 use Rattle.tables_shape.specs.ShapeLaws.{table-shaped}
 use Rattle.keeper_promises.specs.PaperTablesLaws.{paper-tables, small-folds}
 use Rattle.keeper_promises.specs.Promises.{InOrder, OfBytes}
-use Rattle.keeper_promises.specs.PromisesLaws.{demand2}
-use Rattle.keeper_promises.specs.Uses.{AttributeSound, ChainSound, ClassSound, OneName, ReachSound, Reached, RowSound, RowsApart, SignedAtMost}
+use Rattle.keeper_promises.specs.Uses.{AttributeSound, ClassSound, OneName, ReachSound, Reached, RowSound, RowsApart, SignedAtMost}
 use Rattle.keeper_promises.specs.Uses.{Uses, Active, Usable, itself, bySuperclass, byFixed, byOpen}
 use Rattle.keeper_promises.specs.UsesGraphLaws.{kept-sound}
 use Rattle.schema.specs.declared.class.Naming.the-variants as naming
@@ -292,25 +290,6 @@ module _ (m : Schema) (met : Meets Nothing m) where
           (λ l. ⊎-elim (class-sound (d .class) l .fixedOptional b) (class-sound (d .class) l .openOptional b) (d .listed));
     }
 
-    -- ---- chains
-
-    abbrev Up : ℕ → ℕ → Type 0
-    Up = Chain classes (λ x. superclassOf (classes .row x) < x)
-
-    abbrev Ended : ℕ → Type 0
-    Ended c = (k : ℕ) × (k ≤ c) × Up c k
-
-    one-up : (c : ℕ) → c < classes .count → (superclassOf (classes .row c) < c → Ended (superclassOf (classes .row c))) → Ended c
-    one-up c l rest = go (ℕ-discrete c 0)
-      where
-        go : Dec (c ≡ 0) → Ended c
-        go (yes e) = (0, omega arith, subst (λ (n : ℕ). Up n 0) (sym e) top)
-        go (no d) = let p = earlier c l d in let r = rest p in (suc (r .0), omega (arith, r .1), up d p (r .2))
-
-    pub ended : (n c : ℕ) → c ≤ n → c < classes .count → Ended c
-    ended zero c k l = one-up c l (λ p. absurd (omega arith))
-    ended (suc n) c k l = one-up c l (λ p. ended n (superclassOf (classes .row c)) (omega arith) (omega arith))
-
 -- ---- stores in order
 
 module _ (s : Stores) (h : InOrder s) (of : OfBytes s) where
@@ -330,11 +309,6 @@ module _ (s : Stores) (h : InOrder s) (of : OfBytes s) where
   row-bytes : (t : TableId) (store : List ℕ) → Bytes store → (k : ℕ) → Bytes (tableIn t store .row k)
   row-bytes t store bytes k = part-bytes (rowsAt + rowWidth t * k) (rowWidth t) store bytes
 
-  chain-sound : (c : ℕ) → c < m .classes .count → ChainSound s c
-  chain-sound c l =
-      let e = ended m (h .rules) (classes-shaped .few) (row-bytes Classes (s .classes) (of .classes)) c c (omega arith) l in
-      record { steps = e .0; few = e .1; chain = e .2; told = demand2 .depth-steps s c (e .0) (h .long) (h .shape) l (e .2) }
-
   pub uses : Uses s
   uses = record {
     limits = (attributes-shaped .few, classes-shaped .few);
@@ -344,5 +318,4 @@ module _ (s : Stores) (h : InOrder s) (of : OfBytes s) where
     classes = λ c l. class-sound m (h .rules) (classes-shaped .few) (row-bytes Classes (s .classes) (of .classes)) c l;
     kept = kept-sound s (h .fresh);
     reach = λ c l. reach-sound m (h .rules) (classes-shaped .few) (row-bytes Classes (s .classes) (of .classes)) c;
-    chains = chain-sound;
   }

@@ -25,7 +25,6 @@ use Rattle.rules_class.specs.Live.{SuperclassEarly, CanName}
 use Rattle.rules_class.specs.Category.{class88, abstract, listCategory, Illegal}
 use Rattle.rules_class.specs.declared.category.Inheritance.{Inheritance}
 use Rattle.rules_class.specs.declared.category.Inheritance.the-variants.{AbstractUnderOther, AuxiliaryUnderStructural, StructuralUnderAuxiliary}
-use Rattle.rules_class.specs.Chain.{chainLimit, ChainWithin}
 use Rattle.rules.specs.declared.row.Added.{Added}
 use Rattle.rules.specs.declared.row.Added.the-variants.{Nothing, Class, Entry}
 use Rattle.schema.specs.Refusals as refusal
@@ -46,7 +45,7 @@ NumbersApart m number =
 pub data RuleName : Type 0 where
   nameInvalid nameTaken identifierInvalid identifierTaken guidTaken attributeNotLive classNotLive notAnAuxiliary notASuperior : RuleName
   rootNotAbstract abstractUnderOther auxiliaryUnderStructural structuralUnderAuxiliary : RuleName
-  chainAstray namingUnfit mapiTaken rangeCrossed syntaxMisfit objectClassWrong linkTaken linkAlone : RuleName
+  namingUnfit mapiTaken rangeCrossed syntaxMisfit objectClassWrong linkTaken linkAlone : RuleName
 
 abbrev pub ruleNumber : RuleName → ℕ
 ruleNumber nameInvalid = refusal.nameInvalid
@@ -62,7 +61,6 @@ ruleNumber rootNotAbstract = refusal.rootNotAbstract
 ruleNumber abstractUnderOther = refusal.abstractUnderOther
 ruleNumber auxiliaryUnderStructural = refusal.auxiliaryUnderStructural
 ruleNumber structuralUnderAuxiliary = refusal.structuralUnderAuxiliary
-ruleNumber chainAstray = refusal.chainAstray
 ruleNumber namingUnfit = refusal.namingUnfit
 ruleNumber mapiTaken = refusal.mapiTaken
 ruleNumber rangeCrossed = refusal.rangeCrossed
@@ -121,8 +119,6 @@ Met added rootNotAbstract m = 0 < m .classes .count → categoryOf (m .classes .
 Met added abstractUnderOther m = Legal AbstractUnderOther m
 Met added auxiliaryUnderStructural m = Legal AuxiliaryUnderStructural m
 Met added structuralUnderAuxiliary m = Legal StructuralUnderAuxiliary m
--- 22 every chain ends at row 0, within 128 steps and over rows that are there
-Met added chainAstray m = (k : ℕ) → k < m .classes .count → ChainWithin (m .classes) chainLimit k
 -- 23 a naming attribute that is there can name
 Met added namingUnfit m = (k : ℕ) → k < m .classes .count → (n : ℕ) → namingOf (m .classes .row k) ≡ By (record { 0 = n }) → n < m .attributes .count
     → CanName (m .attributes .row n)

@@ -46,8 +46,6 @@ use Rattle.rules_class.specs.declared.category.Inheritance.{Inheritance}
 use Rattle.rules_class.specs.declared.category.Inheritance.the-variants.{RootNotAbstract, AbstractUnderOther, AuxiliaryUnderStructural}
 use Rattle.rules_class.specs.declared.category.Inheritance.the-variants.{StructuralUnderAuxiliary}
 use Rattle.rules_class.specs.CategoryLaws.{says-category-wrong, says-inheritance-wrong}
-use Rattle.rules_class.specs.Chain.{chainLimit}
-use Rattle.rules_class.specs.ChainLaws.{says-chain, says-chain-wrong}
 use Rattle.rules.specs.declared.row.Added.the-variants.{Nothing}
 use Rattle.rules.specs.Rules.{ofAttributes, ofClasses, inheritanceRule, schemaRules, numbered, _&_, attributeNotLive, classNotLive}
 use Rattle.rules.specs.Rules.{entryDead, barred, Each, Rule}
@@ -331,8 +329,6 @@ kept-met added m RuleName.rootNotAbstract = root-met m
 kept-met added m RuleName.abstractUnderOther = under-met AbstractUnderOther (omega arith) m (λ own f. f)
 kept-met added m RuleName.auxiliaryUnderStructural = under-met AuxiliaryUnderStructural (omega arith) m (λ own f. f)
 kept-met added m RuleName.structuralUnderAuxiliary = under-met StructuralUnderAuxiliary (omega arith) m (λ own f. f)
-kept-met added m RuleName.chainAstray =
-    class-met m _ (λ k. says-chain-wrong (m .classes) k) (λ k l. decided (says-chain (m .classes) chainLimit k))
 kept-met added m RuleName.namingUnfit = naming-met m
 kept-met added m RuleName.mapiTaken = numbers-met m Mapi refl refl mapiOf (λ a b. (λ d. d, λ d. d))
 kept-met added m RuleName.rangeCrossed =
@@ -360,7 +356,7 @@ meets added m = (λ h rule. kept-met added m rule .0 (each-numbered (Kept m) (sc
         (kept RuleName.nameInvalid & kept RuleName.nameTaken & kept RuleName.identifierInvalid & kept RuleName.identifierTaken & kept RuleName.guidTaken
         & kept RuleName.attributeNotLive & kept RuleName.classNotLive & kept RuleName.notAnAuxiliary & kept RuleName.notASuperior
         & kept RuleName.rootNotAbstract & kept RuleName.abstractUnderOther & kept RuleName.auxiliaryUnderStructural
-        & kept RuleName.structuralUnderAuxiliary & kept RuleName.chainAstray & kept RuleName.namingUnfit & kept RuleName.mapiTaken & kept RuleName.rangeCrossed
+        & kept RuleName.structuralUnderAuxiliary & kept RuleName.namingUnfit & kept RuleName.mapiTaken & kept RuleName.rangeCrossed
         & kept RuleName.syntaxMisfit & kept RuleName.objectClassWrong & kept RuleName.linkTaken & kept RuleName.linkAlone & tt)
 
 -- ---- "The smallest number whose condition holds", the first in the order of judging, in words
@@ -413,7 +409,7 @@ all-named added =
     (RuleName.nameInvalid, refl) & (RuleName.nameTaken, refl) & (RuleName.identifierInvalid, refl) & (RuleName.identifierTaken, refl)
     & (RuleName.guidTaken, refl) & (RuleName.attributeNotLive, refl) & (RuleName.classNotLive, refl) & (RuleName.notAnAuxiliary, refl)
     & (RuleName.notASuperior, refl) & (RuleName.rootNotAbstract, refl) & (RuleName.abstractUnderOther, refl)
-    & (RuleName.auxiliaryUnderStructural, refl) & (RuleName.structuralUnderAuxiliary, refl) & (RuleName.chainAstray, refl) & (RuleName.namingUnfit, refl)
+    & (RuleName.auxiliaryUnderStructural, refl) & (RuleName.structuralUnderAuxiliary, refl) & (RuleName.namingUnfit, refl)
     & (RuleName.mapiTaken, refl) & (RuleName.rangeCrossed, refl) & (RuleName.syntaxMisfit, refl) & (RuleName.objectClassWrong, refl)
     & (RuleName.linkTaken, refl) & (RuleName.linkAlone, refl) & tt
 
@@ -468,7 +464,6 @@ meets-nothing added m h RuleName.rootNotAbstract = h RuleName.rootNotAbstract
 meets-nothing added m h RuleName.abstractUnderOther = h RuleName.abstractUnderOther
 meets-nothing added m h RuleName.auxiliaryUnderStructural = h RuleName.auxiliaryUnderStructural
 meets-nothing added m h RuleName.structuralUnderAuxiliary = h RuleName.structuralUnderAuxiliary
-meets-nothing added m h RuleName.chainAstray = h RuleName.chainAstray
 meets-nothing added m h RuleName.namingUnfit = h RuleName.namingUnfit
 meets-nothing added m h RuleName.mapiTaken = h RuleName.mapiTaken
 meets-nothing added m h RuleName.rangeCrossed = h RuleName.rangeCrossed

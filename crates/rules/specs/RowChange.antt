@@ -10,7 +10,7 @@ use Rattle.schema.specs.declared.number.TableId.the-variants.{Attributes, Class
 use Rattle.schema.specs.Numbers.{limit, SameRow}
 use Rattle.schema.specs.Row.{isDefunct}
 use Rattle.schema.specs.AttributeRow.{syntaxOf, isSingleValued, linkOf}
-use Rattle.schema.specs.ClassRow.{categoryOf, superclassOf}
+use Rattle.schema.specs.ClassRow.{categoryOf}
 use Rattle.schema.specs.Store.{Schema, table}
 use Rattle.tables.specs.Changed.{ChangedRow}
 use Rattle.tables.specs.Named.{names}
@@ -25,7 +25,7 @@ pub record Unneeded (m : Schema) (t : TableId) (k : ℕ) : Type 0 where
 -- what no change gives another value
 abbrev pub Fixed : TableId → List ℕ → List ℕ → Type 0
 Fixed Attributes old new = (syntaxOf new ≡ syntaxOf old) × (isSingleValued new ≡ isSingleValued old) × (linkOf new ≡ linkOf old)
-Fixed Classes old new = (categoryOf new ≡ categoryOf old) × (superclassOf new ≡ superclassOf old)
+Fixed Classes old new = categoryOf new ≡ categoryOf old
 
 -- row k of table t was changed or added: m has become n
 pub record RowChange (t : TableId) (k : ℕ) (m n : Schema) : Type 0 where

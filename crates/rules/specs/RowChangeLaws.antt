@@ -34,8 +34,7 @@ use Rattle.rules_attribute.specs.Links.{isBackLink, isForwardOf, forwardMissing
 use Rattle.rules_attribute.specs.LinksLaws.{forward-stays, no-back-link}
 use Rattle.rules_class.specs.Live.{notLive, classWrong, namingWrong, listsItself, superclassLate}
 use Rattle.rules_class.specs.Category.{categoryWrong, inheritanceNumber, inheritanceWrong}
-use Rattle.rules_class.specs.Chain.{chainWrong}
-use Rattle.rules_class.specs.StayLaws.{named-there, not-live-stays, naming-stays, category-stays, inheritance-stays, chain-stays}
+use Rattle.rules_class.specs.StayLaws.{named-there, not-live-stays, naming-stays, category-stays, inheritance-stays}
 use Rattle.rules.specs.declared.row.Added.{Added}
 use Rattle.rules.specs.declared.row.Added.the-variants.{Nothing, Class, Entry}
 use Rattle.rules.specs.Rules.{ofRows, ofAttributes, ofClasses, barred, entryDead, attributeNotLive}
@@ -175,7 +174,7 @@ module _ (k : ℕ) (m n : Schema) where
     category-kept kind e Attributes h q j l d = absurd (apart q)
     category-kept kind e Classes h q j l d =
         let was = h .changed .own .old j l d in
-        category-stays (h .changed .own) j was d (class-was j was) (λ there. h .fixed there .0) kind (e j was)
+        category-stays (h .changed .own) j was d (class-was j was) (h .fixed) kind (e j was)
 
     inheritance-kept : (number : ℕ) → ((j : ℕ) → j < m .classes .count → inheritanceWrong number (m .classes) j ≡ false) → (t : TableId)
         (h : RowChange t k m n) → t ≡ Classes → (j : ℕ) → j < n .classes .count → ¬ (j ≡ k) → inheritanceWrong number (n .classes) j ≡ false
@@ -184,14 +183,8 @@ module _ (k : ℕ) (m n : Schema) where
     inheritance-kept number e Classes h q j l d =
         let before = h .changed .own .old j l d in
         ap (λ x. eqb (inheritanceNumber x) number)
-        (inheritance-stays (h .changed .own) j before d (class-was j before) (λ there. h .fixed there .0))
+        (inheritance-stays (h .changed .own) j before d (class-was j before) (h .fixed))
         ∙ e j before
-
-    chain-kept : (t : TableId) (h : RowChange t k m n) → t ≡ Classes → (j : ℕ) → j < n .classes .count → ¬ (j ≡ k) → chainWrong (n .classes) j ≡ false
-    unfolding numbered
-    chain-kept Attributes h q j l d = absurd (apart q)
-    chain-kept Classes h q j l d = chain-stays (h .changed .own) (λ there. h .fixed there .1) j
-        (was refusal.chainAstray Classes j (h .changed .own .old j l d))
 
     -- rule 23
     naming-kept : (t : TableId) (h : RowChange t k m n) → Stays t (ofClasses (λ x j. namingWrong (x .attributes) (namingOf (x .classes .row j))))
@@ -261,7 +254,6 @@ module _ (k : ℕ) (m n : Schema) where
           & alone refusal.abstractUnderOther (inheritance-alone refusal.abstractUnderOther (was refusal.abstractUnderOther Classes))
           & alone refusal.auxiliaryUnderStructural (inheritance-alone refusal.auxiliaryUnderStructural (was refusal.auxiliaryUnderStructural Classes))
           & alone refusal.structuralUnderAuxiliary (inheritance-alone refusal.structuralUnderAuxiliary (was refusal.structuralUnderAuxiliary Classes))
-          & alone refusal.chainAstray (classes-stay chainWrong (was refusal.chainAstray Classes) t h (chain-kept t h))
           & alone refusal.namingUnfit (naming-kept t h)
           & taken-here everyRow Mapi (h .changed) (was refusal.mapiTaken)
           & alone refusal.rangeCrossed (attribute-rows-stay t h rangeWrong (was refusal.rangeCrossed Attributes))

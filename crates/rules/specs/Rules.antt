@@ -1,5 +1,6 @@
 -- The schema rules, each once: its number, and which rows break it. The order of the list is the order of judging. Document 02: "rules 12 to 29, wherever
--- these papers name them, include" 38, 39 and 40; so do they wherever this project does.
+-- these papers name them, include" 38, 39 and 40; so do they wherever this project does. 22 is none of them: where 18 is met every chain of superclasses
+-- ends (rules_class/ChainLaws), and "The number is not used again."
 use mathlib.Core.Bool.{Bool, false, cond, not, _&&_, _||_}
 use mathlib.Core.List.{List, [], _∷_}
 use Prim.Native.Nat.{ℕ}
@@ -20,7 +21,6 @@ use Rattle.rules_attribute.specs.Syntax.{syntaxWrong, objectClassWrong}
 use Rattle.rules_attribute.specs.Links.{forwardMissing}
 use Rattle.rules_class.specs.Live.{notLive, classWrong, listsItself, namingWrong}
 use Rattle.rules_class.specs.Category.{categoryWrong, inheritanceWrong}
-use Rattle.rules_class.specs.Chain.{chainWrong}
 use Rattle.rules.specs.declared.row.Added.{Added}
 use Rattle.rules.specs.declared.row.Added.the-variants.{Nothing, Class, Entry}
 use Rattle.schema.specs.Refusals as refusal
@@ -87,7 +87,6 @@ schemaRules added =
     ∷ inheritanceRule refusal.abstractUnderOther
     ∷ inheritanceRule refusal.auxiliaryUnderStructural
     ∷ inheritanceRule refusal.structuralUnderAuxiliary
-    ∷ rule refusal.chainAstray (ofClasses (λ m k. chainWrong (m .classes) k))
     ∷ rule refusal.namingUnfit (ofClasses (λ m k. namingWrong (m .attributes) (namingOf (m .classes .row k))))
     ∷ rule refusal.mapiTaken (taken everyRow Mapi)
     ∷ rule refusal.rangeCrossed (ofAttributes (λ a k. rangeWrong (a .row k)))

@@ -27,7 +27,7 @@ use Rattle.rules_attribute.specs.SameLaws.{forward-missing-same}
 use Rattle.rules_class.specs.Live.{notLive, namingWrong}
 use Rattle.rules_class.specs.Category.{categoryWrong}
 use Rattle.rules_class.specs.SameLaws.{not-live-same, class-wrong-same, lists-itself-same, category-wrong-same, inheritance-wrong-same}
-use Rattle.rules_class.specs.SameLaws.{chain-wrong-same, naming-wrong-same}
+use Rattle.rules_class.specs.SameLaws.{naming-wrong-same}
 use Rattle.rules.specs.declared.row.Added.{Added}
 use Rattle.rules.specs.declared.row.Added.the-variants.{Nothing, Class, Entry}
 use Rattle.rules.specs.Rules.{Rule, ofAttributes, ofClasses, inheritanceRule, barred, schemaRules, rowCases, Each, _&_, attributeNotLive}
@@ -121,7 +121,6 @@ module _ {m n : Schema} (s : SameRows m n) where
       & inheritance-same refusal.abstractUnderOther
       & inheritance-same refusal.auxiliaryUnderStructural
       & inheritance-same refusal.structuralUnderAuxiliary
-      & of-classes _ (λ k l. chain-wrong-same c k)
       & of-classes _ (λ k l. naming-wrong-same a (namingOf (m .classes .row k)) ∙ same-by (λ r. namingWrong (n .attributes) (namingOf r)) Classes k l)
       & taken-same everyRow Mapi s
       & of-attributes _ (λ k l. same-by rangeWrong Attributes k l)

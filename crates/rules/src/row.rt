@@ -6,7 +6,6 @@ use rules_attribute::syntax::object_class_wrong;
 use rules_attribute::syntax::syntax_wrong;
 use rules_class::category::category_wrong;
 use rules_class::category::inheritance_wrong;
-use rules_class::chain::chain_wrong;
 use rules_class::live::class_wrong;
 use rules_class::live::lists_itself;
 use rules_class::live::naming_wrong;
@@ -25,7 +24,6 @@ use schema::number::same_table;
 use schema::refusal::ABSTRACT_UNDER_OTHER;
 use schema::refusal::ATTRIBUTE_NOT_LIVE;
 use schema::refusal::AUXILIARY_UNDER_STRUCTURAL;
-use schema::refusal::CHAIN_ASTRAY;
 use schema::refusal::CLASS_NOT_LIVE;
 use schema::refusal::DONE;
 use schema::refusal::GUID_TAKEN;
@@ -76,7 +74,7 @@ pub enum Added {
 }
 
 // The order of judging. 38, 39 and 40 stand at the place of 21.
-pub const ORDER: [u8; 21] = [
+pub const ORDER: [u8; 20] = [
     NAME_INVALID,
     NAME_TAKEN,
     IDENTIFIER_INVALID,
@@ -90,7 +88,6 @@ pub const ORDER: [u8; 21] = [
     ABSTRACT_UNDER_OTHER,
     AUXILIARY_UNDER_STRUCTURAL,
     STRUCTURAL_UNDER_AUXILIARY,
-    CHAIN_ASTRAY,
     NAMING_UNFIT,
     MAPI_TAKEN,
     RANGE_CROSSED,
@@ -210,7 +207,6 @@ fn class_breaks(added: Added, attributes: &[u8], classes: &[u8], number: u8, c: 
         ABSTRACT_UNDER_OTHER => inheritance_wrong(number, classes, c),
         AUXILIARY_UNDER_STRUCTURAL => inheritance_wrong(number, classes, c),
         STRUCTURAL_UNDER_AUXILIARY => inheritance_wrong(number, classes, c),
-        CHAIN_ASTRAY => chain_wrong(classes, c),
         NAMING_UNFIT => naming_wrong(attributes, row),
         _ => false,
     }

@@ -1,4 +1,4 @@
--- Rules of a class row: what it names is live, earlier and of the right category; its chain; its naming attribute.
+-- Rules of a class row: what it names is live, earlier and of the right category; its naming attribute. The chain of superclasses where 18 is met.
 pub mod Blank
 pub mod Live
 pub mod LiveLaws

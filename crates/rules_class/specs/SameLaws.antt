@@ -1,8 +1,8 @@
--- Rules 17 to 23 and 38 to 40 depend only on the rows that the tables hold.
+-- Rules 17 to 21, 23 and 38 to 40 depend only on the rows that the tables hold.
 use mathlib.Core.Bool.{Bool, cond, not, _&&_, _||_}
 use mathlib.Core.List.{List}
 use mathlib.Core.Path.{_≡_, refl, ap, _∙_}
-use Prim.Native.Nat.{ℕ, zero, suc, _<_}
+use Prim.Native.Nat.{ℕ, _<_}
 use lib.Dec.{ltb, eqb}
 use Rattle.prelude.specs.BelowLaws.{any-cong}
 use Rattle.schema.specs.Numbers.{classLimit, limit}
@@ -22,7 +22,6 @@ use Rattle.rules_class.specs.declared.category.Inheritance.the-variants.
 use Rattle.rules_class.specs.Live.{superclassLate, classWrong, listsItself, namingWrong, namesDead, notLive}
 use Rattle.rules_class.specs.Category.{class88, listCategory, categoryWrong, inheritance, rootInheritance, inheritanceOf, inheritanceNumber}
 use Rattle.rules_class.specs.Category.{inheritanceWrong, otherCategory, wronglyListed}
-use Rattle.rules_class.specs.Chain.{chainEnds, chainLimit, chainWrong}
 
 module _ {t u : Table} (s : Same t u) where
   -- ---- of any row
@@ -39,18 +38,6 @@ module _ {t u : Table} (s : Same t u) where
       any-cong classLimit _ _
       (λ n l. ap (λ (q : Bool). lists kind row n && q)
       (row-same s n (λ b r. b && not (eqb (categoryOf r) class88 || eqb (categoryOf r) (listCategory kind))) (λ x y. refl)))
-
-  -- rule 22, also from a number that has no row
-  chain-ends-same : (n c : ℕ) → chainEnds t n c ≡ chainEnds u n c
-  unfolding chainEnds
-  chain-ends-same zero c = refl
-  chain-ends-same (suc n) c =
-      ap (λ (q : Bool). eqb c 0 || (ltb c (t .count) && q)) (chain-ends-same n (superclassOf (t .row c)))
-      ∙ ap (λ (q : Bool). eqb c 0 || q) (row-same s c (λ b r. b && chainEnds u n (superclassOf r)) (λ x y. refl))
-
-  pub chain-wrong-same : (k : ℕ) → chainWrong t k ≡ chainWrong u k
-  unfolding chainWrong
-  chain-wrong-same k = ap not (chain-ends-same chainLimit k)
 
   -- rule 23
   pub naming-wrong-same : (named : Naming) → namingWrong t named ≡ namingWrong u named

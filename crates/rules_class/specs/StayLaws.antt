@@ -23,14 +23,11 @@ use Rattle.tables.specs.ChangedLaws.{live-stays}
 use Rattle.tables.specs.declared.named.ClassList.{ClassList}
 use Rattle.tables.specs.declared.named.ClassList.the-variants.{Auxiliaries, Superiors}
 use Rattle.tables.specs.Named.{names, Lists, Names}
-use Rattle.tables.specs.Chain.{top, up}
 use Rattle.tables.specs.NamedLaws.{says-names}
 use Rattle.rules_class.specs.Live.{classWrong, namingWrong, SuperclassEarly, CanName, notLive}
 use Rattle.rules_class.specs.LiveLaws.{says-class-wrong, says-naming-wrong, says-not-live}
 use Rattle.rules_class.specs.Category.{categoryWrong, inheritance, inheritanceOf, rootInheritance, CategoryWrong}
 use Rattle.rules_class.specs.CategoryLaws.{says-category-wrong, inheritance-root, inheritance-at}
-use Rattle.rules_class.specs.Chain.{chainWrong, PresentChain}
-use Rattle.rules_class.specs.ChainLaws.{says-chain-wrong}
 
 -- ---- what a row names, where the table of it was changed
 
@@ -130,21 +127,3 @@ module _ {k : ℕ} {c u : Table} (h : ChangedAt k c u) (j : ℕ) (there : j < c 
             inheritance-at u j d super (ap superclassOf row-same) (h .stays super l)
             ∙ ap₂ inheritance (ap categoryOf row-same) (category-same super l)
             ∙ sym (inheritance-at c j d super refl l)
-
--- rule 22 needs: the changed class has its superclass as before
-pub chain-stays : {k : ℕ} {c u : Table} → ChangedAt k c u → (k < c .count → superclassOf (u .row k) ≡ superclassOf (c .row k)) → (j : ℕ)
-    → chainWrong c j ≡ false → chainWrong u j ≡ false
-chain-stays {k} {c} {u} h superclass j e =
-    says-false (says-chain-wrong u j)
-    (λ bad. says-fails (says-chain-wrong c j) e (λ w. bad (record { steps = w .steps; within = w .within; chain = moved (w .chain) })))
-  where
-    same : (n : ℕ) → n < c .count → superclassOf (u .row n) ≡ superclassOf (c .row n)
-    same n l = go (ℕ-discrete n k)
-      where
-        go : Dec (n ≡ k) → superclassOf (u .row n) ≡ superclassOf (c .row n)
-        go (yes q) = rw q (superclass (rw q at l))
-        go (no d) = ap superclassOf (h .other n d l)
-
-    moved : {n m : ℕ} → PresentChain c n m → PresentChain u n m
-    moved top = top
-    moved (up {c = n} {k = m} d l r) = up {k = m} d (h .stays n l) (rw (same n l) (moved r))

@@ -13,7 +13,7 @@ order =
     refusal.wrongState ∷ refusal.baseRow ∷ refusal.addedBaseRow ∷ refusal.entryConflict ∷ refusal.stillNeeded ∷ refusal.nameInvalid ∷ refusal.nameTaken ∷
     refusal.identifierInvalid ∷ refusal.identifierTaken ∷ refusal.guidTaken ∷ refusal.attributeNotLive ∷ refusal.classNotLive ∷ refusal.notAnAuxiliary ∷
     refusal.notASuperior ∷ refusal.rootNotAbstract ∷ refusal.abstractUnderOther ∷ refusal.auxiliaryUnderStructural ∷ refusal.structuralUnderAuxiliary ∷
-    refusal.chainAstray ∷ refusal.namingUnfit ∷ refusal.mapiTaken ∷ refusal.rangeCrossed ∷ refusal.syntaxMisfit ∷ refusal.objectClassWrong ∷
+    refusal.namingUnfit ∷ refusal.mapiTaken ∷ refusal.rangeCrossed ∷ refusal.syntaxMisfit ∷ refusal.objectClassWrong ∷
     refusal.linkTaken ∷ refusal.linkAlone ∷ refusal.mandatoryDiffers ∷ refusal.shortOutput ∷ []
 
 -- how many numbers of a list stand before n, all of them where n is none of them

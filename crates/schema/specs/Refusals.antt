@@ -89,9 +89,8 @@ notASuperior = 20
 abbrev pub rootNotAbstract : ℕ
 rootNotAbstract = 21
 
--- "22 The chain does not end at row 0 within 128 steps, or meets a number without a row."
-abbrev pub chainAstray : ℕ
-chainAstray = 22
+-- "22 The chain does not end at row 0 within 128 steps, or meets a number without a row." No call gives it: where 18 is met every chain ends. Document 02:
+-- "The number is not used again."
 
 -- "23 The naming attribute isn't 2.5.5.12 and single-valued."
 abbrev pub namingUnfit : ℕ

@@ -48,7 +48,7 @@ pub const NOT_A_SUPERIOR: u8 = 20;
 
 pub const ROOT_NOT_ABSTRACT: u8 = 21;
 
-pub const CHAIN_ASTRAY: u8 = 22;
+// 22 was a chain of superclasses that does not end. Where 18 is met each does; the number is not used again.
 
 pub const NAMING_UNFIT: u8 = 23;
 

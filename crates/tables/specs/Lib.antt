@@ -6,6 +6,7 @@ pub mod PutFrontLaws
 pub mod Same
 pub mod SameLaws
 pub mod Chain
+pub mod ChainLaws
 pub mod Changed
 pub mod ChangedLaws
 pub mod Live

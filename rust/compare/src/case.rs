@@ -1,5 +1,6 @@
 //! One input: a call, and all that is lent to it.
 
+use crate::astray::is_astray;
 use crate::keeper::{Keeper, Lent, LentMut};
 use crate::outcome::Outcome;
 use generate::Stores;
@@ -63,6 +64,15 @@ impl Case {
     /// Whether it is a quick change of stores that are in shape and not in order.
     pub fn is_quick_on_disorder(&self) -> bool {
         matches!(self.call, Call::Quick(_)) && self.stores.audit().number > 2
+    }
+
+    /// Whether it is a quick change, with room for what it tells, above whose row
+    /// the chain goes astray.
+    pub fn is_quick_astray(&self) -> bool {
+        match &self.call {
+            Call::Quick(change) => self.detail >= 2 && is_astray(&self.stores, change),
+            _ => false,
+        }
     }
 
     /// Plays the case with a keeper.

@@ -3,6 +3,7 @@
 //! the same, bytes past the lengths too. And the program that lists a sheet
 //! compared with the reference's listing.
 
+mod astray;
 mod case;
 mod cases;
 mod keeper;

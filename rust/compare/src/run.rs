@@ -3,6 +3,7 @@
 use crate::cases::cases;
 use crate::keeper::Keeper;
 use generate::coverage::Coverage;
+use std::collections::BTreeMap;
 
 /// After so many differences nothing more is learnt.
 const ENOUGH: usize = 10;
@@ -16,6 +17,9 @@ pub struct Report {
     pub inputs: usize,
     /// How many of them are quick changes of stores in shape and not in order.
     pub disordered: usize,
+    /// How often each number was given to quick changes above whose row the chain
+    /// of superclasses goes astray.
+    pub astray: BTreeMap<u64, usize>,
     /// The differences found, each with the input's number and call.
     pub differences: Vec<String>,
 }
@@ -29,6 +33,9 @@ pub fn compare(keeper: &impl Keeper, expected: &impl Keeper, seed: u64, count: u
         report.inputs += 1;
         report.disordered += usize::from(case.is_quick_on_disorder());
         report.coverage.note(name, got.number);
+        if case.is_quick_on_disorder() && case.is_quick_astray() {
+            *report.astray.entry(got.number).or_default() += 1;
+        }
         if let Some(difference) = got.differs(&case.play(expected)) {
             let line = format!("input {number}, {name}: {difference}");
             report.differences.push(line);

@@ -89,13 +89,13 @@ impl Coverage {
 
 /// Whether the papers let a call give a number.
 pub fn may_give(call: &str, number: u64) -> bool {
-    let rules_but_22 = matches!(number, 12..=21 | 38..=40 | 23..=29);
+    let rules = matches!(number, 12..=21 | 38..=40 | 23..=29);
     match call {
-        "load" => rules_but_22 || matches!(number, 0 | 1 | 4 | 6),
+        "load" => rules || matches!(number, 0 | 1 | 4 | 6),
         "write" => matches!(number, 0..=2 | 31),
-        "audit" => rules_but_22 || matches!(number, 0..=3),
-        "plain" => rules_but_22 || matches!(number, 0..=11 | 30),
-        "quick" => matches!(number, 0..=2 | 4..=30 | 38..=40),
+        "audit" => rules || matches!(number, 0..=3),
+        "plain" => rules || matches!(number, 0..=11 | 30),
+        "quick" => rules || matches!(number, 0..=2 | 4..=11 | 30),
         "depth" => matches!(number, 0..=2 | 5 | 18),
         _ => false,
     }
@@ -107,7 +107,7 @@ impl fmt::Display for Coverage {
         for call in self.calls() {
             write!(out, " {call:>7}")?;
         }
-        for number in (0..=31).chain(38..=40) {
+        for number in (0..=21).chain(23..=31).chain(38..=40) {
             write!(out, "\n{number:2}")?;
             for call in self.calls() {
                 match (self.count(call, number), may_give(call, number)) {

@@ -142,22 +142,53 @@ fn rule_30_for_a_removal_looks_at_the_rows_alone() {
     assert_eq!(lent.quick(&entry(0x4A, 3, 0x17, 1)), (0, 2, 3));
 }
 
+/// Class 3, above class 4, is under 4 itself, under itself, or under a number
+/// without a row: 18 asks only about the row's own superclass, and the call
+/// "goes on to the next number whose condition holds" (document 02, wish 7).
 #[test]
-fn rule_22_above_an_added_class() {
-    let class = Row::class(5, 1, 4).added();
-    let mut lent = stores();
-    lent.classes[2 + 3 * 315 + 152] = 4;
-    assert_eq!(lent.quick(&class), (22, 0, 0));
-    lent.classes[2 + 3 * 315 + 152] = 127;
-    assert_eq!(lent.quick(&class), (22, 0, 0));
-    let renamed = change(0x44, 4, &[field(0x01, b"other")]);
-    assert_eq!(lent.quick(&renamed), (22, 0, 0));
-    lent.classes[2 + 3 * 315 + 152] = 0;
-    lent.classes[2 + 152] = 4;
-    assert_eq!(lent.quick(&class), (0, 2, 5));
+fn a_chain_that_goes_astray_above_the_changed_row_is_not_asked_for() {
+    for above in [4, 3, 127] {
+        let mut lent = stores();
+        lent.classes[2 + 3 * 315 + 152] = above;
+        assert_eq!(lent.audit(), (18, 2, 3));
+        assert_eq!(lent.depth(4), (18, 0, 0));
+        assert_eq!(lent.plain(&change(0x46, 4, &[])), (3, 0, 0));
+        let renamed = |class: u16| change(0x44, class, &[field(0x01, b"other")]);
+        assert_eq!(lent.quick(&renamed(3)), (18, 0, 0));
+        assert_eq!(lent.quick(&renamed(4)), (0, 2, 4));
+        let named = Row::class(5, 1, 4).with(0x12, &[0, 0]);
+        assert_eq!(lent.quick(&named.added()), (23, 0, 0));
+        poke(&mut lent, 2, [0b101, 0b1000_0000, 0]);
+        assert_eq!(lent.quick(&entry(0x49, 4, 0x17, 2)), (30, 0, 0));
+        let class = Row::class(5, 1, 4).with_set(0x13, &[1]);
+        assert_eq!(lent.quick(&class.added()), (0, 2, 5));
+        assert_eq!(kept(&lent, 5), [0b11_1011, 0b10, 0b1]);
+        assert_eq!(lent.depth(5), (18, 0, 0));
+    }
 }
 
-/// 38 to 40 stand before 22 and 30 (W3.4, W3.5); 18 before them.
+/// "working out sets afresh ends by itself, each class once" (W7.2).
+#[test]
+fn sets_are_worked_out_afresh_over_a_loop() {
+    let mut lent = stores();
+    assert_eq!(lent.quick(&entry(0x49, 4, 0x15, 2)), (0, 2, 4));
+    lent.classes[2 + 3 * 315 + 152] = 4;
+    poke(&mut lent, 3, [0b11000, 0, 0]);
+    assert_eq!(lent.quick(&entry(0x4A, 4, 0x15, 2)), (0, 2, 4));
+    assert_eq!(kept(&lent, 3), [0b11011, 0, 0b1]);
+    assert_eq!(kept(&lent, 4), [0b11011, 0, 0b1]);
+}
+
+#[test]
+fn the_superclass_of_row_0_is_asked_for_at_row_0_alone() {
+    let mut lent = stores();
+    lent.classes[2 + 152] = 4;
+    assert_eq!(lent.quick(&change(0x46, 0, &[])), (11, 0, 0));
+    assert_eq!(lent.quick(&entry(0x49, 0, 0x15, 0)), (18, 0, 0));
+    assert_eq!(lent.quick(&Row::class(5, 1, 4).added()), (0, 2, 5));
+}
+
+/// 38 to 40 stand before 30 (W3.5); 18 before them.
 #[test]
 fn rules_38_to_40_of_a_changed_row() {
     let category = |class: usize| 2 + class * 315 + 151;

@@ -15,7 +15,11 @@ fn told(way: &str, seed: u64, report: &Report) -> bool {
     }
     let (inputs, differences) = (report.inputs, report.differences.len());
     let disordered = report.disordered;
-    println!("seed {seed}, {way}: {disordered} quick changes on stores in shape and not in order");
+    let astray: usize = report.astray.values().sum();
+    println!(
+        "seed {seed}, {way}: {disordered} quick changes on stores in shape and not in order, \
+         {astray} of them below a chain that goes astray"
+    );
     println!("seed {seed}, {way}: {inputs} inputs compared, {differences} differ");
     report.differences.is_empty()
 }

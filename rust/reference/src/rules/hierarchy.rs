@@ -1,6 +1,5 @@
-//! Rules 19 to 23 and 38 to 40: categories, the chain of superclasses, the
-//! naming attribute. A named row that is not there breaks none of these but 22
-//! (R56); 17 or 18 tells it.
+//! Rules 19 to 21, 38 to 40 and 23: categories and the naming attribute. A
+//! named row that is not there breaks none of these (R56); 17 or 18 tells it.
 
 use crate::schema::{Category, Class, Schema};
 
@@ -51,22 +50,6 @@ pub fn structural_under_auxiliary(schema: &Schema, number: u16, class: &Class) -
 fn above(schema: &Schema, number: u16, class: &Class) -> Option<Category> {
     let superclass = schema.class(class.superclass).filter(|_| number != 0);
     superclass.map(|superclass| superclass.category)
-}
-
-/// "22 The chain does not end at row 0 within 128 steps, or meets a number
-/// without a row."
-pub fn chain_astray(schema: &Schema, number: u16) -> bool {
-    let mut met = number;
-    for _step in 0..128 {
-        if met == 0 {
-            return false;
-        }
-        match schema.class(met) {
-            Some(class) => met = class.superclass,
-            None => return true,
-        }
-    }
-    met != 0
 }
 
 /// "23 The naming attribute isn't 2.5.5.12 and single-valued."

@@ -13,9 +13,10 @@ use crate::schema::{Attribute, Class, Row, Schema};
 
 /// The schema rules in the order of judging: 38 to 40 "stand at 21's place in
 /// the order, in the order given here, though their numbers are higher", and
-/// the "smallest is the first in this order" (document 02, wish 3).
-pub const RULES: [u64; 21] = [
-    12, 13, 14, 15, 16, 17, 18, 19, 20, 21, 38, 39, 40, 22, 23, 24, 25, 26, 27, 28, 29,
+/// the "smallest is the first in this order" (document 02, wish 3). 22 "is not
+/// used again" (wish 7).
+pub const RULES: [u64; 20] = [
+    12, 13, 14, 15, 16, 17, 18, 19, 20, 21, 38, 39, 40, 23, 24, 25, 26, 27, 28, 29,
 ];
 
 /// The rows to be judged, and which of them was just added, if one was.
@@ -83,7 +84,6 @@ impl<'a> Judged<'a> {
             38 => hierarchy::abstract_under_other(schema, number, class),
             39 => hierarchy::auxiliary_under_structural(schema, number, class),
             40 => hierarchy::structural_under_auxiliary(schema, number, class),
-            22 => hierarchy::chain_astray(schema, number),
             23 => hierarchy::wrong_naming_attribute(schema, class),
             _ => false,
         }

@@ -107,7 +107,6 @@ fn class(number: u64, schema: &Schema, at: usize, row: &Class) -> Option<String>
         20 => misfits(schema, row, superiors, &[0, 1]),
         21 => Some(root(row)),
         38..=40 => category(schema, row),
-        22 => Some("its superclasses do not lead to class 0".to_owned()),
         23 => naming(schema, row),
         _ => None,
     }

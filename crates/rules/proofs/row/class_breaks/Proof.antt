@@ -45,9 +45,6 @@ inheritance-wrong-requires-3 c κs = search needs
 inheritance-wrong-requires-4 : tie.Need-inheritance-wrong-requires-4
 inheritance-wrong-requires-4 c κs = search needs
 
-chain-wrong-requires : tie.Need-chain-wrong-requires
-chain-wrong-requires c κs = search needs
-
 naming-wrong-requires : tie.Need-naming-wrong-requires
 naming-wrong-requires c κs =
     let c₁ = c .before in
@@ -88,18 +85,14 @@ returns-8 c = let c₁ = c .before in rw (c₁ .match .keys8) (rw (c₁ .match .
 
 returns-9 : tie.Need-returns-9
 unfolding numbered
-returns-9 c = rw (c .before .match .keys9) (c .chain-wrong .ensures)
+returns-9 c = let c₁ = c .before in let c₂ = c₁ .before in rw (c₁ .match .keys9, ← (c₂ .class-row .ensures)) (c .naming-wrong .ensures)
 
 returns-10 : tie.Need-returns-10
-unfolding numbered
-returns-10 c = let c₁ = c .before in let c₂ = c₁ .before in rw (c₁ .match .keys10, ← (c₂ .class-row .ensures)) (c .naming-wrong .ensures)
-
-returns-11 : tie.Need-returns-11
-returns-11 c =
+returns-10 c =
     let start = c .before .before .before .before in
     sym
     (numbered-unlike (λ r. r .breaks (schemaIn (start .args .attributes .now) (start .args .classes .now)) Classes (start .args .c .0)) (λ n. refl)
-    (refusal.namingUnfit ∷ refusal.chainAstray ∷ refusal.structuralUnderAuxiliary ∷ refusal.auxiliaryUnderStructural ∷ refusal.abstractUnderOther ∷
+    (refusal.namingUnfit ∷ refusal.structuralUnderAuxiliary ∷ refusal.auxiliaryUnderStructural ∷ refusal.abstractUnderOther ∷
     refusal.rootNotAbstract ∷ refusal.notASuperior ∷ refusal.notAnAuxiliary ∷ refusal.classNotLive ∷ refusal.attributeNotLive ∷ [])
     commonNumbers (schemaRules (start .args .added)) (start .args .number) (c .match .rest) (start .pre .2) (unfold strays among in refl))
 
@@ -116,7 +109,6 @@ class-breaks-spec =
     inheritance-wrong-requires-2
     inheritance-wrong-requires-3
     inheritance-wrong-requires-4
-    chain-wrong-requires
     naming-wrong-requires
     returns
     returns-2
@@ -127,5 +119,4 @@ class-breaks-spec =
     returns-7
     returns-8
     returns-9
-    returns-10
-    returns-11)
+    returns-10)
