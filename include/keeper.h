@@ -93,9 +93,9 @@ extern "C" {
 #define KEEPER_SHORT_OUTPUT 31      /* write: the output is too short; place: the length needed */
 
 /*
- * The rules of the schema, in the order of judging: the first that is broken is given. 38 to 40 stand at 21's place,
- * though their numbers are higher. Load and audit: table and place name the lowest row that breaks the rule, attributes
- * first.
+ * The rules of the schema, in the order of judging: the first that is broken is given. 38 to 40 stand at 21's place and
+ * 45 before 30, though their numbers are higher. Load and audit: table and place name the lowest row that breaks the
+ * rule, attributes first.
  */
 #define KEEPER_NAME_INVALID 12
 #define KEEPER_NAME_TAKEN 13
@@ -118,13 +118,14 @@ extern "C" {
 #define KEEPER_OBJECT_CLASS_WRONG 27
 #define KEEPER_LINK_TAKEN 28
 #define KEEPER_LINK_ALONE 29
+#define KEEPER_LINK_SYNTAX 45
 
 /*
  * Loads a sheet into the stores; what stood there before is not looked at.
  *   0       accepted: the stores are in order
  *   1       nothing of the stores is written
  *   4, 6    the sheet cannot be read, or has too many rows, whichever comes first
- *   12..29, 38..40
+ *   12..29, 38..40, 45
  *           a rule is broken: the first in the order of judging, then the lowest row
  * Refused by 4 or more, every byte of the stores, up to their lengths, is 0.
  */
@@ -153,7 +154,7 @@ uint64_t keeper_write(const uint8_t *attributes, size_t attributes_length,
  *   0       yes
  *   1, 2    they are too short, or out of shape
  *   3       all rows are fine, but the closure store is not what the rows give
- *   12..29, 38..40
+ *   12..29, 38..40, 45
  *           a rule is broken: the first in the order of judging, then the lowest row
  */
 uint64_t keeper_audit(const uint8_t *attributes, size_t attributes_length,
@@ -169,7 +170,7 @@ uint64_t keeper_audit(const uint8_t *attributes, size_t attributes_length,
  *   3       they are not in order: a row breaks a rule, or the closure store is not what the rows give
  *   4       the change cannot be read; place: the byte offset
  *   5..11   the row that it asks for cannot be changed or added so
- *   12..29, 38..40
+ *   12..29, 38..40, 45
  *           some row of the result breaks a rule: the first in the order of judging
  *   30      some class would demand other attributes than before
  * The first number that holds is given, in this order, the rules before 30. Refused, no byte of any store is altered, and
@@ -193,7 +194,7 @@ uint64_t keeper_plain_change(const uint8_t *change, size_t change_length,
  *   1, 2    the stores are too short, or out of shape
  *   4       the change cannot be read; place: the byte offset
  *   5..11   the row that it asks for cannot be changed or added so
- *   12..29, 38..40
+ *   12..29, 38..40, 45
  *           the changed row breaks a rule: the first in the order of judging
  *   30      the class would demand other attributes than before
  * It never gives 3. Refused, no byte of any store is altered, and table and place are 0 but for the place of 4.

@@ -1,11 +1,11 @@
 -- The small tables of document 01, each value typed from the paper, as statements about the definitions that the calls are proved against; `paper-tables`
 -- (PaperTablesLaws) is a member of the record. A definition that says something else contradicts a line here, whatever its own laws say.
-use mathlib.Core.Bool.{true, cond}
+use mathlib.Core.Bool.{true, false, cond}
 use mathlib.Core.List.{List, [], _∷_, _++_}
 use mathlib.Core.Logic.{_⊎_, _↔_}
 use mathlib.Core.Path.{_≡_}
 use Prim.Native.Char.{code}
-use Prim.Native.Nat.{ℕ, _+_, _-_, _*_, _≤_, _<_}
+use Prim.Native.Nat.{ℕ, _+_, _-_, _*_, _%_, _≤_, _<_}
 use Prim.Native.String.{String}
 use lib.Dec.{ltb}
 use lib.ListN.{length}
@@ -30,6 +30,7 @@ use Rattle.change_read.specs.Reading.{readChange}
 use Rattle.change_read.specs.declared.read.ChangeRead.{ChangeRead}
 use Rattle.change_rows.specs.Rows.{schemaAfter}
 use Rattle.rules_names.specs.Name.{sameName, validName}
+use Rattle.rules_attribute.specs.Links.{linkSyntaxWrong}
 use Rattle.rules_attribute.specs.Syntax.{syntaxFits}
 use Rattle.keeper_promises.specs.Pieces.{classRow, classes, judgedRows, sample}
 use Rattle.change_read.specs.declared.read.ChangeRead.the-variants as changes
@@ -104,6 +105,13 @@ pub data RightObjectClass : ℕ → List ℕ → Type 0 where
   thirteen : RightObjectClass 13 (hex "2B0C0287731C00855C")
   fourteen : RightObjectClass 14 (hex "2B0C0287731C00853E")
   fourteenToo : RightObjectClass 14 (hex "2A864886F7140101010C")
+
+-- document 02: "a present even linkID needs 2.5.5.1, 2.5.5.7 or 2.5.5.14, an odd one 2.5.5.1": what a present linkID leaves, divided by 2, and the syntax
+pub data LinkSyntax : ℕ → ℕ → Type 0 where
+  evenName : LinkSyntax 0 1
+  evenNameWithBinary : LinkSyntax 0 7
+  evenNameWithString : LinkSyntax 0 14
+  oddName : LinkSyntax 1 1
 
 -- ---- fields
 
@@ -242,6 +250,9 @@ pub record PaperTables : Type 0 where
   pub syntax-pairs : (syntax omSyntax : ℕ) → (syntaxFits syntax omSyntax ≡ true) ↔ SyntaxPair syntax omSyntax
   pub object-classes : (syntax : ℕ) (value : List ℕ) → (objectClassFits syntax value ≡ true) ↔ RightObjectClass syntax value
   pub defaults : DefaultTable
+  -- 45: exactly these syntaxes, of any present linkID; where it is absent, any
+  pub link-syntaxes : (row : List ℕ) → ¬ (linkOf row ≡ 0) → (linkSyntaxWrong row ≡ false) ↔ LinkSyntax (linkOf row % 2) (syntaxOf row)
+  pub link-absent : (row : List ℕ) → linkOf row ≡ 0 → linkSyntaxWrong row ≡ false
   -- "A row is a *base row* if systemFlags has 0x10"
   pub base-bit : (row : List ℕ) (high bit low : ℕ) → low < 0x10 → bit < 2 → systemFlags row ≡ high * 0x20 + bit * 0x10 + low
       → (isBase row ≡ true) ↔ (bit ≡ 1)

@@ -4,23 +4,29 @@ use mathlib.Core.List.{List, [], _∷_}
 use mathlib.Core.Logic.{_⊎_, inl, inr, ⊎-elim, _↔_}
 use mathlib.Core.Path.{_≡_, refl, sym, ap, subst₂, _∙_, subst}
 use Prim.Native.Nat.{ℕ, suc, _+_, _*_, _/_, _%_, _≤_, _<_}
+use native.Mathlib.Decide.{ℕ-discrete}
 use native.Mathlib.Omega.{arith}
 use lib.ListN.{getD}
+use borrow.Author.Tests.{not-false}
 use Rattle.prelude.specs.Below.{anyBelow, allBelow}
 use Rattle.prelude.specs.BelowLaws.{last-or-less}
 use Rattle.prelude.specs.Part.{part, sameBytes, padded, zeros}
-use Rattle.prelude.specs.SaysLaws.{says-eq, says-split}
+use Rattle.prelude.specs.SaysLaws.{says-eq, says-split, says-false}
 use Rattle.sets.specs.Sets.{listBelow}
+use Rattle.schema.specs.AttributeRow.{syntaxOf, linkOf}
 use Rattle.schema.specs.ObjectClasses.{objectClasses, objectClassFits, entryCount, entrySyntax, entryValue}
 use Rattle.schema.specs.ObjectClassesLaws.{says-object-class-fits}
 use Rattle.schema.specs.Row.{isBase, systemFlags}
 use Rattle.rules_names.specs.Name.{folded, sameName, between, validName, isLetter, isNameByte}
 use Rattle.rules_names.specs.NameLaws.{folded-upper, says-same-name, folded-other, says-between}
+use Rattle.rules_attribute.specs.Links.{linkSyntaxFits, linkSyntaxWrong, LinkSyntaxFits}
+use Rattle.rules_attribute.specs.LinksLaws.{says-link-syntax-fits, says-link-syntax-wrong}
 use Rattle.rules_attribute.specs.Syntax.{syntaxFits, syntaxPairs, pairCount}
 use Rattle.rules_attribute.specs.SyntaxLaws.{says-syntax-fits}
 use Rattle.keeper_promises.specs.PaperTables.{SyntaxPair, name, identifier, exactString, teletex, printable, ia5, numeric, nameWithBinary}
 use Rattle.keeper_promises.specs.PaperTables.{boolean, integer, enumeration, octets, universalTime, generalTime, unicode, presentation}
 use Rattle.keeper_promises.specs.PaperTables.{nameWithString, descriptor, largeInteger, sid, RightObjectClass, one, seven, sevenToo, thirteen}
+use Rattle.keeper_promises.specs.PaperTables.{LinkSyntax, evenName, evenNameWithBinary, evenNameWithString, oddName}
 use Rattle.keeper_promises.specs.PaperTables.{fourteen, fourteenToo, PaperTables, NameTables, SmallOf, hexBytes, hexDigit, text}
 use Rattle.keeper_promises.specs.ComputedLaws as computed
 
@@ -104,6 +110,37 @@ object-classes syntax value = (listed, fits)
     fits fourteen = refl
     fits fourteenToo = refl
 
+-- ---- links
+
+link-syntaxes : (row : List ℕ) → ¬ (linkOf row ≡ 0) → (linkSyntaxWrong row ≡ false) ↔ LinkSyntax (linkOf row % 2) (syntaxOf row)
+unfolding linkSyntaxWrong
+link-syntaxes row present = (
+  λ e. listed (says-link-syntax-fits row .holds (not-false (linkSyntaxFits row) e)),
+  λ h. says-false (says-link-syntax-wrong row) (λ bad. bad (fits h refl refl)),
+)
+  where
+    listed : LinkSyntaxFits row → LinkSyntax (linkOf row % 2) (syntaxOf row)
+    listed h = go (ℕ-discrete (linkOf row % 2) 1)
+      where
+        at : {a b : ℕ} → LinkSyntax a b → linkOf row % 2 ≡ a → syntaxOf row ≡ b → LinkSyntax (linkOf row % 2) (syntaxOf row)
+        at x p q = subst₂ LinkSyntax (sym p) (sym q) x
+
+        go : Dec (linkOf row % 2 ≡ 1) → LinkSyntax (linkOf row % 2) (syntaxOf row)
+        go (yes odd) = at oddName odd (h .odd odd)
+        go (no d) =
+            let even : linkOf row % 2 ≡ 0 = omega arith in
+            ⊎-elim (at evenName even) (⊎-elim (at evenNameWithBinary even) (at evenNameWithString even)) (h .even present even)
+
+    fits : {a b : ℕ} → LinkSyntax a b → linkOf row % 2 ≡ a → syntaxOf row ≡ b → LinkSyntaxFits row
+    fits evenName p q = record { even = λ d z. inl q; odd = λ odd. absurd (omega arith) }
+    fits evenNameWithBinary p q = record { even = λ d z. inr (inl q); odd = λ odd. absurd (omega arith) }
+    fits evenNameWithString p q = record { even = λ d z. inr (inr q); odd = λ odd. absurd (omega arith) }
+    fits oddName p q = record { even = λ d even. absurd (omega arith); odd = λ z. q }
+
+link-absent : (row : List ℕ) → linkOf row ≡ 0 → linkSyntaxWrong row ≡ false
+link-absent row e =
+    says-false (says-link-syntax-wrong row) (λ bad. bad (record { even = λ present z. absurd (present e); odd = λ odd. absurd (omega arith) }))
+
 -- ---- names
 
 -- two bytes are folded to one exactly if they are one, or one is the other's small letter
@@ -140,6 +177,8 @@ paper-tables = record {
   syntax-pairs = syntax-pairs;
   object-classes = object-classes;
   defaults = computed.defaults;
+  link-syntaxes = link-syntaxes;
+  link-absent = link-absent;
   base-bit = base-bit;
   attribute-read = computed.attribute-read;
   attribute-cells = computed.attribute-cells;

@@ -7,7 +7,7 @@ use Prim.Native.Nat.{ℕ, _+_, _<_}
 use lib.ListN.{length}
 use Rattle.prelude.specs.Part.{zeros, padded, splice}
 use Rattle.prelude.specs.BigEndian.{bigEndianBytes}
-use Rattle.schema.specs.Layout.{mandatoryAt, attributeSet, nameLimit}
+use Rattle.schema.specs.Layout.{mandatoryAt, objectClassAt, attributeSet, nameLimit, objectClassLimit}
 use Rattle.schema.specs.declared.answer.Answer.{Answer}
 use Rattle.schema.specs.declared.attribute.Bound.{Bound}
 use Rattle.schema.specs.declared.attribute.Bound.the-variants.{Given, Absent}
@@ -72,9 +72,22 @@ bySyntax syntax omSyntax = one (attributeRow areaHa (2 ∷ 999 ∷ []) 1 syntax 
 unfoldable pub byRange : Bound → Bound → Answer
 byRange lower upper = one (attributeRow areaHa (2 ∷ 999 ∷ []) 1 9 10 lower upper 0)
 
--- attributes `a`, `b` .. with linkIDs
+-- an attribute row with an oMObjectClass
+unfoldable pub withObjectClass : List ℕ → List ℕ → List ℕ
+withObjectClass value row = splice objectClassAt (length value ∷ padded objectClassLimit value) row
+
+-- attributes `a`, `b` .. with linkIDs: of integers, 2.5.5.9; of names, 2.5.5.1; of names with binary, 2.5.5.7
+unfoldable pub linkedBy : ℕ → ℕ → ℕ → ℕ → List ℕ
+linkedBy syntax omSyntax k link = attributeRow ((97 + k) ∷ []) (2 ∷ k ∷ []) k syntax omSyntax Absent Absent link
+
+unfoldable pub linkedIntegers : ℕ → ℕ → List ℕ
+linkedIntegers = linkedBy 9 2
+
 unfoldable pub linked : ℕ → ℕ → List ℕ
-linked k link = attributeRow ((97 + k) ∷ []) (2 ∷ k ∷ []) k 9 10 Absent Absent link
+linked k link = withObjectClass (0x2B ∷ 0x0C ∷ 0x02 ∷ 0x87 ∷ 0x73 ∷ 0x1C ∷ 0x00 ∷ 0x85 ∷ 0x4A ∷ []) (linkedBy 1 127 k link)
+
+unfoldable pub linkedWithBinary : ℕ → ℕ → List ℕ
+linkedWithBinary k link = withObjectClass (0x56 ∷ 0x06 ∷ 0x01 ∷ 0x02 ∷ 0x05 ∷ 0x0B ∷ 0x1D ∷ []) (linkedBy 7 127 k link)
 
 -- class 0 is abstract; class 1 of a category is under it, and class 2 of a category under class 1
 unfoldable pub classes : ℕ → ℕ → Answer
@@ -126,7 +139,7 @@ pub record Pieces : Type 0 where
   -- both ends of i32; only one end: pass; pass
   pub p5 : (byRange (Given 0x80000000) (Given 0x7FFFFFFF) .number ≡ 0) × ((byRange (Given 5) Absent .number ≡ 0)
       × (byRange Absent (Given 5) .number ≡ 0))
-  -- linkID 1; 2 alone; 2 and 3: 29; pass; pass
+  -- linkID 1; 2 alone; 2 and 3: 29; pass; pass. Document 02: "P6's rows have 2.5.5.1."
   pub p6 : (one (linked 0 1) .number ≡ refusal.linkAlone) × ((one (linked 0 2) .number ≡ 0)
       × (judgedRows (linked 0 2 ∷ linked 1 3 ∷ []) [] .number ≡ 0))
   -- 88 class under auxiliary: pass
@@ -145,3 +158,9 @@ pub record Pieces : Type 0 where
   -- besides: an entry that no set can hold is not live, 18; one that is no auxiliary, 19
   pub beyond : joining 1 200 ≡ refusal.classNotLive
   pub misfit : joining 1 1 ≡ refusal.notAnAuxiliary
+  -- document 02: "Somebody linked two integer attributes": 45; linkID 1 of an integer is 29 before it
+  pub integers : judgedRows (linkedIntegers 0 2 ∷ linkedIntegers 1 3 ∷ []) [] ≡ brokenBy refusal.linkSyntax Attributes 0
+  pub lone : one (linkedIntegers 0 1) .number ≡ refusal.linkAlone
+  -- "a present even linkID needs 2.5.5.1, 2.5.5.7 or 2.5.5.14, an odd one 2.5.5.1"
+  pub binary : (judgedRows (linkedWithBinary 0 2 ∷ linked 1 3 ∷ []) [] .number ≡ 0)
+      × (judgedRows (linked 0 2 ∷ linkedWithBinary 1 3 ∷ []) [] ≡ brokenBy refusal.linkSyntax Attributes 1)

@@ -14,7 +14,7 @@ use Rattle.rules_unique.specs.Unique.{sameKey, hasKey, samePresent, rivalIn, ta
 use Rattle.rules_attribute.specs.Range.{signed, endsCrossed, rangeWrong}
 use Rattle.rules_attribute.specs.Syntax.{syntaxFits, syntaxWrong, objectClassWrong}
 use Rattle.schema.specs.ObjectClasses.{objectClasses, objectClassFits}
-use Rattle.rules_attribute.specs.Links.{isBackLink, isForwardOf, forwardMissing}
+use Rattle.rules_attribute.specs.Links.{isBackLink, isForwardOf, forwardMissing, linkSyntaxFits, linkSyntaxWrong}
 use Rattle.tables.specs.Named.{lists, namedBy, names}
 use Rattle.rules_class.specs.Live.{namesDead, notLive, superclassLate, classWrong, namingWrong}
 use Rattle.rules_class.specs.Category.{categoryWrong, wronglyListed, otherCategory, inheritance, rootInheritance, inheritanceOf, inheritanceWrong}
@@ -29,19 +29,20 @@ use Rattle.graph.specs.Graph.{reachesBy, collectsBy, inherits, listsMandatory, 
 use Rattle.change_model.specs.Model.{changeNumber}
 use Rattle.keeper_promises.specs.Pieces.{Pieces}
 use Rattle.keeper_promises.specs.Pieces.{arcBytes, common, endBytes, attributeRow, classRow, judgedRows, areaHa, one, byName, byArcs, bySyntax, byRange}
-use Rattle.keeper_promises.specs.Pieces.{linked, classes, demanding, twoAttributes, threeClasses, sample, joining, renaming}
+use Rattle.keeper_promises.specs.Pieces.{withObjectClass, linkedBy, linkedIntegers, linked, linkedWithBinary}
+use Rattle.keeper_promises.specs.Pieces.{classes, demanding, twoAttributes, threeClasses, sample, joining, renaming}
 use Rattle.graph.specs.PiecesLaws as graph
 
 pub pieces : Pieces
 unfolding attributeNotLive classNotLive barred entryDead sameTable part zeros padded sameBytes bigEndian bigEndianBytes anyBelow allBelow firstBelow
-    digit bit member boundAt namingOf between isLetter
-    isNameByte validName folded sameName nameInvalid identifierInvalid live sameKey hasKey samePresent sameRow rivalIn taken signed endsCrossed
-    rangeWrong syntaxFits syntaxWrong objectClasses objectClassFits objectClassWrong isBackLink isForwardOf forwardMissing lists namedBy names
-    namesDead notLive superclassLate classWrong namingWrong categoryWrong wronglyListed otherCategory inheritance rootInheritance inheritanceOf
-    inheritanceWrong judgeTable judgeRule judgeRules judged arcBytes common endBytes attributeRow classRow judgedRows
-    areaHa one byName byArcs bySyntax byRange linked classes
-    splice firstOf digitsOf setOf withMember withRow schemaAfter tableAfter editedRow openList listTag targetAbsent tableFull baseAdded
-    via reachesBy collectsBy inherits listsMandatory demandedSet mandatoryDiffers changeNumber demanding twoAttributes threeClasses sample joining renaming
+    digit bit member boundAt namingOf between isLetter isNameByte validName folded sameName nameInvalid identifierInvalid live sameKey hasKey
+    samePresent sameRow rivalIn taken signed endsCrossed rangeWrong syntaxFits syntaxWrong objectClasses objectClassFits objectClassWrong isBackLink
+    isForwardOf forwardMissing linkSyntaxFits linkSyntaxWrong lists namedBy names namesDead notLive superclassLate classWrong namingWrong
+    categoryWrong wronglyListed otherCategory inheritance rootInheritance inheritanceOf inheritanceWrong judgeTable judgeRule
+    judgeRules judged arcBytes common endBytes attributeRow classRow judgedRows areaHa one byName byArcs bySyntax byRange withObjectClass linkedBy
+    linkedIntegers linked linkedWithBinary classes splice firstOf digitsOf setOf withMember withRow schemaAfter tableAfter editedRow openList
+    listTag targetAbsent tableFull baseAdded via reachesBy collectsBy inherits listsMandatory demandedSet mandatoryDiffers changeNumber demanding
+    twoAttributes threeClasses sample joining renaming
 pieces = record {
   p1 = (refl, (refl, refl));
   p2 = (refl, (refl, refl));
@@ -57,4 +58,7 @@ pieces = record {
   p12 = refl;
   beyond = refl;
   misfit = refl;
+  integers = refl;
+  lone = refl;
+  binary = (refl, refl);
 }

@@ -1,4 +1,4 @@
--- What "in order" gives whoever uses the stores: statements of the bytes of rows and kept sets, in document 01's own words and not by the tests of the rules;
+-- What "in order" gives whoever uses the stores: statements of the bytes of rows and kept sets, in the papers' own words and not by the tests of the rules;
 -- `uses` (UsesLaws) is a member of the record for all stores in order. A list that a rule leaves out, or two lists exchanged, contradicts one of them.
 use mathlib.Core.Bool.{true, false}
 use mathlib.Core.List.{List, []}
@@ -17,7 +17,7 @@ use Rattle.schema.specs.Store.{Schema, Stores, Table, allowedIn, demandedIn, re
 use Rattle.schema.specs.declared.attribute.Bound.the-variants.{Given}
 use Rattle.schema.specs.declared.class.Naming.the-variants.{By}
 use Rattle.schema.specs.declared.number.TableId.{TableId}
-use Rattle.keeper_promises.specs.PaperTables.{RightObjectClass, SmallOf, SyntaxPair}
+use Rattle.keeper_promises.specs.PaperTables.{LinkSyntax, RightObjectClass, SmallOf, SyntaxPair}
 
 -- ---- words
 
@@ -101,6 +101,8 @@ pub record AttributeSound (a : Table) (row : List ℕ) : Type 0 where
   pub range : (l u : ℕ) → rangeLower row ≡ Given l → rangeUpper row ≡ Given u → SignedAtMost l u
   -- "An odd linkID without a live attribute holding the number one less; 1 never has one"
   pub forward : linkOf row % 2 ≡ 1 → Some (a .count) (λ j. Usable a row j × ((linkOf (a .row j) + 1 ≡ linkOf row) × ¬ (linkOf (a .row j) ≡ 0)))
+  -- "Linked attributes must hold names."
+  pub linked : ¬ (linkOf row ≡ 0) → LinkSyntax (linkOf row % 2) (syntaxOf row)
 
 -- class row c
 pub record ClassSound (m : Schema) (c : ℕ) (row : List ℕ) : Type 0 where

@@ -41,13 +41,14 @@ use Rattle.rules_names.specs.Name.{SameName, folded}
 use Rattle.rules_unique.specs.IdentifierLaws.{row-arcs}
 use Rattle.rules_attribute.specs.Range.{biased, endsCrossed}
 use Rattle.rules_attribute.specs.RangeLaws.{biased-high, biased-low, less-biased, says-crossed}
+use Rattle.rules_attribute.specs.LinksLaws.{says-link-syntax-wrong}
 use Rattle.rules_attribute.specs.SyntaxLaws.{says-syntax-fits}
 use Rattle.rules_class.specs.Category.{listCategory}
 use Rattle.rules_class.specs.Live.{SuperclassEarly}
 use Rattle.rules.specs.Meets.{Meets, Fitting, nameInvalid, nameTaken, identifierInvalid, identifierTaken, guidTaken, attributeNotLive, classNotLive}
 use Rattle.rules.specs.Meets.{notAnAuxiliary, notASuperior, rootNotAbstract, abstractUnderOther, auxiliaryUnderStructural, structuralUnderAuxiliary}
 use Rattle.rules.specs.Meets.{namingUnfit, mapiTaken, rangeCrossed, syntaxMisfit, objectClassWrong}
-use Rattle.rules.specs.Meets.{linkTaken, linkAlone}
+use Rattle.rules.specs.Meets.{linkTaken, linkAlone, linkSyntax}
 use Rattle.rules.specs.declared.row.Added.the-variants.{Nothing}
 use Rattle.tables_shape.specs.ShapeLaws.{table-shaped}
 use Rattle.keeper_promises.specs.PaperTablesLaws.{paper-tables, small-folds}
@@ -189,6 +190,7 @@ module _ (m : Schema) (met : Meets Nothing m) where
           below = f .below;
           is = (live-usable (m .attributes) row (f .at) (f .is .1), (f .is .0 .1, f .is .0 .0));
         });
+        linked = λ present. paper-tables .link-syntaxes row present .0 (says-false (says-link-syntax-wrong row) (λ bad. bad (met linkSyntax k l)));
       }
 
   -- ---- classes

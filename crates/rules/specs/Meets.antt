@@ -20,7 +20,7 @@ use Rattle.tables.specs.declared.named.ClassList.the-variants.{Auxiliaries, Sup
 use Rattle.rules_names.specs.Name.{ValidName, SameName, IdentifierInvalid}
 use Rattle.rules_attribute.specs.Range.{EndsCrossed}
 use Rattle.rules_attribute.specs.Syntax.{SyntaxFits}
-use Rattle.rules_attribute.specs.Links.{ForwardOf}
+use Rattle.rules_attribute.specs.Links.{ForwardOf, LinkSyntaxFits}
 use Rattle.rules_class.specs.Live.{SuperclassEarly, CanName}
 use Rattle.rules_class.specs.Category.{class88, abstract, listCategory, Illegal}
 use Rattle.rules_class.specs.declared.category.Inheritance.{Inheritance}
@@ -45,7 +45,7 @@ NumbersApart m number =
 pub data RuleName : Type 0 where
   nameInvalid nameTaken identifierInvalid identifierTaken guidTaken attributeNotLive classNotLive notAnAuxiliary notASuperior : RuleName
   rootNotAbstract abstractUnderOther auxiliaryUnderStructural structuralUnderAuxiliary : RuleName
-  namingUnfit mapiTaken rangeCrossed syntaxMisfit objectClassWrong linkTaken linkAlone : RuleName
+  namingUnfit mapiTaken rangeCrossed syntaxMisfit objectClassWrong linkTaken linkAlone linkSyntax : RuleName
 
 abbrev pub ruleNumber : RuleName → ℕ
 ruleNumber nameInvalid = refusal.nameInvalid
@@ -68,6 +68,7 @@ ruleNumber syntaxMisfit = refusal.syntaxMisfit
 ruleNumber objectClassWrong = refusal.objectClassWrong
 ruleNumber linkTaken = refusal.linkTaken
 ruleNumber linkAlone = refusal.linkAlone
+ruleNumber linkSyntax = refusal.linkSyntax
 
 -- what a class names in a table is there, and active if the class is
 abbrev pub NamedLive : TableId → Schema → Type 0
@@ -135,6 +136,8 @@ Met added linkTaken m = NumbersApart m linkOf
 -- 29 an odd linkID has the holder of the number one less, live for it
 Met added linkAlone m = (k : ℕ) → k < m .attributes .count → linkOf (m .attributes .row k) % 2 ≡ 1
     → Some (m .attributes .count) (λ j. ForwardOf (m .attributes .row k) (m .attributes .row j) × Live (m .attributes) (m .attributes .row k) j)
+-- 45 an even linkID has syntax 1, 7 or 14, an odd one 1
+Met added linkSyntax m = (k : ℕ) → k < m .attributes .count → LinkSyntaxFits (m .attributes .row k)
 
 -- all of them, given what a change has added
 abbrev pub Meets : Added → Schema → Type 0

@@ -36,7 +36,7 @@ use Rattle.rules_unique.specs.Unique.{hasKey, everyRow, taken, SameKey, Clash}
 use Rattle.rules_unique.specs.UniqueLaws.{says-taken}
 use Rattle.rules_attribute.specs.RangeLaws.{says-range-wrong}
 use Rattle.rules_attribute.specs.SyntaxLaws.{says-syntax-fits, says-syntax-wrong, says-object-class-wrong}
-use Rattle.rules_attribute.specs.LinksLaws.{says-forward, says-forward-missing}
+use Rattle.rules_attribute.specs.LinksLaws.{says-forward, says-forward-missing, says-link-syntax-fits, says-link-syntax-wrong}
 use Rattle.rules_attribute.specs.Syntax.{objectClassWrong}
 use Rattle.rules_attribute.specs.Links.{forwardMissing}
 use Rattle.rules_class.specs.Live.{notLive, classWrong, SuperclassEarly, listsItself, superclassLate, namingWrong}
@@ -343,6 +343,8 @@ kept-met added m RuleName.objectClassWrong =
     ))
 kept-met added m RuleName.linkTaken = numbers-met m Link refl refl linkOf (λ a b. (λ d. d, λ d. d))
 kept-met added m RuleName.linkAlone = forward-met m
+kept-met added m RuleName.linkSyntax =
+    attribute-met m _ (λ k. says-link-syntax-wrong (m .attributes .row k)) (λ k. decided (says-link-syntax-fits (m .attributes .row k)))
 
 -- ---- all of them
 
@@ -357,7 +359,7 @@ meets added m = (λ h rule. kept-met added m rule .0 (each-numbered (Kept m) (sc
         & kept RuleName.attributeNotLive & kept RuleName.classNotLive & kept RuleName.notAnAuxiliary & kept RuleName.notASuperior
         & kept RuleName.rootNotAbstract & kept RuleName.abstractUnderOther & kept RuleName.auxiliaryUnderStructural
         & kept RuleName.structuralUnderAuxiliary & kept RuleName.namingUnfit & kept RuleName.mapiTaken & kept RuleName.rangeCrossed
-        & kept RuleName.syntaxMisfit & kept RuleName.objectClassWrong & kept RuleName.linkTaken & kept RuleName.linkAlone & tt)
+        & kept RuleName.syntaxMisfit & kept RuleName.objectClassWrong & kept RuleName.linkTaken & kept RuleName.linkAlone & kept RuleName.linkSyntax & tt)
 
 -- ---- "The smallest number whose condition holds", the first in the order of judging, in words
 
@@ -411,7 +413,7 @@ all-named added =
     & (RuleName.notASuperior, refl) & (RuleName.rootNotAbstract, refl) & (RuleName.abstractUnderOther, refl)
     & (RuleName.auxiliaryUnderStructural, refl) & (RuleName.structuralUnderAuxiliary, refl) & (RuleName.namingUnfit, refl)
     & (RuleName.mapiTaken, refl) & (RuleName.rangeCrossed, refl) & (RuleName.syntaxMisfit, refl) & (RuleName.objectClassWrong, refl)
-    & (RuleName.linkTaken, refl) & (RuleName.linkAlone, refl) & tt
+    & (RuleName.linkTaken, refl) & (RuleName.linkAlone, refl) & (RuleName.linkSyntax, refl) & tt
 
 case-named : {n : ℕ} (test : Rule → Bool) (rs : List Rule) → Each (λ r. (rule : RuleName) × (ruleNumber rule ≡ r .number)) rs
     → Among n (casesOf test rs) → (rule : RuleName) × (ruleNumber rule ≡ n)
@@ -471,3 +473,4 @@ meets-nothing added m h RuleName.syntaxMisfit = h RuleName.syntaxMisfit
 meets-nothing added m h RuleName.objectClassWrong = h RuleName.objectClassWrong
 meets-nothing added m h RuleName.linkTaken = h RuleName.linkTaken
 meets-nothing added m h RuleName.linkAlone = h RuleName.linkAlone
+meets-nothing added m h RuleName.linkSyntax = h RuleName.linkSyntax

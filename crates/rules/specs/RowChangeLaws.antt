@@ -30,7 +30,7 @@ use Rattle.rules_unique.specs.Unique.{everyRow}
 use Rattle.rules_unique.specs.RivalLaws.{taken-here}
 use Rattle.rules_attribute.specs.Range.{rangeWrong}
 use Rattle.rules_attribute.specs.Syntax.{syntaxWrong, objectClassWrong}
-use Rattle.rules_attribute.specs.Links.{isBackLink, isForwardOf, forwardMissing}
+use Rattle.rules_attribute.specs.Links.{isBackLink, isForwardOf, forwardMissing, linkSyntaxWrong}
 use Rattle.rules_attribute.specs.LinksLaws.{forward-stays, no-back-link}
 use Rattle.rules_class.specs.Live.{notLive, classWrong, namingWrong, listsItself, superclassLate}
 use Rattle.rules_class.specs.Category.{categoryWrong, inheritanceNumber, inheritanceWrong}
@@ -261,6 +261,7 @@ module _ (k : ℕ) (m n : Schema) where
           & alone refusal.objectClassWrong (attribute-rows-stay t h objectClassWrong (was refusal.objectClassWrong Attributes))
           & taken-here everyRow Link (h .changed) (was refusal.linkTaken)
           & alone refusal.linkAlone (forward-kept t h)
+          & alone refusal.linkSyntax (attribute-rows-stay t h linkSyntaxWrong (was refusal.linkSyntax Attributes))
           & tt
 
 -- so the number that the judge of all rows finds is that of the first rule that the changed row breaks

@@ -1,6 +1,6 @@
 -- The schema rules, each once: its number, and which rows break it. The order of the list is the order of judging. Document 02: "rules 12 to 29, wherever
--- these papers name them, include" 38, 39 and 40; so do they wherever this project does. 22 is none of them: where 18 is met every chain of superclasses
--- ends (rules_class/ChainLaws), and "The number is not used again."
+-- these papers name them, include" 38, 39 and 40, and of 45: "Wherever these papers name rules 12 to 29, it is meant too." So it is wherever this project
+-- names them. 22 is none of them: where 18 is met every chain of superclasses ends (rules_class/ChainLaws), and "The number is not used again."
 use mathlib.Core.Bool.{Bool, false, cond, not, _&&_, _||_}
 use mathlib.Core.List.{List, [], _∷_}
 use Prim.Native.Nat.{ℕ}
@@ -18,7 +18,7 @@ use Rattle.rules_unique.specs.declared.Key.the-variants.{Name, Identifier, Guid
 use Rattle.rules_unique.specs.Unique.{everyRow, taken}
 use Rattle.rules_attribute.specs.Range.{rangeWrong}
 use Rattle.rules_attribute.specs.Syntax.{syntaxWrong, objectClassWrong}
-use Rattle.rules_attribute.specs.Links.{forwardMissing}
+use Rattle.rules_attribute.specs.Links.{forwardMissing, linkSyntaxWrong}
 use Rattle.rules_class.specs.Live.{notLive, classWrong, listsItself, namingWrong}
 use Rattle.rules_class.specs.Category.{categoryWrong, inheritanceWrong}
 use Rattle.rules.specs.declared.row.Added.{Added}
@@ -71,7 +71,7 @@ classNotLive added c k = classWrong c k || (barred added c k || entryDead added 
 abbrev pub inheritanceRule : ℕ → Rule
 inheritanceRule n = rule n (ofClasses (λ m k. inheritanceWrong n (m .classes) k))
 
--- "12 to 29 schema rules below". "All rules bind defunct rows too." 38 to 40 "stand at 21's place in the order"
+-- "12 to 29 schema rules below". "All rules bind defunct rows too." 38 to 40 "stand at 21's place in the order"; "45, a schema rule after 29"
 abbrev pub schemaRules : Added → List Rule
 schemaRules added =
     rule refusal.nameInvalid (ofRows nameInvalid)
@@ -94,6 +94,7 @@ schemaRules added =
     ∷ rule refusal.objectClassWrong (ofAttributes (λ a k. objectClassWrong (a .row k)))
     ∷ rule refusal.linkTaken (taken everyRow Link)
     ∷ rule refusal.linkAlone (ofAttributes (λ a k. forwardMissing a (a .row k)))
+    ∷ rule refusal.linkSyntax (ofAttributes (λ a k. linkSyntaxWrong (a .row k)))
     ∷ []
 
 -- ---- by number

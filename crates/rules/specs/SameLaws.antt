@@ -22,7 +22,7 @@ use Rattle.rules_unique.specs.Unique.{everyRow}
 use Rattle.rules_unique.specs.SameLaws.{taken-same}
 use Rattle.rules_attribute.specs.Range.{rangeWrong}
 use Rattle.rules_attribute.specs.Syntax.{syntaxWrong, objectClassWrong}
-use Rattle.rules_attribute.specs.Links.{forwardMissing}
+use Rattle.rules_attribute.specs.Links.{forwardMissing, linkSyntaxWrong}
 use Rattle.rules_attribute.specs.SameLaws.{forward-missing-same}
 use Rattle.rules_class.specs.Live.{notLive, namingWrong}
 use Rattle.rules_class.specs.Category.{categoryWrong}
@@ -128,6 +128,7 @@ module _ {m n : Schema} (s : SameRows m n) where
       & of-attributes _ (λ k l. same-by objectClassWrong Attributes k l)
       & taken-same everyRow Link s
       & of-attributes _ (λ k l. forward-missing-same a (m .attributes .row k) ∙ same-by (forwardMissing (n .attributes)) Attributes k l)
+      & of-attributes _ (λ k l. same-by linkSyntaxWrong Attributes k l)
       & tt
 
   -- the whole check

@@ -1,6 +1,7 @@
 // The rules that one row breaks. The numbers pick the rules.
 use prelude::number::byte_at;
 use rules_attribute::link::forward_missing;
+use rules_attribute::link::link_syntax_wrong;
 use rules_attribute::range::range_wrong;
 use rules_attribute::syntax::object_class_wrong;
 use rules_attribute::syntax::syntax_wrong;
@@ -30,6 +31,7 @@ use schema::refusal::GUID_TAKEN;
 use schema::refusal::IDENTIFIER_INVALID;
 use schema::refusal::IDENTIFIER_TAKEN;
 use schema::refusal::LINK_ALONE;
+use schema::refusal::LINK_SYNTAX;
 use schema::refusal::LINK_TAKEN;
 use schema::refusal::MAPI_TAKEN;
 use schema::refusal::NAME_INVALID;
@@ -73,8 +75,8 @@ pub enum Added {
     },
 }
 
-// The order of judging. 38, 39 and 40 stand at the place of 21.
-pub const ORDER: [u8; 20] = [
+// The order of judging. 38, 39 and 40 stand at the place of 21, and 45 after 29.
+pub const ORDER: [u8; 21] = [
     NAME_INVALID,
     NAME_TAKEN,
     IDENTIFIER_INVALID,
@@ -95,6 +97,7 @@ pub const ORDER: [u8; 20] = [
     OBJECT_CLASS_WRONG,
     LINK_TAKEN,
     LINK_ALONE,
+    LINK_SYNTAX,
 ];
 
 // Whether class c was added and a list of it holds its own number.
@@ -188,6 +191,7 @@ fn attribute_breaks(
         SYNTAX_MISFIT => syntax_wrong(row),
         OBJECT_CLASS_WRONG => object_class_wrong(row),
         LINK_ALONE => forward_missing(attributes, row),
+        LINK_SYNTAX => link_syntax_wrong(row),
         _ => false,
     }
 }

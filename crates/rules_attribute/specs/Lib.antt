@@ -1,4 +1,4 @@
--- Rules of an attribute row: its range, its syntax, and the forward link that a back link needs.
+-- Rules of an attribute row: its range, its syntax, the forward link that a back link needs, and the syntax that a link needs.
 pub mod Range
 pub mod RangeLaws
 pub mod Syntax

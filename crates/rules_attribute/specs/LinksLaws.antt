@@ -1,22 +1,25 @@
--- What the test of a back link says.
+-- What the tests of links say.
 use mathlib.Core.Bool.{true, false}
 use mathlib.Core.List.{List}
-use mathlib.Core.Logic.{_⊎_}
+use mathlib.Core.Logic.{_⊎_, inl, inr, ⊎-elim}
 use mathlib.Core.Path.{_≡_}
 use Prim.Native.Nat.{ℕ, _%_, _<_}
 use native.Mathlib.Decide.{ℕ-discrete}
+use native.Mathlib.Omega.{arith}
+use lib.Dec.{eqb}
 use Rattle.prelude.specs.Says.{Says}
-use Rattle.prelude.specs.SaysLaws.{says, says-and, says-not, says-eq, says-false, says-fails}
+use Rattle.prelude.specs.SaysLaws.{says, says-and, says-or, says-not, says-eq, says-iff, says-split, says-false, says-fails, choose}
 use Rattle.prelude.specs.Below.{Some}
 use Rattle.prelude.specs.BelowLaws.{says-any}
 use Rattle.schema.specs.Row.{isDefunct}
-use Rattle.schema.specs.AttributeRow.{linkOf}
+use Rattle.schema.specs.AttributeRow.{syntaxOf, linkOf}
 use Rattle.schema.specs.Store.{Table}
 use Rattle.tables.specs.Live.{Live}
 use Rattle.tables.specs.Changed.{ChangedAt}
 use Rattle.tables.specs.ChangedLaws.{live-stays}
 use Rattle.tables.specs.LiveLaws.{says-live}
-use Rattle.rules_attribute.specs.Links.{isBackLink, isForwardOf, forwardMissing, ForwardOf, ForwardMissing}
+use Rattle.rules_attribute.specs.Links.{isBackLink, isForwardOf, forwardMissing, linkSyntaxFits, linkSyntaxWrong}
+use Rattle.rules_attribute.specs.Links.{ForwardOf, ForwardMissing, LinkSyntaxFits}
 
 pub says-forward : (back row : List ℕ) → Says (isForwardOf back row) (ForwardOf back row)
 unfolding isForwardOf
@@ -28,7 +31,28 @@ unfolding forwardMissing isBackLink
 says-forward-missing a row =
     says-and (says-eq (linkOf row % 2) 1) (says-not (says-any (a .count) (λ j l. says-and (says-forward row (a .row j)) (says-live a row j))))
 
--- a row that is no back link needs none
+-- rule 45
+pub says-link-syntax-fits : (row : List ℕ) → Says (linkSyntaxFits row) (LinkSyntaxFits row)
+unfolding linkSyntaxFits isBackLink
+says-link-syntax-fits row =
+    choose (λ t. Says t (LinkSyntaxFits row)) (eqb (linkOf row % 2) 1)
+    (λ e.
+    let odd : linkOf row % 2 ≡ 1 = says-eq (linkOf row % 2) 1 .holds e in
+    says-iff (says-eq (syntaxOf row) 1) (λ fits. record { even = λ present even. absurd (omega arith); odd = λ z. fits }, λ h. h .odd odd))
+    (λ e.
+    let even : ¬ (linkOf row % 2 ≡ 1) = says-fails (says-eq (linkOf row % 2) 1) e in
+    says-iff
+    (says-or (says-eq (linkOf row) 0) (says-or (says-eq (syntaxOf row) 1) (says-or (says-eq (syntaxOf row) 7) (says-eq (syntaxOf row) 14)))) (
+      ⊎-elim (λ absent. record { even = λ present z. absurd (present absent); odd = λ odd. absurd (even odd) })
+          (λ fits. record { even = λ present z. fits; odd = λ odd. absurd (even odd) }),
+      λ h. ⊎-elim (λ absent. inl (absent .1)) (λ present. inr (h .even (present .1) (omega arith))) (says-split (says-eq (linkOf row) 0)),
+    ))
+
+pub says-link-syntax-wrong : (row : List ℕ) → Says (linkSyntaxWrong row) (¬ (LinkSyntaxFits row))
+unfolding linkSyntaxWrong
+says-link-syntax-wrong row = says-not (says-link-syntax-fits row)
+
+-- a row that is no back link needs no forward link
 pub no-back-link : (a : Table) (row : List ℕ) → isBackLink row ≡ false → forwardMissing a row ≡ false
 unfolding forwardMissing
 no-back-link a row e = rw e

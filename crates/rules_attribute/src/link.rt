@@ -1,5 +1,7 @@
-// Rule 29: "An odd linkID without a live attribute holding the number one less; 1 never has one."
+// Rule 29: "An odd linkID without a live attribute holding the number one less; 1 never has one." Rule 45: "a present even linkID needs 2.5.5.1, 2.5.5.7 or
+// 2.5.5.14, an odd one 2.5.5.1".
 use schema::attribute::link;
+use schema::attribute::syntax;
 use schema::number::AttributeNumber;
 use schema::number::RowId;
 use schema::number::TableId;
@@ -13,7 +15,7 @@ ghost use Rattle.schema.specs.Layout.{attributeWidth};
 ghost use Rattle.schema.specs.Store.{tableIn};
 ghost use Rattle.schema.specs.declared.number.TableId.the-variants.{Attributes};
 ghost use Rattle.tables.specs.Shaped.{TableShaped};
-ghost use Rattle.rules_attribute.specs.Links.{isForwardOf, isLiveForward, hasForward, forwardMissing};
+ghost use Rattle.rules_attribute.specs.Links.{isForwardOf, isLiveForward, hasForward, forwardMissing, linkSyntaxFits, linkSyntaxWrong};
 
 // Whether a row holds the number one less than a back link's.
 pub fn is_forward_of(back: &[u8], row: &[u8]) -> bool
@@ -67,4 +69,34 @@ pub fn forward_missing(attributes: &[u8], row: &[u8]) -> bool
         return false;
     }
     !has_forward(attributes, row)
+}
+
+// Whether the syntax of a row is one that its linkID needs.
+fn link_syntax_fits(row: &[u8]) -> bool
+    requires { ⌜ attributeWidth ≤ length (now row) ⌝ }
+    ensures { λ r. ⌜ r ≡ linkSyntaxFits (now (row .entry)) ⌝ }
+{
+    let n = link(row);
+    if n == 0 {
+        return true;
+    }
+    let held = syntax(row);
+    if n % 2 == 1 {
+        return held == 1;
+    }
+    if held == 1 {
+        return true;
+    }
+    if held == 7 {
+        return true;
+    }
+    held == 14
+}
+
+// Whether a row breaks rule 45.
+pub fn link_syntax_wrong(row: &[u8]) -> bool
+    requires { ⌜ attributeWidth ≤ length (now row) ⌝ }
+    ensures { λ r. ⌜ r ≡ linkSyntaxWrong (now (row .entry)) ⌝ }
+{
+    !link_syntax_fits(row)
 }

@@ -1,5 +1,5 @@
 -- The order of judging. Document 01: "The smallest number whose condition holds." Document 02 puts 38, 39 and 40 "at 21's place in the order, in the order
--- given here, though their numbers are higher. Demand 2's smallest is the first in this order".
+-- given here, though their numbers are higher. Demand 2's smallest is the first in this order", and 45 "after 29".
 use mathlib.Core.Bool.{cond}
 use mathlib.Core.List.{List, [], _∷_}
 use Prim.Native.Nat.{ℕ, suc}
@@ -14,7 +14,7 @@ order =
     refusal.identifierInvalid ∷ refusal.identifierTaken ∷ refusal.guidTaken ∷ refusal.attributeNotLive ∷ refusal.classNotLive ∷ refusal.notAnAuxiliary ∷
     refusal.notASuperior ∷ refusal.rootNotAbstract ∷ refusal.abstractUnderOther ∷ refusal.auxiliaryUnderStructural ∷ refusal.structuralUnderAuxiliary ∷
     refusal.namingUnfit ∷ refusal.mapiTaken ∷ refusal.rangeCrossed ∷ refusal.syntaxMisfit ∷ refusal.objectClassWrong ∷
-    refusal.linkTaken ∷ refusal.linkAlone ∷ refusal.mandatoryDiffers ∷ refusal.shortOutput ∷ []
+    refusal.linkTaken ∷ refusal.linkAlone ∷ refusal.linkSyntax ∷ refusal.mandatoryDiffers ∷ refusal.shortOutput ∷ []
 
 -- how many numbers of a list stand before n, all of them where n is none of them
 unfoldable pub position : List ℕ → ℕ → ℕ

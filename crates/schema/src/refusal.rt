@@ -75,3 +75,5 @@ pub const ABSTRACT_UNDER_OTHER: u8 = 38;
 pub const AUXILIARY_UNDER_STRUCTURAL: u8 = 39;
 
 pub const STRUCTURAL_UNDER_AUXILIARY: u8 = 40;
+
+pub const LINK_SYNTAX: u8 = 45;

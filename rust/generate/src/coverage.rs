@@ -89,7 +89,7 @@ impl Coverage {
 
 /// Whether the papers let a call give a number.
 pub fn may_give(call: &str, number: u64) -> bool {
-    let rules = matches!(number, 12..=21 | 38..=40 | 23..=29);
+    let rules = matches!(number, 12..=21 | 38..=40 | 23..=29 | 45);
     match call {
         "load" => rules || matches!(number, 0 | 1 | 4 | 6),
         "write" => matches!(number, 0..=2 | 31),
@@ -107,7 +107,8 @@ impl fmt::Display for Coverage {
         for call in self.calls() {
             write!(out, " {call:>7}")?;
         }
-        for number in (0..=21).chain(23..=31).chain(38..=40) {
+        let numbers = (0..=21).chain(23..=31).chain(38..=40);
+        for number in numbers.chain([45]) {
             write!(out, "\n{number:2}")?;
             for call in self.calls() {
                 match (self.count(call, number), may_give(call, number)) {

@@ -120,25 +120,35 @@ pub fn standing_common(random: &mut Random, schema: &Schema) -> Common {
 
 /// An attribute with these common values.
 pub fn attribute(random: &mut Random, schema: &Schema, common: Common) -> Attribute {
-    let naming = random.once_in(3);
-    let syntax = if naming {
-        12
-    } else {
-        random.within(1..18) as u8
+    let link_id = free_link(random, schema, &common);
+    let naming = link_id.is_none() && random.once_in(3);
+    let syntax = match naming {
+        true => 12,
+        false => fitting_syntax(random, link_id),
     };
-    let om_syntax = random.pick(om_syntaxes(syntax)).copied().unwrap_or(OBJECT);
-    let object_class = random.pick(object_classes(syntax)).copied();
     let (range_lower, range_upper) = range(random);
-    Attribute {
+    let mut row = Attribute {
         syntax,
-        om_syntax,
-        om_object_class: object_class.unwrap_or_default().to_vec(),
         single_valued: naming || random.once_in(2),
         range_lower,
         range_upper,
-        link_id: free_link(random, schema, &common),
+        link_id,
         mapi_id: free_mapi(random, schema),
         common,
+        ..Attribute::default()
+    };
+    fit_syntax(random, &mut row);
+    row
+}
+
+/// An attributeSyntax that goes with a linkID: any where there is none, else one
+/// of names.
+fn fitting_syntax(random: &mut Random, link_id: Option<u32>) -> u8 {
+    let any = random.within(1..18) as u8;
+    match link_id {
+        None => any,
+        Some(link) if link % 2 == 0 => random.pick(&[1, 7, 14]).copied().unwrap_or(1),
+        Some(_) => 1,
     }
 }
 
@@ -168,6 +178,14 @@ fn free_mapi(random: &mut Random, schema: &Schema) -> Option<u32> {
     free.filter(|_| !taken)
 }
 
+/// Gives an attribute an oMSyntax and an oMObjectClass that go with its syntax.
+pub fn fit_syntax(random: &mut Random, row: &mut Attribute) {
+    let om_syntaxes = om_syntaxes(row.syntax);
+    row.om_syntax = random.pick(om_syntaxes).copied().unwrap_or(OBJECT);
+    let object_class = random.pick(object_classes(row.syntax)).copied();
+    row.om_object_class = object_class.unwrap_or_default().to_vec();
+}
+
 fn link_taken(schema: &Schema, link: u32) -> bool {
     schema
         .attributes
@@ -176,7 +194,7 @@ fn link_taken(schema: &Schema, link: u32) -> bool {
 }
 
 /// No link, a forward link, or the back link of a live forward link.
-fn free_link(random: &mut Random, schema: &Schema, own: &Common) -> Option<u32> {
+pub fn free_link(random: &mut Random, schema: &Schema, own: &Common) -> Option<u32> {
     let free = |link: &u32| !link_taken(schema, *link);
     match random.below(6) {
         0 => Some(random.u32() & !1)

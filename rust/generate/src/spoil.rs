@@ -80,7 +80,7 @@ fn invalid_arcs(random: &mut Random) -> Vec<u32> {
 
 /// Spoils an attribute row.
 pub fn attribute(random: &mut Random, schema: &Schema, row: &mut Attribute) {
-    match random.below(12) {
+    match random.below(14) {
         0..=4 => common(random, schema, &mut row.common),
         5 => row.mapi_id = taken(random, schema, |rival| rival.mapi_id),
         6 => wrong_range(random, row),
@@ -88,7 +88,8 @@ pub fn attribute(random: &mut Random, schema: &Schema, row: &mut Attribute) {
         8 => row.syntax = random.within(0..20) as u8,
         9 => wrong_object_class(random, row),
         10 => row.link_id = taken(random, schema, |rival| rival.link_id),
-        _ => row.link_id = Some(random.u32() | 1),
+        11 => row.link_id = Some(random.u32() | 1),
+        _ => wrong_link(random, schema, row),
     }
     let given = Some(row.om_object_class.as_slice()).filter(|given| !given.is_empty());
     row.om_object_class = stored_object_class(row.syntax, row.om_syntax, given);
@@ -113,6 +114,18 @@ fn wrong_range(random: &mut Random, row: &mut Attribute) {
         false => Some(one.max(other)),
     };
     row.range_upper = Some(upper);
+}
+
+/// A linked attribute of any syntax, which fits it seldom.
+fn wrong_link(random: &mut Random, schema: &Schema, row: &mut Attribute) {
+    if row.link_id.is_none() {
+        row.link_id = rows::free_link(random, schema, &row.common);
+    }
+    row.syntax = match random.once_in(3) {
+        true => random.pick(&[7, 14, 13]).copied().unwrap_or(7),
+        false => random.within(1..18) as u8,
+    };
+    rows::fit_syntax(random, row);
 }
 
 fn wrong_object_class(random: &mut Random, row: &mut Attribute) {

@@ -210,6 +210,23 @@ fn rules_38_to_40_of_a_changed_row() {
     assert_eq!(lent.quick(&entry(0x49, 4, 0x17, 2)), (38, 0, 0));
 }
 
+/// 45 of the changed row, whatever is asked of it (W8.3).
+#[test]
+fn rule_45_of_a_changed_row() {
+    let mut lent = stores();
+    lent.attrs[2 + 184] = 2;
+    assert_eq!(lent.audit(), (45, 1, 0));
+    assert_eq!(lent.quick(&change(0x42, 0, &[])), (45, 0, 0));
+    let renamed = change(0x43, 0, &[field(0x01, b"other")]);
+    assert_eq!(lent.quick(&renamed), (45, 0, 0));
+    assert_eq!(lent.quick(&change(0x45, 2, &[])), (0, 1, 2));
+    lent.attrs[2 + 2 * 189 + 184] = 2;
+    assert_eq!(lent.quick(&change(0x47, 2, &[])), (28, 0, 0));
+    lent.attrs[2 + 184] = 0;
+    assert_eq!(lent.quick(&change(0x47, 2, &[])), (45, 0, 0));
+    assert_eq!(lent.quick(&renamed), (0, 1, 0));
+}
+
 #[test]
 fn only_the_changed_row_is_judged() {
     let mut lent = stores();

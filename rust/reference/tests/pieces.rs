@@ -113,7 +113,7 @@ fn p5_ends_of_ranges() {
 
 #[test]
 fn p6_links() {
-    let link = |number: u32, link: u32| Row::attribute(number).with(0x0C, &link.to_be_bytes());
+    let link = Row::linked;
     assert_eq!(load(link(0, 1)), (29, 1, 0));
     assert_eq!(load(link(0, 2)), PASS);
     assert_eq!(load_all(&[link(0, 2), link(1, 3)]), PASS);

@@ -112,7 +112,7 @@ fn a_class_that_another_active_class_names_is_not_deactivated() {
 
 #[test]
 fn a_back_link_needs_its_forward_link() {
-    let link = |number: u32, link: u32| Row::attribute(number).with(0x0C, &link.to_be_bytes());
+    let link = Row::linked;
     let rows = [link(0, u32::MAX), link(1, u32::MAX - 1), Row::attribute(2)];
     let mut lent = Lent::loaded(&sheet(&rows));
     assert_eq!(lent.both(&change(0x45, 1, &[])), (11, 0, 0));

@@ -1,4 +1,4 @@
-//! Rules 12 to 29 and 38 to 40 at load, rule by rule, and their order.
+//! Rules 12 to 29, 38 to 40 and 45 at load, rule by rule, and their order.
 
 mod common;
 
@@ -268,7 +268,7 @@ fn rules_24_and_28() {
         load(&[mapi(0, 7), mapi(1, 8), defunct(mapi(2, 8))]),
         (24, 1, 1)
     );
-    let link = |number: u32, to: u32| link(Row::attribute(number), to);
+    let link = Row::linked;
     assert_eq!(
         load(&[link(0, 2), link(1, 8), defunct(link(2, 8))]),
         (28, 1, 1)
@@ -346,7 +346,7 @@ fn rule_27() {
 
 #[test]
 fn rule_29() {
-    let link = |number: u32, to: u32| link(Row::attribute(number), to);
+    let link = Row::linked;
     assert_eq!(load(&[link(0, 5), link(1, 6)]), (29, 1, 0));
     assert_eq!(load(&[link(0, 5), link(1, 4)]), PASS);
     assert_eq!(load(&[defunct(link(0, 4)), link(1, 5)]), (29, 1, 1));
@@ -365,4 +365,66 @@ fn the_number_is_chosen_before_the_row() {
         Row::class(2, 2, 1),
     ];
     assert_eq!(load(&rows), (17, 2, 1));
+}
+
+/// The syntaxes with an oMSyntax of each.
+const SYNTAXES: [(u8, u8); 17] = [
+    (1, 127),
+    (2, 6),
+    (3, 27),
+    (4, 20),
+    (5, 19),
+    (6, 18),
+    (7, 127),
+    (8, 1),
+    (9, 2),
+    (10, 4),
+    (11, 23),
+    (12, 64),
+    (13, 127),
+    (14, 127),
+    (15, 66),
+    (16, 65),
+    (17, 4),
+];
+
+/// Document 02, wish 8: each row by its own linkID and its own syntax.
+#[test]
+fn rule_45() {
+    for (syntax, om_syntax) in SYNTAXES {
+        let row = |number: u32, to: u32| {
+            let row = Row::attribute(number).with(0x06, &[syntax]);
+            link(row.with(0x07, &[om_syntax]), to)
+        };
+        for even in [2, u32::MAX - 1] {
+            let expected = match syntax {
+                1 | 7 | 14 => PASS,
+                _ => (45, 1, 0),
+            };
+            assert_eq!(load(&[row(0, even)]), expected, "{syntax} {even}");
+            assert_eq!(load(&[defunct(row(0, even))]), expected);
+        }
+        let expected = if syntax == 1 { PASS } else { (45, 1, 1) };
+        assert_eq!(load(&[Row::linked(0, 2), row(1, 3)]), expected, "{syntax}");
+        assert_eq!(load(&[Row::linked(0, 2), defunct(row(1, 3))]), expected);
+        assert_eq!(load(&[row(0, 1)]), (29, 1, 0));
+    }
+    let forward = |syntax: u8| Row::linked(0, 2).with(0x06, &[syntax]);
+    for syntax in [7, 14] {
+        assert_eq!(load(&[forward(syntax), Row::linked(1, 3)]), PASS);
+    }
+}
+
+/// "a schema rule after 29": a later row's 29 goes before an earlier row's 45.
+#[test]
+fn the_order_of_45() {
+    let wrong = || link(Row::attribute(0), 2);
+    assert_eq!(load(&[wrong(), Row::linked(1, 9)]), (29, 1, 1));
+    assert_eq!(load(&[wrong(), Row::linked(1, 2)]), (28, 1, 0));
+    assert_eq!(load(&[wrong(), Row::attribute(1)]), (45, 1, 0));
+    let mut lent = Lent::loaded(&sheet(&[Row::linked(0, 2)]));
+    assert_eq!(lent.both(&link(Row::attribute(1), 3).added()), (45, 0, 0));
+    assert_eq!(lent.both(&link(Row::attribute(1), 4).added()), (45, 0, 0));
+    assert_eq!(lent.both(&link(Row::attribute(1), 1).added()), (29, 0, 0));
+    assert_eq!(lent.both(&Row::linked(1, 3).added()), (0, 1, 1));
 }

@@ -29,7 +29,7 @@ pub fn section_of(number: u64) -> Option<Section> {
     sections().find(|section| section.number == number)
 }
 
-/// All numbers in words: 0 to 21, 23 to 31 and 38 to 40.
+/// All numbers in words: 0 to 21, 23 to 31, 38 to 40 and 45.
 pub fn known() -> String {
     let mut runs: Vec<(u64, u64)> = Vec::new();
     for Section { number, .. } in sections() {
@@ -100,7 +100,8 @@ mod tests {
     #[test]
     fn every_number_is_there_with_its_words() {
         let numbers = sections().map(|section| section.number);
-        assert!(numbers.eq((0..=21).chain(23..=31).chain(38..=40)));
+        let expected = (0..=21).chain(23..=31).chain(38..=40);
+        assert!(numbers.eq(expected.chain([45])));
         assert!(
             sections().all(|section| !section.meaning.is_empty() && !section.advice.is_empty())
         );

@@ -129,6 +129,13 @@ fn rules_of_attributes_are_told_with_what_breaks_them() {
         told(&text),
         "29, link alone: attribute 1 `age`: linkID 5, and no attribute has 4"
     );
+    let text = attribute("age", "syntax 9 2;link 4");
+    let words = "45, link syntax: attribute 1 `age`: linkID 4 with attributeSyntax 2.5.5.9, and an even one needs 2.5.5.1, 2.5.5.7 or 2.5.5.14";
+    assert_eq!(told(&text), words);
+    let back = attribute("age", "syntax 7 127;link 5");
+    let text = back.replacen("syntax 12 64\n single", "syntax 1 127\n link 4", 1);
+    let words = "45, link syntax: attribute 1 `age`: linkID 5 with attributeSyntax 2.5.5.7, and an odd one needs 2.5.5.1";
+    assert_eq!(told(&text), words);
 }
 
 #[test]

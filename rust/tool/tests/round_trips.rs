@@ -66,7 +66,7 @@ fn refusals_tell_number_and_row() {
         assert!(line.contains(&place), "{number}: {line}");
         seen[usize::try_from(answer.number).unwrap()] += 1;
     }
-    let rules = (12..=21).chain(23..=29).chain(38..=40);
+    let rules = (12..=21).chain(23..=29).chain(38..=40).chain([45]);
     let missing: Vec<_> = rules
         .chain([4, 6])
         .filter(|number| seen[*number] == 0)

@@ -115,11 +115,11 @@ fn a_number_is_explained_from_the_page() {
   Given by: load, audit, plain change, quick change.
 ";
     assert_eq!(done(&["explain", "25"]), expected);
-    assert_eq!(done(&["explain"]).lines().count(), 34);
-    for word in ["22", "32", "37", "41", "x"] {
+    assert_eq!(done(&["explain"]).lines().count(), 35);
+    for word in ["22", "32", "37", "41", "46", "x"] {
         assert_eq!(
             refused(2, &["explain", word]),
-            format!("{word}: no such number; there are 0 to 21, 23 to 31 and 38 to 40\n")
+            format!("{word}: no such number; there are 0 to 21, 23 to 31, 38 to 40 and 45\n")
         );
     }
 }

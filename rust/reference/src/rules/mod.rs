@@ -1,6 +1,6 @@
-//! "Schema rules (000, X.660, RFC 4512)": rules 12 to 29, and 38 to 40, which
-//! "rules 12 to 29, wherever these papers name them, include" (document 02,
-//! wish 3). "All rules bind defunct rows too."
+//! "Schema rules (000, X.660, RFC 4512)": rules 12 to 29, and 38 to 40 and 45,
+//! which are meant too "wherever these papers name rules 12 to 29" (document 02,
+//! wishes 3 and 8). "All rules bind defunct rows too."
 
 mod hierarchy;
 mod identity;
@@ -14,9 +14,9 @@ use crate::schema::{Attribute, Class, Row, Schema};
 /// The schema rules in the order of judging: 38 to 40 "stand at 21's place in
 /// the order, in the order given here, though their numbers are higher", and
 /// the "smallest is the first in this order" (document 02, wish 3). 22 "is not
-/// used again" (wish 7).
-pub const RULES: [u64; 20] = [
-    12, 13, 14, 15, 16, 17, 18, 19, 20, 21, 38, 39, 40, 23, 24, 25, 26, 27, 28, 29,
+/// used again" (wish 7); 45 is "a schema rule after 29" (wish 8).
+pub const RULES: [u64; 21] = [
+    12, 13, 14, 15, 16, 17, 18, 19, 20, 21, 38, 39, 40, 23, 24, 25, 26, 27, 28, 29, 45,
 ];
 
 /// The rows to be judged, and which of them was just added, if one was.
@@ -98,6 +98,7 @@ impl<'a> Judged<'a> {
             27 => values::wrong_object_class(attribute),
             28 => values::link_id_taken(schema, number, attribute),
             29 => values::forward_link_missing(schema, attribute),
+            45 => values::link_holds_no_names(attribute),
             _ => false,
         }
     }

@@ -1,4 +1,4 @@
-//! Rules 24 to 29: the values that only attribute rows have.
+//! Rules 24 to 29 and 45: the values that only attribute rows have.
 
 use super::naming::is_live;
 use crate::schema::{Attribute, Schema};
@@ -47,6 +47,16 @@ pub fn forward_link_missing(schema: &Schema, attribute: &Attribute) -> bool {
     let forward_links = schema.attributes.iter().filter(holds_one_less);
     let mut live = forward_links.filter(|f| is_live(Some(&f.common), &attribute.common));
     live.next().is_none()
+}
+
+/// "a present even linkID needs 2.5.5.1, 2.5.5.7 or 2.5.5.14, an odd one
+/// 2.5.5.1 .. Refusals: 45" (document 02, wish 8)
+pub fn link_holds_no_names(attribute: &Attribute) -> bool {
+    match attribute.link_id {
+        Some(link) if link % 2 == 0 => !matches!(attribute.syntax, 1 | 7 | 14),
+        Some(_) => attribute.syntax != 1,
+        None => false,
+    }
 }
 
 /// "A row is not its own rival; defunct rows count (house), here and below."

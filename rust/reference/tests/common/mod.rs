@@ -163,6 +163,12 @@ impl Row {
         row.with(0x06, &[12]).with(0x07, &[64])
     }
 
+    /// An attribute with this linkID, of the syntax that every linkID may have.
+    pub fn linked(number: u32, link: u32) -> Row {
+        let row = Row::attribute(number).with(0x06, &[1]).with(0x07, &[127]);
+        row.with(0x0C, &link.to_be_bytes())
+    }
+
     /// A class: name, identifier and GUID by its number.
     /// 60 bytes: tag at 0; 01 at 3, 02 at 10, 03 at 25, 04 at 44, 10 at 51,
     /// 11 at 55, end at 60.

@@ -335,7 +335,9 @@ fn rules_added(record: &mut Record) {
     for (row, rule) in refused {
         record.refused(&row.added(), rule);
     }
-    record.refused(&attribute.link(7).added(), 29);
+    record.refused(&attribute.clone().link(7).added(), 29);
+    record.refused(&attribute.clone().link(6).added(), 45);
+    record.refused(&attribute.syntax(13, 127).link(6).added(), 45);
 }
 
 /// P10, P11 and 30: "some present class's mandatory set would differ".
@@ -434,7 +436,11 @@ fn added(record: &mut Record) {
         &row.range(-2, -1).link(5 + 1).mapi(1).added(),
         number(15, 1),
     );
-    record.plain(&Row::attribute(16).link(7).added(), number(16, 1));
+    for syntax in [7, 14] {
+        let odd = Row::attribute(16).syntax(syntax, 127).link(7);
+        record.refused(&odd.added(), 45);
+    }
+    record.plain(&Row::attribute(16).linked(7).added(), number(16, 1));
     record.plain(
         &Row::attribute(17).syntax(12, 64).with(0x08, &[1]).added(),
         number(17, 1),

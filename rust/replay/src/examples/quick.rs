@@ -32,6 +32,7 @@ pub fn examples(record: &mut Record) {
     only_the_changed_row(record);
     astray(record);
     misfits(record);
+    linked(record);
     demands_as_kept(record);
     union_as_kept(record);
     joined_as_kept(record);
@@ -96,6 +97,8 @@ fn rules(record: &mut Record) {
     let wrong = Row::attribute(15).syntax(13, 127).with(0x08, &[1]);
     number(record, &wrong.added(), 27);
     number(record, &Row::attribute(15).link(5).added(), 28);
+    number(record, &Row::attribute(15).link(6).added(), 45);
+    number(record, &Row::attribute(15).syntax(9, 2).link(6).added(), 45);
 }
 
 /// 6: a table of 128 classes is full.
@@ -258,6 +261,31 @@ fn misfits(record: &mut Record) {
         record.poke(1, superclass(4), 0);
         record.poke(1, superclass(8), 4);
     }
+}
+
+/// A linked row of a syntax that holds no names is refused whatever is asked of
+/// it (45); the rows linked with it are not.
+fn linked(record: &mut Record) {
+    let row = |number| Row::attribute(number);
+    record.pass(&[row(0).linked(2), row(1).linked(3), row(2), row(3).defunct()]);
+    let (syntax, link) = (2 + 151, 2 + 184);
+    record.poke(0, 2 * 189 + link, 4);
+    record.poke(0, 3 * 189 + link, 6);
+    record.audit((45, 1, 2));
+    number(record, &rename(0x43, 2, b"x"), 45);
+    number(record, &range(2, None, None), 45);
+    number(record, &alter(0x45, 2, &[]), 45);
+    number(record, &alter(0x47, 3, &[]), 45);
+    record.quick(&rename(0x43, 0, b"x"), (0, 1, 0));
+    // Row 1 is the back link of row 2, which breaks 45; then of none.
+    record.poke(0, 189 + link, 5);
+    record.quick(&rename(0x43, 1, b"y"), (0, 1, 1));
+    record.poke(0, 189 + link, 9);
+    number(record, &rename(0x43, 1, b"z"), 29);
+    // As 2.5.5.7 it has another syntax's oMObjectClass, and 27 comes first.
+    record.poke(0, 189 + link, 3);
+    record.poke(0, 189 + syntax, 7);
+    number(record, &rename(0x43, 1, b"z"), 27);
 }
 
 /// "Rule 30 for an added auxiliary holds exactly when its kept mandatory set is

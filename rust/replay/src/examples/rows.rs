@@ -132,6 +132,14 @@ impl Row {
         self.number(0x0C, number)
     }
 
+    /// With this linkID, and of 2.5.5.1, which every linked attribute may have.
+    pub fn linked(self, number: u32) -> Row {
+        let names = self.syntax(1, 127);
+        names
+            .with(0x08, b"\x2B\x0C\x02\x87\x73\x1C\x00\x85\x4A")
+            .link(number)
+    }
+
     /// With this mAPIID.
     pub fn mapi(self, number: u32) -> Row {
         self.number(0x0D, number)

@@ -87,7 +87,7 @@ fn written(record: &mut Record) {
     let row = Row::attribute(0).syntax(14, 127).defunct().single();
     let full = row.with(0x08, b"\x2A\x86\x48\x86\xF7\x14\x01\x01\x01\x0C");
     let other = Row::attribute(1).range(0, 1).mapi(5);
-    let third = Row::attribute(2).number(0x0B, 0).single().link(0x1_0002);
+    let third = Row::attribute(2).number(0x0B, 0).single().linked(0x1_0002);
     let rows = [
         full.range(-1, 0).link(2).mapi(1),
         other,
@@ -300,6 +300,8 @@ fn rules_audited(record: &mut Record) {
     audited(0, attribute_byte(8, 152), 20, (26, 1, 8));
     audited(0, attribute_byte(8, 184), 4, (28, 1, 6));
     audited(0, attribute_byte(8, 184), 7, (29, 1, 8));
+    audited(0, attribute_byte(8, 184), 8, (45, 1, 8));
+    audited(0, attribute_byte(12, 184), 3, (28, 1, 5));
 }
 
 /// "the place is the number of steps, 0 for row 0"; 5 for rows not there.

@@ -1,4 +1,4 @@
-//! Rules 24 to 29, which bind attribute rows alone.
+//! Rules 24 to 29 and 45, which bind attribute rows alone.
 
 use super::record::Record;
 use super::rows::{Row, sheet};
@@ -15,11 +15,13 @@ pub fn examples(record: &mut Record) {
     wrong_object_classes(record);
     dropped_object_classes(record);
     taken(record, 28, |number, value| {
-        Row::attribute(number).link(value)
+        Row::attribute(number).linked(value)
     });
     odd_links_taken(record);
     links(record);
     defunct_links(record);
+    link_syntaxes(record);
+    link_syntax_last(record);
 }
 
 /// A present mAPIID, and likewise a linkID, is taken: by active and defunct
@@ -32,7 +34,7 @@ fn taken(record: &mut Record, rule: u64, with: fn(u16, u32) -> Row) {
     let rows = [Row::attribute(0), with(1, 2), with(2, 2)];
     record.both(&rows, 2, (rule, 1, 1));
     record.pass(&[with(0, 2), with(1, 4), with(2, 0x1_0002), Row::attribute(3)]);
-    record.pass(&[Row::attribute(0).mapi(2), Row::attribute(1).link(2)]);
+    record.pass(&[Row::attribute(0).mapi(2), Row::attribute(1).linked(2)]);
     record.pass(&[Row::attribute(0), Row::attribute(1)]);
 }
 
@@ -206,7 +208,7 @@ fn dropped_object_classes(record: &mut Record) {
 
 /// Of two odd linkIDs that are the same 28 tells, since it is smaller than 29.
 fn odd_links_taken(record: &mut Record) {
-    let row = |number, link| Row::attribute(number).link(link);
+    let row = |number, link| Row::attribute(number).linked(link);
     record.both(&[row(0, 2), row(1, 3), row(2, 3)], 1, (28, 1, 1));
     record.both(&[row(0, 2), row(1, 3), row(2, 3)], 2, (28, 1, 1));
     record.rows(&[row(0, 1), row(1, 1)], (28, 1, 0));
@@ -217,7 +219,7 @@ fn odd_links_taken(record: &mut Record) {
 
 /// P6 and its neighbours: the number one less, wherever it stands.
 fn links(record: &mut Record) {
-    let row = |number, link| Row::attribute(number).link(link);
+    let row = |number, link| Row::attribute(number).linked(link);
     record.both(&[row(0, 1)], 0, (29, 1, 0));
     record.both(&[row(0, 1), Row::attribute(1)], 0, (29, 1, 0));
     record.pass(&[row(0, 2)]);
@@ -238,8 +240,50 @@ fn links(record: &mut Record) {
 
 /// "live": an active back link needs an active forward link, a defunct one any.
 fn defunct_links(record: &mut Record) {
-    let row = |number, link| Row::attribute(number).link(link);
+    let row = |number, link| Row::attribute(number).linked(link);
     record.rows(&[row(0, 2).defunct(), row(1, 3)], (29, 1, 1));
     record.pass(&[row(0, 2).defunct(), row(1, 3).defunct()]);
     record.pass(&[row(0, 2), row(1, 3).defunct()]);
+}
+
+/// "a present even linkID needs 2.5.5.1, 2.5.5.7 or 2.5.5.14, an odd one
+/// 2.5.5.1" (document 02, wish 8): each pair of syntaxes, in active and defunct
+/// rows, each row by itself; without a linkID any.
+fn link_syntaxes(record: &mut Record) {
+    let forward = Row::attribute(0).linked(2);
+    for (syntax, om_syntax) in PAIRS {
+        let row = |number, link| Row::attribute(number).syntax(syntax, om_syntax).link(link);
+        match syntax {
+            1 | 7 | 14 => record.pass(&[row(0, 2)]),
+            _ => record.both(&[row(0, 2)], 0, (45, 1, 0)),
+        }
+        match syntax {
+            1 => record.pass(&[forward.clone(), row(1, 3)]),
+            _ => record.both(&[forward.clone(), row(1, 3)], 1, (45, 1, 1)),
+        }
+    }
+    for syntax in [7, 14] {
+        let row = |number, link| object(syntax).named("x").guid(number).link(link);
+        record.pass(&[row(7, 2), Row::attribute(1).linked(3)]);
+        record.pass(&[row(7, u32::MAX - 1)]);
+        record.pass(&[row(7, 2).defunct(), Row::attribute(1).linked(3).defunct()]);
+    }
+}
+
+/// "a schema rule after 29": linkID 1 is 29 whatever its syntax, and 28 and 29
+/// of a later row go before.
+fn link_syntax_last(record: &mut Record) {
+    let wrong = |number, link| Row::attribute(number).link(link);
+    let right = |number, link| Row::attribute(number).linked(link);
+    record.both(&[wrong(0, 1)], 0, (29, 1, 0));
+    record.rows(&[wrong(0, 3)], (29, 1, 0));
+    record.rows(&[wrong(0, 2), right(1, 5)], (29, 1, 1));
+    record.rows(&[wrong(0, 2), right(1, 4), right(2, 4)], (28, 1, 1));
+    record.rows(&[wrong(0, 2), right(1, 3)], (45, 1, 0));
+    record.rows(&[right(0, 2), wrong(1, 4), wrong(2, 3)], (45, 1, 1));
+    record.rows(&[wrong(0, u32::MAX - 1)], (45, 1, 0));
+    let class = Row::class(1).category(2).under(2);
+    let rows = [wrong(0, 2), Row::class(0), class, Row::class(2)];
+    record.rows(&rows, (18, 2, 1));
+    record.rows(&[wrong(0, 2), Row::class(0).naming(0)], (23, 2, 0));
 }

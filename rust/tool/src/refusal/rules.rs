@@ -1,5 +1,5 @@
-//! Which rows break a rule, 12 to 29 or 38 to 40, after the keeper has said that
-//! this row does.
+//! Which rows break a rule, 12 to 29, 38 to 40 or 45, after the keeper has said
+//! that this row does.
 
 use super::named::named;
 use crate::rows::{Attribute, Class, Common, List, RowId, Schema, Table};
@@ -74,6 +74,7 @@ fn attribute(number: u64, schema: &Schema, row: &Attribute) -> Option<String> {
             format!("linkID {} of {rivals}", row.link?)
         }
         29 => lone(schema, row.link?)?,
+        45 => nameless(row.link?, syntax),
         _ => return None,
     })
 }
@@ -95,6 +96,15 @@ fn lone(schema: &Schema, link: u32) -> Option<String> {
         "" => format!("linkID {link}, and no attribute has {forward}"),
         _ => format!("linkID {link}, and {forward} is held by {held}, which is defunct"),
     })
+}
+
+/// A linked attribute of a syntax that holds no names.
+fn nameless(link: u32, syntax: u8) -> String {
+    let needed = match link % 2 {
+        0 => "an even one needs 2.5.5.1, 2.5.5.7 or 2.5.5.14",
+        _ => "an odd one needs 2.5.5.1",
+    };
+    format!("linkID {link} with attributeSyntax 2.5.5.{syntax}, and {needed}")
 }
 
 fn class(number: u64, schema: &Schema, at: usize, row: &Class) -> Option<String> {

@@ -48,6 +48,13 @@ forward-missing-requires c κs =
           (omega (arith, shaped-wide (start .pre .0) Attributes (start .args .a .0) (start .pre .1))),
     )
 
+link-syntax-wrong-requires : tie.Need-link-syntax-wrong-requires
+link-syntax-wrong-requires c κs =
+    let c₁ = c .before in
+    let start = c₁ .before .before .before in
+    rw (c₁ .attribute-row .ensures)
+    (omega (arith, shaped-wide (start .pre .0) Attributes (start .args .a .0) (start .pre .1)))
+
 returns : tie.Need-returns
 unfolding numbered
 returns c = let c₁ = c .before in let c₂ = c₁ .before in rw (c₁ .match .keys1, ← (c₂ .attribute-row .ensures)) (c .range-wrong .ensures)
@@ -65,12 +72,16 @@ unfolding numbered
 returns-4 c = let c₁ = c .before in let c₂ = c₁ .before in rw (c₁ .match .keys4, ← (c₂ .attribute-row .ensures)) (c .forward-missing .ensures)
 
 returns-5 : tie.Need-returns-5
-returns-5 c =
+unfolding numbered
+returns-5 c = let c₁ = c .before in let c₂ = c₁ .before in rw (c₁ .match .keys5, ← (c₂ .attribute-row .ensures)) (c .link-syntax-wrong .ensures)
+
+returns-6 : tie.Need-returns-6
+returns-6 c =
     let start = c .before .before .before .before in
     sym
     (numbered-unlike (λ r. r .breaks (schemaIn (start .args .attributes .now) (start .args .classes .now)) Attributes (start .args .a .0)) (λ n. refl)
-    (refusal.linkAlone ∷ refusal.objectClassWrong ∷ refusal.syntaxMisfit ∷ refusal.rangeCrossed ∷ []) commonNumbers (schemaRules (start .args .added))
-    (start .args .number) (c .match .rest) (start .pre .2) (unfold strays among in refl))
+    (refusal.linkSyntax ∷ refusal.linkAlone ∷ refusal.objectClassWrong ∷ refusal.syntaxMisfit ∷ refusal.rangeCrossed ∷ []) commonNumbers
+    (schemaRules (start .args .added)) (start .args .number) (c .match .rest) (start .pre .2) (unfold strays among in refl))
 
 pub attribute-breaks-spec : {M : Type 1} → statement M
 attribute-breaks-spec =
@@ -81,8 +92,10 @@ attribute-breaks-spec =
     syntax-wrong-requires
     object-class-wrong-requires
     forward-missing-requires
+    link-syntax-wrong-requires
     returns
     returns-2
     returns-3
     returns-4
-    returns-5)
+    returns-5
+    returns-6)
