@@ -61,7 +61,7 @@ module _ (change : Change) (r : List ℕ) (m : Schema) (closure : List ℕ) wher
           (demand-agrees r m closure change (record { sound = s; asked = z; passed = e }))
       go (no d) = append-first (changedCases change r m) quickThirty d ∙ sym (append-first (changedCases change r m) plainThirty d)
 
-  -- numbers 5 to 30
+  -- the numbers from 5 on
   pub number-agrees : Sound r m closure
       → firstOf (askedCases change r m
       ++ (changedCases change r m ++ ((refusal.mandatoryDiffers when demandChanges change r after (demandedSet before (targetOf r)) closure) ∷ [])))

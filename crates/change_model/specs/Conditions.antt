@@ -1,4 +1,4 @@
--- The condition of each number from 5 to 30, as a statement. Document 01, "Numbers given back": "Given exactly when".
+-- The condition of each number from 5 on that a change gives, as a statement. Document 01, "Numbers given back": "Given exactly when".
 use Prim.Native.Nat.{_%_, _<_, _≤_, ℕ}
 use mathlib.Core.List.{List}
 use mathlib.Core.Path.{_≡_}

@@ -46,7 +46,7 @@ abbrev pub changedCases : Change → List ℕ → Schema → List Case
 changedCases change r m =
     rowCases (schemaRules (addedBy change r (m .classes .count))) (schemaAfter change r m) (tableFor change) (numberFor change r m)
 
--- numbers 5 to 30, row for row
+-- the numbers from 5 on, in the order of judging, row for row
 abbrev pub changeCases : Change → List ℕ → Schema → List Case
 changeCases change r m = askedCases change r m ++ resultCases change r m
 

@@ -11,8 +11,8 @@ use Rattle.rules.specs.Judge.{judged}
 use Rattle.keeper.specs.Answering.{refusedIf, firstAnswer, shapeAnswers}
 use Rattle.schema.specs.Refusals as refusal
 
--- "3 .. Audit: only kept sets are wrong", so it stands behind rules 12 to 29, which come "by number" with "the table and lowest row that break the
--- rule found"
+-- "3 .. Audit: only kept sets are wrong", so it stands behind rules 12 to 29, which come in the order of judging ("by number" in document 01) with "the
+-- table and lowest row that break the rule found"
 unfoldable pub audit : Stores → Answer
 audit s =
     firstAnswer

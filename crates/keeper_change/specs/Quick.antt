@@ -26,7 +26,7 @@ abbrev pub quickDiffers : Change → List ℕ → Schema → List ℕ → Bool
 quickDiffers change r m closure =
     demandChanges change r (schemaAfter change r m .classes) (demandedSet (m .classes) (targetOf r)) closure
 
--- numbers 5 to 30
+-- the numbers from 5 on
 unfoldable pub quickNumber : Change → List ℕ → Schema → List ℕ → ℕ
 quickNumber change r m closure =
     firstOf (askedCases change r m ++ (changedCases change r m ++ ((refusal.mandatoryDiffers when quickDiffers change r m closure) ∷ [])))

@@ -64,7 +64,7 @@ fn plain_read(
     plain_judged(change, scratch, attributes, classes, closure)
 }
 
-// 1, 2, 3, 4, then the first of 5 to 30, in the order of judging, whose condition holds, with nothing altered; or the change is made, the answer its
+// 1, 2, 3, 4, then the first number from 5 on, in the order of judging, whose condition holds, with nothing altered; or the change is made, the answer its
 // table and row.
 pub fn plain_change(
     attributes: &mut [u8],

@@ -78,8 +78,8 @@ fn quick_read(
     quick_judged(change, scratch, attributes, classes, closure)
 }
 
-// 1, 2, 4, then the first of 5 to 30, in the order of judging, whose condition holds for the changed row, with nothing altered; or the change is made, the
-// answer its table and row.
+// 1, 2, 4, then the first number from 5 on, in the order of judging, whose condition holds for the changed row, with nothing altered; or the change is
+// made, the answer its table and row.
 pub fn quick_change(
     attributes: &mut [u8],
     classes: &mut [u8],

@@ -33,7 +33,7 @@ use Rattle.rules.specs.Rules.{schemaRules}
 use Rattle.rules.specs.Judge.{FirstBroken, judged}
 use Rattle.rules.specs.JudgeLaws.{judged-first, judged-passed, judged-zero}
 use Rattle.rules.specs.Meets.{Meets, Met, RuleName, ruleNumber}
-use Rattle.rules.specs.MeetsLaws.{meets, judged-smallest}
+use Rattle.rules.specs.MeetsLaws.{meets, judged-before}
 use Rattle.rules.specs.SameLaws.{kept-same}
 use Rattle.tables_shape.specs.ShapeLaws.{says-formed}
 use Rattle.keeper.specs.AnsweringLaws.{not-short}
@@ -127,7 +127,7 @@ module _ (sheet : List ℕ) where
             (⊎-elim (λ k. absurd (d (meets Nothing (schemaFrom (out .rows)) .0 k))) (λ f. f) (judged-first Nothing (schemaFrom (out .rows))))
 
         pub load-least : (rule : RuleName) → ¬ (Met Nothing rule (schemaFrom (out .rows))) → rank (load sheet s .answer .number) ≤ rank (ruleNumber rule)
-        load-least rule unmet = omega (arith, ap rank (number-of judged-answer), judged-smallest Nothing (schemaFrom (out .rows)) rule unmet)
+        load-least rule unmet = omega (arith, ap rank (number-of judged-answer), judged-before Nothing (schemaFrom (out .rows)) rule unmet)
 
     -- ---- a loaded store is in order
 

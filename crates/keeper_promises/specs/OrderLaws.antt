@@ -19,7 +19,7 @@ use Rattle.rules.specs.Rules.{schemaRules}
 use Rattle.rules.specs.Judge.{FirstBroken, judged}
 use Rattle.rules.specs.JudgeLaws.{judged-first, judged-zero}
 use Rattle.rules.specs.Meets.{Meets, Met, RuleName, ruleNumber}
-use Rattle.rules.specs.MeetsLaws.{meets, judged-smallest}
+use Rattle.rules.specs.MeetsLaws.{meets, judged-before}
 use Rattle.tables_shape.specs.ShapeLaws.{says-formed}
 use Rattle.keeper.specs.Answering.{InShape, NoneRefuses, firstAnswer, refusedIf, shapeAnswers}
 use Rattle.keeper.specs.AnsweringLaws.{append-passed, append-refused, broken-stores, first-passed, first-refused, if-fails, if-holds, if-passed}
@@ -111,7 +111,7 @@ module _ (s : Stores) where
 
     pub audit-least : (rule : RuleName) → ¬ (Met Nothing rule (schemaOf s)) → rank (audit s .number) ≤ rank (ruleNumber rule)
     audit-least rule unmet =
-        omega (arith, ap (λ (x : Answer). rank (x .number)) (audit-judged (λ h. unmet (h rule))), judged-smallest Nothing (schemaOf s) rule unmet)
+        omega (arith, ap (λ (x : Answer). rank (x .number)) (audit-judged (λ h. unmet (h rule))), judged-before Nothing (schemaOf s) rule unmet)
 
     pub audit-three : Meets Nothing (schemaOf s) → ¬ Fresh s → audit s ≡ refused refusal.notInOrder
     audit-three k d =

@@ -1,5 +1,5 @@
--- The small tables of document 01, each value typed from the paper, as statements about the definitions that the calls are proved against; `paper-tables`
--- (PaperTablesLaws) is a member of the record. A definition that says something else contradicts a line here, whatever its own laws say.
+-- The small tables of documents 01 and 02, each value typed from the paper, as statements about the definitions that the calls are proved against;
+-- `paper-tables` (PaperTablesLaws) is a member of the record. A definition that says something else contradicts a line here, whatever its own laws say.
 use mathlib.Core.Bool.{true, false, cond}
 use mathlib.Core.List.{List, [], _∷_, _++_}
 use mathlib.Core.Logic.{_⊎_, _↔_}
@@ -16,6 +16,7 @@ use Rattle.schema.specs.ClassRow.{categoryOf, fixedAuxiliaryOf, fixedOptionalOf
 use Rattle.schema.specs.ClassRow.{openOptionalOf, openSuperiorOf, superclassOf}
 use Rattle.schema.specs.Layout.{rowWidth}
 use Rattle.schema.specs.ObjectClasses.{objectClassFits}
+use Rattle.schema.specs.Order.{order}
 use Rattle.schema.specs.Row.{arcCount, arcOf, guidOf, isBase, isDefunct, nameOf, systemFlags}
 use Rattle.schema.specs.Store.{Schema}
 use Rattle.schema.specs.declared.attribute.Bound.the-variants.{Given}
@@ -31,6 +32,7 @@ use Rattle.change_read.specs.declared.read.ChangeRead.{ChangeRead}
 use Rattle.change_rows.specs.Rows.{schemaAfter}
 use Rattle.rules_names.specs.Name.{sameName, validName}
 use Rattle.rules_attribute.specs.Links.{linkSyntaxWrong}
+use Rattle.rules_attribute.specs.Range.{endsCrossed}
 use Rattle.rules_attribute.specs.Syntax.{syntaxFits}
 use Rattle.keeper_promises.specs.Pieces.{classRow, classes, judgedRows, sample}
 use Rattle.change_read.specs.declared.read.ChangeRead.the-variants as changes
@@ -112,6 +114,10 @@ pub data LinkSyntax : ℕ → ℕ → Type 0 where
   evenNameWithBinary : LinkSyntax 0 7
   evenNameWithString : LinkSyntax 0 14
   oddName : LinkSyntax 1 1
+
+-- l is at most u as signed numbers of 32 bits in two's complement: from 0x80000000 on they are negative
+abbrev pub SignedAtMost : ℕ → ℕ → Type 0
+SignedAtMost l u = ((0x80000000 ≤ l) × (u < 0x80000000)) ⊎ ((l ≤ u) × ((u < 0x80000000) ⊎ (0x80000000 ≤ l)))
 
 -- ---- fields
 
@@ -244,12 +250,18 @@ pub record ChangeLists : Type 0 where
   pub superior-back : removed 0x19 1 ≡ (0 ∷ []) ∷ [] ∷ [] ∷ [] ∷ [] ∷ [] ∷ [] ∷ []
 
 pub record PaperTables : Type 0 where
+  -- "The smallest number whose condition holds."; 38, 39, 40 "stand at 21's place in the order"; 22 "is not used again"; "45, a schema rule after 29"
+  pub judging : order
+      ≡ 0 ∷ 1 ∷ 2 ∷ 3 ∷ 4 ∷ 5 ∷ 6 ∷ 7 ∷ 8 ∷ 9 ∷ 10 ∷ 11 ∷ 12 ∷ 13 ∷ 14 ∷ 15 ∷ 16 ∷ 17 ∷ 18 ∷ 19 ∷ 20 ∷ 21 ∷ 38 ∷ 39 ∷ 40 ∷ 23 ∷ 24 ∷ 25 ∷ 26 ∷ 27 ∷ 28 ∷ 29 ∷ 45
+      ∷ 30 ∷ 31 ∷ []
   pub names : NameTables
   pub categories : CategoryTable
   -- 26: exactly these pairs, of any two numbers; 27: exactly these values, of any bytes
   pub syntax-pairs : (syntax omSyntax : ℕ) → (syntaxFits syntax omSyntax ≡ true) ↔ SyntaxPair syntax omSyntax
   pub object-classes : (syntax : ℕ) (value : List ℕ) → (objectClassFits syntax value ≡ true) ↔ RightObjectClass syntax value
   pub defaults : DefaultTable
+  -- 25: "only where rangeLower is greater than rangeUpper", of any two numbers of 32 bits
+  pub range-ends : (l u : ℕ) → l < 0x100000000 → u < 0x100000000 → (endsCrossed (Given l) (Given u) ≡ false) ↔ SignedAtMost l u
   -- 45: exactly these syntaxes, of any present linkID; where it is absent, any
   pub link-syntaxes : (row : List ℕ) → ¬ (linkOf row ≡ 0) → (linkSyntaxWrong row ≡ false) ↔ LinkSyntax (linkOf row % 2) (syntaxOf row)
   pub link-absent : (row : List ℕ) → linkOf row ≡ 0 → linkSyntaxWrong row ≡ false

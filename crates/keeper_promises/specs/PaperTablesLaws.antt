@@ -1,32 +1,35 @@
--- The small tables of document 01: the tables of values by computation, the others for every number and every string of bytes.
+-- The small tables of documents 01 and 02: the tables of values by computation, the others for every number and every string of bytes.
 use mathlib.Core.Bool.{true, false}
 use mathlib.Core.List.{List, [], _∷_}
 use mathlib.Core.Logic.{_⊎_, inl, inr, ⊎-elim, _↔_}
 use mathlib.Core.Path.{_≡_, refl, sym, ap, subst₂, _∙_, subst}
 use Prim.Native.Nat.{ℕ, suc, _+_, _*_, _/_, _%_, _≤_, _<_}
-use native.Mathlib.Decide.{ℕ-discrete}
+use native.Mathlib.Decide.{decLt, ℕ-discrete}
 use native.Mathlib.Omega.{arith}
 use lib.ListN.{getD}
-use borrow.Author.Tests.{not-false}
+use borrow.Author.Tests.{ltb-false, not-false}
 use Rattle.prelude.specs.Below.{anyBelow, allBelow}
 use Rattle.prelude.specs.BelowLaws.{last-or-less}
 use Rattle.prelude.specs.Part.{part, sameBytes, padded, zeros}
-use Rattle.prelude.specs.SaysLaws.{says-eq, says-split, says-false}
+use Rattle.prelude.specs.SaysLaws.{says-eq, says-lt, says-split, says-false}
 use Rattle.sets.specs.Sets.{listBelow}
 use Rattle.schema.specs.AttributeRow.{syntaxOf, linkOf}
 use Rattle.schema.specs.ObjectClasses.{objectClasses, objectClassFits, entryCount, entrySyntax, entryValue}
 use Rattle.schema.specs.ObjectClassesLaws.{says-object-class-fits}
 use Rattle.schema.specs.Row.{isBase, systemFlags}
+use Rattle.schema.specs.declared.attribute.Bound.the-variants.{Given}
 use Rattle.rules_names.specs.Name.{folded, sameName, between, validName, isLetter, isNameByte}
 use Rattle.rules_names.specs.NameLaws.{folded-upper, says-same-name, folded-other, says-between}
 use Rattle.rules_attribute.specs.Links.{linkSyntaxFits, linkSyntaxWrong, LinkSyntaxFits}
 use Rattle.rules_attribute.specs.LinksLaws.{says-link-syntax-fits, says-link-syntax-wrong}
+use Rattle.rules_attribute.specs.Range.{biased, endsCrossed}
+use Rattle.rules_attribute.specs.RangeLaws.{biased-high, biased-low, less-biased}
 use Rattle.rules_attribute.specs.Syntax.{syntaxFits, syntaxPairs, pairCount}
 use Rattle.rules_attribute.specs.SyntaxLaws.{says-syntax-fits}
 use Rattle.keeper_promises.specs.PaperTables.{SyntaxPair, name, identifier, exactString, teletex, printable, ia5, numeric, nameWithBinary}
 use Rattle.keeper_promises.specs.PaperTables.{boolean, integer, enumeration, octets, universalTime, generalTime, unicode, presentation}
 use Rattle.keeper_promises.specs.PaperTables.{nameWithString, descriptor, largeInteger, sid, RightObjectClass, one, seven, sevenToo, thirteen}
-use Rattle.keeper_promises.specs.PaperTables.{LinkSyntax, evenName, evenNameWithBinary, evenNameWithString, oddName}
+use Rattle.keeper_promises.specs.PaperTables.{SignedAtMost, LinkSyntax, evenName, evenNameWithBinary, evenNameWithString, oddName}
 use Rattle.keeper_promises.specs.PaperTables.{fourteen, fourteenToo, PaperTables, NameTables, SmallOf, hexBytes, hexDigit, text}
 use Rattle.keeper_promises.specs.ComputedLaws as computed
 
@@ -47,6 +50,26 @@ base-bit row high bit low l b e = (
   λ h. let q = says-eq (systemFlags row / 16 % 2) 1 .holds h in omega arith,
   λ h. says-eq (systemFlags row / 16 % 2) 1 .passes (omega arith),
 )
+
+-- ---- ranges
+
+range-ends : (l u : ℕ) → l < 4294967296 → u < 4294967296 → (endsCrossed (Given l) (Given u) ≡ false) ↔ SignedAtMost l u
+unfolding endsCrossed
+range-ends l u hl hu = (
+  λ e. forth (ltb-false (biased u) (biased l) (sym (less-biased u l hu hl) ∙ e)) (decLt l 2147483648) (decLt u 2147483648),
+  λ h. less-biased u l hu hl ∙ says-false (says-lt (biased u) (biased l)) (back h),
+)
+  where
+    forth : biased l ≤ biased u → Dec (l < 2147483648) → Dec (u < 2147483648) → SignedAtMost l u
+    forth h (yes p) (yes q) = inr (omega (arith, h, biased-low l p, biased-low u q), inl q)
+    forth h (yes p) (no q) = absurd (omega (arith, h, biased-low l p, biased-high u (omega arith)))
+    forth h (no p) (yes q) = inl (omega arith, q)
+    forth h (no p) (no q) = inr (omega (arith, h, biased-high l (omega arith), biased-high u (omega arith)), inr (omega arith))
+
+    back : SignedAtMost l u → ¬ (biased u < biased l)
+    back (inl h) b = omega (arith, b, h .0, h .1, biased-high l (h .0), biased-low u (h .1))
+    back (inr (h, inl q)) b = let p : l < 2147483648 = omega arith in omega (arith, b, h, biased-low l p, biased-low u q)
+    back (inr (h, inr q)) b = let p : 2147483648 ≤ u = omega arith in omega (arith, b, h, biased-high l q, biased-high u p)
 
 -- ---- syntaxes
 
@@ -172,11 +195,13 @@ names = record { begins = refl; goes-on = refl; alphabets = refl; letters-same =
 
 pub paper-tables : PaperTables
 paper-tables = record {
+  judging = refl;
   names = names;
   categories = computed.categories;
   syntax-pairs = syntax-pairs;
   object-classes = object-classes;
   defaults = computed.defaults;
+  range-ends = range-ends;
   link-syntaxes = link-syntaxes;
   link-absent = link-absent;
   base-bit = base-bit;

@@ -1,5 +1,6 @@
--- The test pieces of document 01, P1 to P12, P4 as document 02 changes it, as one list of statements about the definitions; `pieces` (PiecesLaws) is a
--- member of it. P1 to P8 are whole schemas that the judge looks at, P10 to P12 changes of a schema by the model; "pass" is 0.
+-- The test pieces of document 01, P1 to P12, P4, P6 and P8 as document 02 has them, and pieces of its own, as one list of statements about the
+-- definitions; `pieces` (PiecesLaws) is a member of it. P1 to P8 are whole schemas that the judge looks at, P10 to P12 changes of a schema by the model;
+-- "pass" is 0.
 use mathlib.Core.Bool.{true}
 use mathlib.Core.List.{List, [], _∷_, _++_}
 use mathlib.Core.Path.{_≡_}
@@ -94,6 +95,16 @@ unfoldable pub classes : ℕ → ℕ → Answer
 classes above own =
     judgedRows [] (classRow (97 ∷ []) (2 ∷ 1 ∷ []) 1 abstract 0 ∷ classRow (98 ∷ []) (2 ∷ 2 ∷ []) 2 above 0 ∷ classRow (99 ∷ []) (2 ∷ 3 ∷ []) 3 own 1 ∷ [])
 
+-- class 0 is abstract, and each of the others under the one before: 1 auxiliary, 2 structural, 3 abstract
+unfoldable pub underEachOther : Answer
+underEachOther =
+    judgedRows []
+    (classRow (97 ∷ []) (2 ∷ 1 ∷ []) 1 abstract 0
+    ∷ classRow (98 ∷ []) (2 ∷ 2 ∷ []) 2 auxiliary 0
+    ∷ classRow (99 ∷ []) (2 ∷ 3 ∷ []) 3 structural 1
+    ∷ classRow (100 ∷ []) (2 ∷ 4 ∷ []) 4 abstract 2
+    ∷ [])
+
 -- ---- changes of a schema
 
 -- a class row whose mandatory set has a first byte, as attributes 0 and 1 by 3, and nothing more
@@ -145,7 +156,7 @@ pub record Pieces : Type 0 where
   -- 88 class under auxiliary: pass
   pub p7 : classes auxiliary class88 .number ≡ 0
   -- abstract under structural: 38
-  pub p8 : classes structural abstract ≡ brokenBy refusal.abstractUnderOther Classes 2
+  pub p8 : classes structural abstract ≡ brokenBy 38 Classes 2
   -- two auxiliaries listing each other: both reach the same classes, in any table
   pub p9 : (t : Table) (x y : ℕ) → x < t .count → y < t .count → lists Auxiliaries (t .row x) y ≡ true → lists Auxiliaries (t .row y) x ≡ true
       → (z : ℕ) → reaches t x z ≡ reaches t y z
@@ -159,8 +170,14 @@ pub record Pieces : Type 0 where
   pub beyond : joining 1 200 ≡ refusal.classNotLive
   pub misfit : joining 1 1 ≡ refusal.notAnAuxiliary
   -- document 02: "Somebody linked two integer attributes": 45; linkID 1 of an integer is 29 before it
-  pub integers : judgedRows (linkedIntegers 0 2 ∷ linkedIntegers 1 3 ∷ []) [] ≡ brokenBy refusal.linkSyntax Attributes 0
+  pub integers : judgedRows (linkedIntegers 0 2 ∷ linkedIntegers 1 3 ∷ []) [] ≡ brokenBy 45 Attributes 0
   pub lone : one (linkedIntegers 0 1) .number ≡ refusal.linkAlone
   -- "a present even linkID needs 2.5.5.1, 2.5.5.7 or 2.5.5.14, an odd one 2.5.5.1"
   pub binary : (judgedRows (linkedWithBinary 0 2 ∷ linked 1 3 ∷ []) [] .number ≡ 0)
-      × (judgedRows (linked 0 2 ∷ linkedWithBinary 1 3 ∷ []) [] ≡ brokenBy refusal.linkSyntax Attributes 1)
+      × (judgedRows (linked 0 2 ∷ linkedWithBinary 1 3 ∷ []) [] ≡ brokenBy 45 Attributes 1)
+  -- "Rule 25 shall hold only where rangeLower is greater than rangeUpper; both negative and equal passes too."
+  pub equal : (byRange (Given 0xFFFFFFFD) (Given 0xFFFFFFFD) .number ≡ 0) × (byRange (Given 0x80000000) (Given 0x80000000) .number ≡ 0)
+  pub crossed : (byRange (Given 6) (Given 5) .number ≡ 25) × (byRange (Given 0) (Given 0xFFFFFFFF) .number ≡ 25)
+  -- the rule before the row: class 2 is structural under auxiliary, class 3 abstract under structural: 38, class 3; a later row's 29 before an earlier one's 45
+  pub rule-first : underEachOther ≡ brokenBy 38 Classes 3
+  pub link-last : judgedRows (linkedIntegers 0 2 ∷ linked 1 5 ∷ []) [] ≡ brokenBy 29 Attributes 1

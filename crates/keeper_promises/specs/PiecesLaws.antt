@@ -30,7 +30,7 @@ use Rattle.change_model.specs.Model.{changeNumber}
 use Rattle.keeper_promises.specs.Pieces.{Pieces}
 use Rattle.keeper_promises.specs.Pieces.{arcBytes, common, endBytes, attributeRow, classRow, judgedRows, areaHa, one, byName, byArcs, bySyntax, byRange}
 use Rattle.keeper_promises.specs.Pieces.{withObjectClass, linkedBy, linkedIntegers, linked, linkedWithBinary}
-use Rattle.keeper_promises.specs.Pieces.{classes, demanding, twoAttributes, threeClasses, sample, joining, renaming}
+use Rattle.keeper_promises.specs.Pieces.{classes, underEachOther, demanding, twoAttributes, threeClasses, sample, joining, renaming}
 use Rattle.graph.specs.PiecesLaws as graph
 
 pub pieces : Pieces
@@ -40,7 +40,7 @@ unfolding attributeNotLive classNotLive barred entryDead sameTable part zeros pa
     isForwardOf forwardMissing linkSyntaxFits linkSyntaxWrong lists namedBy names namesDead notLive superclassLate classWrong namingWrong
     categoryWrong wronglyListed otherCategory inheritance rootInheritance inheritanceOf inheritanceWrong judgeTable judgeRule
     judgeRules judged arcBytes common endBytes attributeRow classRow judgedRows areaHa one byName byArcs bySyntax byRange withObjectClass linkedBy
-    linkedIntegers linked linkedWithBinary classes splice firstOf digitsOf setOf withMember withRow schemaAfter tableAfter editedRow openList
+    linkedIntegers linked linkedWithBinary classes underEachOther splice firstOf digitsOf setOf withMember withRow schemaAfter tableAfter editedRow openList
     listTag targetAbsent tableFull baseAdded via reachesBy collectsBy inherits listsMandatory demandedSet mandatoryDiffers changeNumber demanding
     twoAttributes threeClasses sample joining renaming
 pieces = record {
@@ -61,4 +61,8 @@ pieces = record {
   integers = refl;
   lone = refl;
   binary = (refl, refl);
+  equal = (refl, refl);
+  crossed = (refl, refl);
+  rule-first = refl;
+  link-last = refl;
 }

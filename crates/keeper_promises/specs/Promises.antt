@@ -159,7 +159,7 @@ pub record Demand1 : Type 0 where
 
 -- ---- demand 2: "A change is accepted and applied by the whole check exactly when the change rules hold and the resulting schema meets every schema
 -- rule of document 01, after the published checks. Otherwise the smallest number whose condition holds is returned. An accepted
--- schema written as a sheet and loaded again is the same schema."
+-- schema written as a sheet and loaded again is the same schema." Document 02: "Demand 2's smallest is the first in this order" (schema/Order).
 -- What a reading or the chain of superclasses comes to is an enum; `sheetAnswer`, `changeAnswer`, `fieldAnswer`, `rowAnswer`, `numberAnswer`,
 -- `classAnswer` and `depthAnswer` give the number and values of each of their cases.
 

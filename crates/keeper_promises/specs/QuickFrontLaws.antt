@@ -46,7 +46,7 @@ quick-asked change r m k z = go (ℕ-discrete (firstAsked change r m) 0)
     go (yes e) = e
     go (no d) = absurd (d (sym (append-first (askedCases change r m) _ d) ∙ z))
 
--- where numbers 5 to 30 say nothing, the rules of the changed row do not either
+-- where the numbers from 5 on say nothing, the rules of the changed row do not either
 pub row-zero : (change : Change) (r : List ℕ) (m : Schema) (closure : List ℕ) → quickNumber change r m closure ≡ 0 → rowNumber change r m ≡ 0
 unfolding quickNumber firstAsked
 row-zero change r m closure zero = go (ℕ-discrete (rowNumber change r m) 0)
@@ -80,7 +80,7 @@ module _ (x : List ℕ) (bytes : Bytes x) (s : Stores) where
   abbrev r : List ℕ
   r = readChange x .row
 
-  -- and from a change that reads and that numbers 5 to 30 let pass; then it is made
+  -- and from a change that reads and that the numbers from 5 on let pass; then it is made
   pub record Made (change : Change) : Type 0 where
     pub reads : Reads x change r
     pub shape : InShape s

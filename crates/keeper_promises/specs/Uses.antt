@@ -17,7 +17,7 @@ use Rattle.schema.specs.Store.{Schema, Stores, Table, allowedIn, demandedIn, re
 use Rattle.schema.specs.declared.attribute.Bound.the-variants.{Given}
 use Rattle.schema.specs.declared.class.Naming.the-variants.{By}
 use Rattle.schema.specs.declared.number.TableId.{TableId}
-use Rattle.keeper_promises.specs.PaperTables.{LinkSyntax, RightObjectClass, SmallOf, SyntaxPair}
+use Rattle.keeper_promises.specs.PaperTables.{LinkSyntax, RightObjectClass, SignedAtMost, SmallOf, SyntaxPair}
 
 -- ---- words
 
@@ -37,10 +37,6 @@ AsciiLetter b = ((65 ≤ b) × (b ≤ 90)) ⊎ ((97 ≤ b) × (b ≤ 122))
 pub record OneName (a b : List ℕ) : Type 0 where
   pub lengths : length a ≡ length b
   pub bytes : (i : ℕ) → i < length a → (getD a i 0 ≡ getD b i 0) ⊎ (SmallOf (getD a i 0) (getD b i 0) ⊎ SmallOf (getD b i 0) (getD a i 0))
-
--- l is at most u as signed numbers of 32 bits in two's complement: from 0x80000000 on they are negative
-abbrev pub SignedAtMost : ℕ → ℕ → Type 0
-SignedAtMost l u = ((0x80000000 ≤ l) × (u < 0x80000000)) ⊎ ((l ≤ u) × ((u < 0x80000000) ⊎ (0x80000000 ≤ l)))
 
 -- a class whose row this is has y for "its superclass" or one of "its auxiliaries"
 abbrev pub Inherits : List ℕ → ℕ → Type 0

@@ -7,7 +7,6 @@ use Prim.Native.Nat.{ℕ, _+_, _*_, _/_, _≤_, _<_}
 use native.Mathlib.Decide.{decLt, ℕ-discrete}
 use native.Mathlib.Omega.{arith}
 use lib.ListN.{getD}
-use borrow.Author.Tests.{ltb-false}
 use Rattle.prelude.specs.BigEndian.{bigEndian}
 use Rattle.prelude.specs.BigEndianLaws.{four-bytes, two-bytes}
 use Rattle.prelude.specs.Part.{Bytes, part}
@@ -39,8 +38,8 @@ use Rattle.rows_read.specs.WellFormed.{isFinished, wellFormed}
 use Rattle.rows_read.specs.WellFormedLaws.{formed-parts}
 use Rattle.rules_names.specs.Name.{SameName, folded}
 use Rattle.rules_unique.specs.IdentifierLaws.{row-arcs}
-use Rattle.rules_attribute.specs.Range.{biased, endsCrossed}
-use Rattle.rules_attribute.specs.RangeLaws.{biased-high, biased-low, less-biased, says-crossed}
+use Rattle.rules_attribute.specs.Range.{endsCrossed}
+use Rattle.rules_attribute.specs.RangeLaws.{says-crossed}
 use Rattle.rules_attribute.specs.LinksLaws.{says-link-syntax-wrong}
 use Rattle.rules_attribute.specs.SyntaxLaws.{says-syntax-fits}
 use Rattle.rules_class.specs.Category.{listCategory}
@@ -48,12 +47,12 @@ use Rattle.rules_class.specs.Live.{SuperclassEarly}
 use Rattle.rules.specs.Meets.{Meets, Fitting, nameInvalid, nameTaken, identifierInvalid, identifierTaken, guidTaken, attributeNotLive, classNotLive}
 use Rattle.rules.specs.Meets.{notAnAuxiliary, notASuperior, rootNotAbstract, abstractUnderOther, auxiliaryUnderStructural, structuralUnderAuxiliary}
 use Rattle.rules.specs.Meets.{namingUnfit, mapiTaken, rangeCrossed, syntaxMisfit, objectClassWrong}
-use Rattle.rules.specs.Meets.{linkTaken, linkAlone, linkSyntax}
+use Rattle.rules.specs.Meets.{linkTaken, linkAlone, linkSyntaxUnfit}
 use Rattle.rules.specs.declared.row.Added.the-variants.{Nothing}
 use Rattle.tables_shape.specs.ShapeLaws.{table-shaped}
 use Rattle.keeper_promises.specs.PaperTablesLaws.{paper-tables, small-folds}
 use Rattle.keeper_promises.specs.Promises.{InOrder, OfBytes}
-use Rattle.keeper_promises.specs.Uses.{AttributeSound, ClassSound, OneName, ReachSound, Reached, RowSound, RowsApart, SignedAtMost}
+use Rattle.keeper_promises.specs.Uses.{AttributeSound, ClassSound, OneName, ReachSound, Reached, RowSound, RowsApart}
 use Rattle.keeper_promises.specs.Uses.{Uses, Active, Usable, itself, bySuperclass, byFixed, byOpen}
 use Rattle.keeper_promises.specs.UsesGraphLaws.{kept-sound}
 use Rattle.schema.specs.declared.class.Naming.the-variants as naming
@@ -117,20 +116,6 @@ end-below row at x bytes e = go (flagAt at row) refl
         let n : 0 ≡ x = sym (ap (λ (f : Bool). endIn (cond f (Given (bigEndian 4 (at + 1) row)) Absent)) q) ∙ ap endIn e in
         omega arith
 
--- ends that are not crossed
-signed-at-most : (l u : ℕ) → l < 4294967296 → u < 4294967296 → endsCrossed (Given l) (Given u) ≡ false → SignedAtMost l u
-unfolding endsCrossed
-signed-at-most l u hl hu e = go (decLt l 2147483648) (decLt u 2147483648)
-  where
-    at-most : biased l ≤ biased u
-    at-most = ltb-false (biased u) (biased l) (sym (less-biased u l hu hl) ∙ e)
-
-    go : Dec (l < 2147483648) → Dec (u < 2147483648) → SignedAtMost l u
-    go (yes p) (yes q) = inr (omega (arith, at-most, biased-low l p, biased-low u q), inl q)
-    go (yes p) (no q) = absurd (omega (arith, at-most, biased-low l p, biased-high u (omega arith)))
-    go (no p) (yes q) = inl (omega arith, q)
-    go (no p) (no q) = inr (omega (arith, at-most, biased-high l (omega arith), biased-high u (omega arith)), inr (omega arith))
-
 -- a row whose oMSyntax is not 127 has no oMObjectClass
 no-object : (row : List ℕ) → wellFormed Attributes row ≡ true → ¬ (omSyntaxOf row ≡ 127) → objectClassOf row ≡ []
 unfolding isFinished isSettled
@@ -183,14 +168,14 @@ module _ (m : Schema) (met : Meets Nothing m) where
         object = λ e. paper-tables .object-classes (syntaxOf row) (objectClassOf row) .0
             (says-object-class-fits (syntaxOf row) (objectClassOf row) .passes (met objectClassWrong k l e));
         noObject = no-object row formed;
-        range = λ a b p q. signed-at-most a b (end-below row rangeLowerAt a bytes p) (end-below row rangeUpperAt b bytes q)
+        range = λ a b p q. paper-tables .range-ends a b (end-below row rangeLowerAt a bytes p) (end-below row rangeUpperAt b bytes q) .0
             (sym (ap₂ endsCrossed p q) ∙ says-false (says-crossed (rangeLower row) (rangeUpper row)) (met rangeCrossed k l));
         forward = λ e. (let f = met linkAlone k l e in record {
           at = f .at;
           below = f .below;
           is = (live-usable (m .attributes) row (f .at) (f .is .1), (f .is .0 .1, f .is .0 .0));
         });
-        linked = λ present. paper-tables .link-syntaxes row present .0 (says-false (says-link-syntax-wrong row) (λ bad. bad (met linkSyntax k l)));
+        linked = λ present. paper-tables .link-syntaxes row present .0 (says-false (says-link-syntax-wrong row) (λ bad. bad (met linkSyntaxUnfit k l)));
       }
 
   -- ---- classes

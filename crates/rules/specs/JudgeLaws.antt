@@ -6,21 +6,19 @@ use mathlib.Core.Path.{_≡_, refl, sym, ap, ap₂, subst, _∙_}
 use Prim.Native.Nat.{ℕ, _+_, _≤_, _<_}
 use native.Mathlib.Omega.{arith}
 use lib.ListN.{length, getD, drop}
-use Rattle.prelude.specs.SaysLaws.{says-true, says-false, says-lt, says-or, says-test, neither}
-use Rattle.prelude.specs.BelowLaws.{first-some, any-none, any-false, any-here, first-any}
+use Rattle.prelude.specs.SaysLaws.{says-true, says-false, says-lt, neither}
+use Rattle.prelude.specs.BelowLaws.{first-some, any-none, any-false, first-any}
 use Rattle.prelude.specs.First.{_when_, firstOf, NoneHolds}
-use Rattle.prelude.specs.FirstLaws.{first-hit, first-miss, first-none, first-least, zero-iff-none}
+use Rattle.prelude.specs.FirstLaws.{first-hit, first-miss, first-none, zero-iff-none}
 use Rattle.schema.specs.declared.answer.Answer.{Answer}
 use Rattle.schema.specs.declared.number.TableId.{TableId}
 use Rattle.schema.specs.declared.number.TableId.the-variants.{Attributes, Classes}
 use Rattle.schema.specs.Answers.{brokenBy, passed, tableNumber}
-use Rattle.schema.specs.Order.{rank}
 use Rattle.schema.specs.Store.{Schema, table}
 use Rattle.rules.specs.declared.row.Added.{Added}
 use Rattle.rules.specs.Rules.{Rule, schemaRules, noRule, numbered, rulesOf, breaks, Each}
-use Rattle.rules.specs.RulesLaws.{rules-next, rules-end, numbered-number, rising, nonzero, picked-case}
+use Rattle.rules.specs.RulesLaws.{rules-next, rules-end, numbered-number, nonzero}
 use Rattle.rules.specs.Judge.{breaksIn, firstRow, judgeTable, judgeRule, judgeRules, judged, broken, brokenCases, Kept, AllKept, Lowest, FirstBroken}
-use Rattle.schema.specs.Refusals as refusal
 
 -- ---- one rule, by case
 
@@ -208,29 +206,10 @@ pub judged-first : (added : Added) (m : Schema) → AllKept added m ⊎ FirstBro
 unfolding judged
 judged-first added m = first-or-kept m (schemaRules added)
 
--- a rule that some row breaks is broken; one that no row does is not
-row-breaks : (m : Schema) (r : Rule) (t : TableId) (k : ℕ) → k < table t m .count → r .breaks m t k ≡ true → broken m r ≡ true
-row-breaks m r Attributes k l e = ap (λ (b : Bool). b || breaksIn r m Classes) (any-here (r .breaks m Attributes) k (m .attributes .count) l e)
-row-breaks m r Classes k l e =
-    says-or (says-test (breaksIn r m Attributes)) (says-test (breaksIn r m Classes)) .passes (inr
-    (any-here (r .breaks m Classes) k (m .classes .count) l e))
-
+-- a rule that no row breaks is not broken
 pub none-broken : (m : Schema) (n : ℕ) → broken m (noRule n) ≡ false
 none-broken m n =
     ap₂ (λ (x y : Bool). x || y) (any-false (λ k. false) (m .attributes .count) (λ k l. refl)) (any-false (λ k. false) (m .classes .count) (λ k l. refl))
-
--- "The smallest number whose condition holds", the first in the order of judging: no row breaks a rule that comes before it
-pub judged-least : (added : Added) (m : Schema) (n : ℕ) (t : TableId) (k : ℕ) → k < table t m .count → breaks added m n t k ≡ true
-    → rank (judged added m .number) ≤ rank n
-unfolding judged
-judged-least added m n t k l e =
-    let rs = schemaRules added in
-    omega (
-      arith,
-      ap rank (judge-number rs m),
-      first-least rank (rank refusal.stillNeeded) n (brokenCases rs m) (rising added (broken m))
-          (picked-case (broken m) n rs (none-broken m n) (row-breaks m (numbered rs n) t k l e)),
-    )
 
 -- the judge's number is that of the first rule that some row breaks
 pub judged-number : (added : Added) (m : Schema) → judged added m .number ≡ firstOf (brokenCases (schemaRules added) m)

@@ -1,4 +1,4 @@
--- "Meets every rule" of document 01, rule by rule, of names, numbers, sets and rows. It says the same as the list of tests (`MeetsLaws`).
+-- "Meets every rule" of documents 01 and 02, rule by rule, of names, numbers, sets and rows. It says the same as the list of tests (`MeetsLaws`).
 use mathlib.Core.List.{List}
 use mathlib.Core.Logic.{_⊎_}
 use mathlib.Core.Path.{_≡_}
@@ -45,7 +45,7 @@ NumbersApart m number =
 pub data RuleName : Type 0 where
   nameInvalid nameTaken identifierInvalid identifierTaken guidTaken attributeNotLive classNotLive notAnAuxiliary notASuperior : RuleName
   rootNotAbstract abstractUnderOther auxiliaryUnderStructural structuralUnderAuxiliary : RuleName
-  namingUnfit mapiTaken rangeCrossed syntaxMisfit objectClassWrong linkTaken linkAlone linkSyntax : RuleName
+  namingUnfit mapiTaken rangeCrossed syntaxMisfit objectClassWrong linkTaken linkAlone linkSyntaxUnfit : RuleName
 
 abbrev pub ruleNumber : RuleName → ℕ
 ruleNumber nameInvalid = refusal.nameInvalid
@@ -68,7 +68,7 @@ ruleNumber syntaxMisfit = refusal.syntaxMisfit
 ruleNumber objectClassWrong = refusal.objectClassWrong
 ruleNumber linkTaken = refusal.linkTaken
 ruleNumber linkAlone = refusal.linkAlone
-ruleNumber linkSyntax = refusal.linkSyntax
+ruleNumber linkSyntaxUnfit = refusal.linkSyntaxUnfit
 
 -- what a class names in a table is there, and active if the class is
 abbrev pub NamedLive : TableId → Schema → Type 0
@@ -137,7 +137,7 @@ Met added linkTaken m = NumbersApart m linkOf
 Met added linkAlone m = (k : ℕ) → k < m .attributes .count → linkOf (m .attributes .row k) % 2 ≡ 1
     → Some (m .attributes .count) (λ j. ForwardOf (m .attributes .row k) (m .attributes .row j) × Live (m .attributes) (m .attributes .row k) j)
 -- 45 an even linkID has syntax 1, 7 or 14, an odd one 1
-Met added linkSyntax m = (k : ℕ) → k < m .attributes .count → LinkSyntaxFits (m .attributes .row k)
+Met added linkSyntaxUnfit m = (k : ℕ) → k < m .attributes .count → LinkSyntaxFits (m .attributes .row k)
 
 -- all of them, given what a change has added
 abbrev pub Meets : Added → Schema → Type 0

@@ -12,7 +12,7 @@ use Rattle.prelude.specs.SaysLaws.{says-and, says-or, says-eq, says-lt, says-te
 use Rattle.prelude.specs.BelowLaws.{says-any}
 use Rattle.prelude.specs.First.{Among}
 use Rattle.prelude.specs.Below.{Some}
-use Rattle.prelude.specs.FirstLaws.{first-among, first-least, other-first}
+use Rattle.prelude.specs.FirstLaws.{first-least}
 use Rattle.schema.specs.declared.number.TableId.{TableId}
 use Rattle.schema.specs.declared.number.TableId.the-variants.{Attributes, Classes}
 use Rattle.schema.specs.Numbers.{SameRow, sameTable}
@@ -343,7 +343,7 @@ kept-met added m RuleName.objectClassWrong =
     ))
 kept-met added m RuleName.linkTaken = numbers-met m Link refl refl linkOf (λ a b. (λ d. d, λ d. d))
 kept-met added m RuleName.linkAlone = forward-met m
-kept-met added m RuleName.linkSyntax =
+kept-met added m RuleName.linkSyntaxUnfit =
     attribute-met m _ (λ k. says-link-syntax-wrong (m .attributes .row k)) (λ k. decided (says-link-syntax-fits (m .attributes .row k)))
 
 -- ---- all of them
@@ -359,7 +359,7 @@ meets added m = (λ h rule. kept-met added m rule .0 (each-numbered (Kept m) (sc
         & kept RuleName.attributeNotLive & kept RuleName.classNotLive & kept RuleName.notAnAuxiliary & kept RuleName.notASuperior
         & kept RuleName.rootNotAbstract & kept RuleName.abstractUnderOther & kept RuleName.auxiliaryUnderStructural
         & kept RuleName.structuralUnderAuxiliary & kept RuleName.namingUnfit & kept RuleName.mapiTaken & kept RuleName.rangeCrossed
-        & kept RuleName.syntaxMisfit & kept RuleName.objectClassWrong & kept RuleName.linkTaken & kept RuleName.linkAlone & kept RuleName.linkSyntax & tt)
+        & kept RuleName.syntaxMisfit & kept RuleName.objectClassWrong & kept RuleName.linkTaken & kept RuleName.linkAlone & kept RuleName.linkSyntaxUnfit & tt)
 
 -- ---- "The smallest number whose condition holds", the first in the order of judging, in words
 
@@ -413,7 +413,7 @@ all-named added =
     & (RuleName.notASuperior, refl) & (RuleName.rootNotAbstract, refl) & (RuleName.abstractUnderOther, refl)
     & (RuleName.auxiliaryUnderStructural, refl) & (RuleName.structuralUnderAuxiliary, refl) & (RuleName.namingUnfit, refl)
     & (RuleName.mapiTaken, refl) & (RuleName.rangeCrossed, refl) & (RuleName.syntaxMisfit, refl) & (RuleName.objectClassWrong, refl)
-    & (RuleName.linkTaken, refl) & (RuleName.linkAlone, refl) & (RuleName.linkSyntax, refl) & tt
+    & (RuleName.linkTaken, refl) & (RuleName.linkAlone, refl) & (RuleName.linkSyntaxUnfit, refl) & tt
 
 case-named : {n : ℕ} (test : Rule → Bool) (rs : List Rule) → Each (λ r. (rule : RuleName) × (ruleNumber rule ≡ r .number)) rs
     → Among n (casesOf test rs) → (rule : RuleName) × (ruleNumber rule ≡ n)
@@ -433,16 +433,10 @@ module _ (added : Added) (m : Schema) where
   unmet-among rule n =
       picked-case (broken m) (ruleNumber rule) (schemaRules added) (none-broken m (ruleNumber rule)) (says-unmet added m rule .passes n)
 
-  -- so the judge's number is that of a rule that is not met, and no rule that comes before it in the order of judging is
-  pub judged-told : ¬ (judged added m .number ≡ 0) → (rule : RuleName) × (ruleNumber rule ≡ judged added m .number) × ¬ (Met added rule m)
+  -- so no rule that comes before the judge's number in the order of judging is unmet
+  pub judged-before : (rule : RuleName) → ¬ (Met added rule m) → rank (judged added m .number) ≤ rank (ruleNumber rule)
   unfolding judged
-  judged-told d =
-      let e = judge-number (schemaRules added) m in
-      rw e (among-unmet (first-among (other-first (brokenCases (schemaRules added) m) (λ z. d (e ∙ z)))))
-
-  pub judged-smallest : (rule : RuleName) → ¬ (Met added rule m) → rank (judged added m .number) ≤ rank (ruleNumber rule)
-  unfolding judged
-  judged-smallest rule n =
+  judged-before rule n =
       omega (
         arith,
         ap rank (judge-number (schemaRules added) m),
@@ -473,4 +467,4 @@ meets-nothing added m h RuleName.syntaxMisfit = h RuleName.syntaxMisfit
 meets-nothing added m h RuleName.objectClassWrong = h RuleName.objectClassWrong
 meets-nothing added m h RuleName.linkTaken = h RuleName.linkTaken
 meets-nothing added m h RuleName.linkAlone = h RuleName.linkAlone
-meets-nothing added m h RuleName.linkSyntax = h RuleName.linkSyntax
+meets-nothing added m h RuleName.linkSyntaxUnfit = h RuleName.linkSyntaxUnfit

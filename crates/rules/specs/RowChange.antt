@@ -22,7 +22,7 @@ pub record Unneeded (m : Schema) (t : TableId) (k : ℕ) : Type 0 where
   pub links : t ≡ Attributes → (j : ℕ) → j < m .attributes .count → isDefunct (m .attributes .row j) ≡ false → isBackLink (m .attributes .row j) ≡ true
       → isForwardOf (m .attributes .row j) (m .attributes .row k) ≡ false
 
--- what no change gives another value
+-- of what no change gives another value, that which rules look at in other rows
 abbrev pub Fixed : TableId → List ℕ → List ℕ → Type 0
 Fixed Attributes old new = (syntaxOf new ≡ syntaxOf old) × (isSingleValued new ≡ isSingleValued old) × (linkOf new ≡ linkOf old)
 Fixed Classes old new = categoryOf new ≡ categoryOf old

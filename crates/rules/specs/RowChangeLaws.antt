@@ -261,7 +261,7 @@ module _ (k : ℕ) (m n : Schema) where
           & alone refusal.objectClassWrong (attribute-rows-stay t h objectClassWrong (was refusal.objectClassWrong Attributes))
           & taken-here everyRow Link (h .changed) (was refusal.linkTaken)
           & alone refusal.linkAlone (forward-kept t h)
-          & alone refusal.linkSyntax (attribute-rows-stay t h linkSyntaxWrong (was refusal.linkSyntax Attributes))
+          & alone refusal.linkSyntaxUnfit (attribute-rows-stay t h linkSyntaxWrong (was refusal.linkSyntaxUnfit Attributes))
           & tt
 
 -- so the number that the judge of all rows finds is that of the first rule that the changed row breaks

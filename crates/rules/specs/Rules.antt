@@ -94,7 +94,7 @@ schemaRules added =
     ∷ rule refusal.objectClassWrong (ofAttributes (λ a k. objectClassWrong (a .row k)))
     ∷ rule refusal.linkTaken (taken everyRow Link)
     ∷ rule refusal.linkAlone (ofAttributes (λ a k. forwardMissing a (a .row k)))
-    ∷ rule refusal.linkSyntax (ofAttributes (λ a k. linkSyntaxWrong (a .row k)))
+    ∷ rule refusal.linkSyntaxUnfit (ofAttributes (λ a k. linkSyntaxWrong (a .row k)))
     ∷ []
 
 -- ---- by number

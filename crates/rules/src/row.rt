@@ -31,7 +31,7 @@ use schema::refusal::GUID_TAKEN;
 use schema::refusal::IDENTIFIER_INVALID;
 use schema::refusal::IDENTIFIER_TAKEN;
 use schema::refusal::LINK_ALONE;
-use schema::refusal::LINK_SYNTAX;
+use schema::refusal::LINK_SYNTAX_UNFIT;
 use schema::refusal::LINK_TAKEN;
 use schema::refusal::MAPI_TAKEN;
 use schema::refusal::NAME_INVALID;
@@ -97,7 +97,7 @@ pub const ORDER: [u8; 21] = [
     OBJECT_CLASS_WRONG,
     LINK_TAKEN,
     LINK_ALONE,
-    LINK_SYNTAX,
+    LINK_SYNTAX_UNFIT,
 ];
 
 // Whether class c was added and a list of it holds its own number.
@@ -191,7 +191,7 @@ fn attribute_breaks(
         SYNTAX_MISFIT => syntax_wrong(row),
         OBJECT_CLASS_WRONG => object_class_wrong(row),
         LINK_ALONE => forward_missing(attributes, row),
-        LINK_SYNTAX => link_syntax_wrong(row),
+        LINK_SYNTAX_UNFIT => link_syntax_wrong(row),
         _ => false,
     }
 }

@@ -74,7 +74,7 @@ inheritanceNumber AbstractUnderOther = refusal.abstractUnderOther
 inheritanceNumber AuxiliaryUnderStructural = refusal.auxiliaryUnderStructural
 inheritanceNumber StructuralUnderAuxiliary = refusal.structuralUnderAuxiliary
 
--- class k gets a number
+-- "The small check answers which, and all who call it pass that on": class k gets this number
 unfoldable pub inheritanceWrong : ℕ → Table → ℕ → Bool
 inheritanceWrong number c k = eqb (inheritanceNumber (inheritanceOf c k)) number
 

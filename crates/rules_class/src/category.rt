@@ -164,7 +164,7 @@ pub fn root_inheritance(own: u8) -> Inheritance
     Inheritance::RootNotAbstract
 }
 
-// The rule that a class breaks. Nothing else looks at the categories of a class and its superclass: all who ask pass this on.
+// The rule that a class breaks. No other function judges a category under the superclass's: all who ask pass this on.
 pub fn inheritance_of(classes: &[u8], c: ClassNumber) -> Inheritance
     requires { ⌜ TableShaped Classes (now classes) × (c .0 < tableIn Classes (now classes) .count) ⌝ }
     ensures { λ r. ⌜ r ≡ inheritanceOf (tableIn Classes (now (classes .entry))) (c .0) ⌝ }
@@ -196,7 +196,7 @@ pub fn inheritance_number(found: Inheritance) -> u8
     }
 }
 
-// Whether a class breaks the rule of a number.
+// Whether the small check's answer for a class has a number: 21, 38, 39 or 40.
 pub fn inheritance_wrong(number: u8, classes: &[u8], c: ClassNumber) -> bool
     requires { ⌜ TableShaped Classes (now classes) × (c .0 < tableIn Classes (now classes) .count) ⌝ }
     ensures { λ r. ⌜ r ≡ inheritanceWrong number (tableIn Classes (now (classes .entry))) (c .0) ⌝ }

@@ -14,7 +14,7 @@ order =
     refusal.identifierInvalid ∷ refusal.identifierTaken ∷ refusal.guidTaken ∷ refusal.attributeNotLive ∷ refusal.classNotLive ∷ refusal.notAnAuxiliary ∷
     refusal.notASuperior ∷ refusal.rootNotAbstract ∷ refusal.abstractUnderOther ∷ refusal.auxiliaryUnderStructural ∷ refusal.structuralUnderAuxiliary ∷
     refusal.namingUnfit ∷ refusal.mapiTaken ∷ refusal.rangeCrossed ∷ refusal.syntaxMisfit ∷ refusal.objectClassWrong ∷
-    refusal.linkTaken ∷ refusal.linkAlone ∷ refusal.linkSyntax ∷ refusal.mandatoryDiffers ∷ refusal.shortOutput ∷ []
+    refusal.linkTaken ∷ refusal.linkAlone ∷ refusal.linkSyntaxUnfit ∷ refusal.mandatoryDiffers ∷ refusal.shortOutput ∷ []
 
 -- how many numbers of a list stand before n, all of them where n is none of them
 unfoldable pub position : List ℕ → ℕ → ℕ

@@ -139,5 +139,5 @@ abbrev pub structuralUnderAuxiliary : ℕ
 structuralUnderAuxiliary = 40
 
 -- "45, a schema rule after 29": "a present even linkID needs 2.5.5.1, 2.5.5.7 or 2.5.5.14, an odd one 2.5.5.1"
-abbrev pub linkSyntax : ℕ
-linkSyntax = 45
+abbrev pub linkSyntaxUnfit : ℕ
+linkSyntaxUnfit = 45

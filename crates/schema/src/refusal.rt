@@ -76,4 +76,4 @@ pub const AUXILIARY_UNDER_STRUCTURAL: u8 = 39;
 
 pub const STRUCTURAL_UNDER_AUXILIARY: u8 = 40;
 
-pub const LINK_SYNTAX: u8 = 45;
+pub const LINK_SYNTAX_UNFIT: u8 = 45;

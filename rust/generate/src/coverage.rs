@@ -2,6 +2,8 @@
 
 use crate::stores::PAST;
 use crate::{Random, Stores, changes, sheets, stores};
+use reference::NUMBERS;
+use reference::rules::RULES;
 use std::collections::BTreeMap;
 use std::fmt;
 
@@ -89,7 +91,7 @@ impl Coverage {
 
 /// Whether the papers let a call give a number.
 pub fn may_give(call: &str, number: u64) -> bool {
-    let rules = matches!(number, 12..=21 | 38..=40 | 23..=29 | 45);
+    let rules = RULES.contains(&number);
     match call {
         "load" => rules || matches!(number, 0 | 1 | 4 | 6),
         "write" => matches!(number, 0..=2 | 31),
@@ -107,8 +109,7 @@ impl fmt::Display for Coverage {
         for call in self.calls() {
             write!(out, " {call:>7}")?;
         }
-        let numbers = (0..=21).chain(23..=31).chain(38..=40);
-        for number in numbers.chain([45]) {
+        for number in NUMBERS {
             write!(out, "\n{number:2}")?;
             for call in self.calls() {
                 match (self.count(call, number), may_give(call, number)) {

@@ -3,7 +3,8 @@
 /// A one-line edit of the reference, and what it goes against.
 #[derive(Clone, Debug, PartialEq, Eq)]
 pub struct Edit {
-    /// A sentence of document 01, or the part of it that the edit goes against.
+    /// A sentence of document 01 or 02, or the part of it that the edit goes
+    /// against.
     pub sentence: String,
     /// The file, from rust/reference/src.
     pub file: String,

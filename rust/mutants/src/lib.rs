@@ -1,6 +1,6 @@
 //! How good the gate's scripts are: the list has edits that make the reference
-//! wrong, each against a sentence of document 01; each is made in a copy, and
-//! what the gate plays must see it.
+//! wrong, each against a sentence of document 01 or 02; each is made in a copy,
+//! and what the gate plays must see it.
 
 mod edit;
 mod scratch;

@@ -2,11 +2,18 @@
 
 use crate::schema::Row;
 
+/// Every number that some call gives, rising. 22 "is not used again" (document
+/// 02, wish 7); which of them are rules, and the order of judging, is in `rules`.
+pub const NUMBERS: [u64; 35] = [
+    0, 1, 2, 3, 4, 5, 6, 7, 8, 9, 10, 11, 12, 13, 14, 15, 16, 17, 18, 19, 20, 21, 23, 24, 25, 26,
+    27, 28, 29, 30, 31, 38, 39, 40, 45,
+];
+
 /// "Every answer has a number, a table (0 none, 1 attribute, 2 class) and a
 /// place; what is not named below is 0."
 #[derive(Clone, Copy, Debug, PartialEq, Eq)]
 pub struct Answer {
-    /// The smallest number whose condition holds.
+    /// The first number, in the order of judging, whose condition holds.
     pub number: u64,
     /// 0 none, 1 attribute, 2 class.
     pub table: u64,

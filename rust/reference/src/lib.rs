@@ -18,6 +18,6 @@ pub mod schema;
 pub mod syntax;
 pub mod writing;
 
-pub use answer::Answer;
+pub use answer::{Answer, NUMBERS};
 pub use calls::{audit, depth, load, plain_change, quick_change, write};
 pub use listing::{LISTED_LIMIT, listing};

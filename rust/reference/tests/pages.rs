@@ -146,8 +146,7 @@ fn every_number_has_its_section_under_its_name() {
         .collect();
     assert_eq!(headings, expected);
     let numbers = named.iter().map(|(number, _)| *number);
-    let expected = (0..=21).chain(23..=31).chain(38..=40);
-    assert!(numbers.eq(expected.chain([45])));
+    assert!(numbers.eq(reference::NUMBERS));
     let parts = [
         "Do",
         "Calls",

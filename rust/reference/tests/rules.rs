@@ -3,6 +3,8 @@
 mod common;
 
 use common::{Lent, Row, Triple, sheet, top};
+use reference::NUMBERS;
+use reference::rules::RULES;
 
 fn load(rows: &[Row]) -> Triple {
     Lent::filled(0).load(&sheet(rows))
@@ -21,6 +23,16 @@ fn link(row: Row, link: u32) -> Row {
 
 fn defunct(row: Row) -> Row {
     row.with(0x05, &[])
+}
+
+/// Every number is a rule or one of those before and behind the rules, and each
+/// stands once.
+#[test]
+fn the_numbers_are_those_of_the_rules_and_the_rest() {
+    let others = (0..=11).chain([30, 31]);
+    let mut numbers: Vec<u64> = others.chain(RULES).collect();
+    numbers.sort_unstable();
+    assert_eq!(numbers, NUMBERS);
 }
 
 #[test]

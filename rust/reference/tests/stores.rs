@@ -154,7 +154,7 @@ fn a_counted_row_of_zeros_is_in_shape() {
 }
 
 #[test]
-fn audit_tells_the_smallest_rule_and_then_the_lowest_row() {
+fn audit_tells_the_first_rule_and_then_the_lowest_row() {
     let mut lent = small();
     lent.attrs[in_attribute(0, 151)] = 11;
     assert_eq!(lent.audit(), (26, 1, 0));

@@ -1,6 +1,8 @@
 //! The scripts made by hand are current, and meet every number that each call
 //! can give.
 
+use generate::coverage::{CALLS, may_give};
+use reference::NUMBERS;
 use replay::examples::{NAMES, SHEETS, listed, script};
 use replay::{Player, SMALL, Step, steps};
 use std::collections::BTreeSet;
@@ -93,14 +95,8 @@ fn met(call: &str) -> BTreeSet<u64> {
 /// 22 "is not used again" (document 02, wish 7).
 #[test]
 fn every_number_that_a_call_can_give_is_met() {
-    let rules = || (12..=21).chain(23..=29).chain(38..=40).chain([45]);
-    let load = [0, 1, 4, 6].into_iter().chain(rules());
-    assert_eq!(met("load"), load.collect());
-    let plain = (0..=11).chain(rules()).chain([30]);
-    assert_eq!(met("plain"), plain.collect());
-    assert_eq!(met("audit"), (0..=3).chain(rules()).collect());
-    let quick = (0..=11).filter(|n| *n != 3).chain(rules()).chain([30]);
-    assert_eq!(met("quick"), quick.collect());
-    assert_eq!(met("write"), [0, 1, 2, 31].into());
-    assert_eq!(met("depth"), [0, 1, 2, 5, 18].into());
+    for call in CALLS {
+        let expected = NUMBERS.into_iter().filter(|number| may_give(call, *number));
+        assert_eq!(met(call), expected.collect(), "{call}");
+    }
 }

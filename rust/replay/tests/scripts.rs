@@ -160,6 +160,8 @@ fn the_stored_script_meets_most_numbers() {
     assert!(lines.lines().count() > 200);
     for name in ["plain", "quick"] {
         let met = numbers(&lines, name);
-        assert!(met.contains("0") && met.len() > 25);
+        assert!(met.contains("0") && met.contains("45") && met.len() > 25);
+        let inheritance = ["38", "39", "40"];
+        assert!(inheritance.iter().any(|number| met.contains(number)));
     }
 }

@@ -82,7 +82,10 @@ mod tests {
         let words = "open possible superiors: 2 for each entry";
         assert_eq!(superiors.as_deref(), Some(words));
         let value = |row, tag| row_field(row, tag).map(|field| field.value);
-        assert_eq!(value(0x20, 0x0C).as_deref(), Some("not zero"));
+        assert_eq!(value(0x20, 0x0D).as_deref(), Some("not zero"));
+        let words =
+            "two's complement; not below rangeLower (rule 25), equal ends are a fixed length";
+        assert_eq!(value(0x20, 0x0B).as_deref(), Some(words));
         let words = "class numbers below 128, each greater than the one before";
         assert_eq!(value(0x30, 0x19).as_deref(), Some(words));
         let tags: Vec<u8> = needed(0x30).iter().map(|field| field.tag).collect();

@@ -29,6 +29,17 @@ pub fn section_of(number: u64) -> Option<Section> {
     sections().find(|section| section.number == number)
 }
 
+/// What the page says of a number that is not used any more, and what it was:
+/// the paragraph before the sections that begins so.
+pub fn retired(number: u64) -> Option<String> {
+    let (opening, _) = PAGE.split_once("\n## ")?;
+    let begins = format!("{number} is not used ");
+    let mut paragraphs = opening.split("\n\n");
+    paragraphs
+        .find(|paragraph| paragraph.starts_with(&begins))
+        .map(unwrapped)
+}
+
 /// All numbers in words: 0 to 21, 23 to 31, 38 to 40 and 45.
 pub fn known() -> String {
     let mut runs: Vec<(u64, u64)> = Vec::new();
@@ -95,19 +106,27 @@ pub fn wrapped(text: &str, indent: &str, width: usize) -> String {
 
 #[cfg(test)]
 mod tests {
-    use super::{named, section_of, sections, wrapped};
+    use super::{named, retired, section_of, sections, wrapped};
 
     #[test]
     fn every_number_is_there_with_its_words() {
         let numbers = sections().map(|section| section.number);
-        let expected = (0..=21).chain(23..=31).chain(38..=40);
-        assert!(numbers.eq(expected.chain([45])));
+        assert!(numbers.eq(reference::NUMBERS));
         assert!(
             sections().all(|section| !section.meaning.is_empty() && !section.advice.is_empty())
         );
         assert_eq!(named(13), "13, name taken");
         let advice = section_of(12).map(|section| section.advice);
         assert_eq!(advice.as_deref(), Some("choose another name."));
+    }
+
+    #[test]
+    fn a_number_is_in_use_or_retired_or_neither() {
+        let words =
+            "22 is not used (it was: a chain of superclasses that does not come to class 0), ";
+        assert!(retired(22).is_some_and(|told| told.starts_with(words)));
+        let others = (0..100).filter(|number| *number != 22);
+        assert!(others.into_iter().all(|number| retired(number).is_none()));
     }
 
     #[test]

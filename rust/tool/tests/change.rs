@@ -217,8 +217,29 @@ const REFUSALS: &[(&str, &str)] = &[
         "25, range crossed: attribute 27 `standAge`: its range is 6 to 5",
     ),
     (
+        "add class site 2.999; guid 00000000000000000000000000000003; abstract; under parcel",
+        "38, abstract under other: class 25 `site`: it is abstract, and its superclass, class 17 `parcel`, is structural",
+    ),
+    (
+        "add class site 2.999; guid 00000000000000000000000000000003; abstract; under person",
+        "38, abstract under other: class 25 `site`: it is abstract, and its superclass, class 1 `person`, is an 88 class",
+    ),
+    (
+        "add class site 2.999; guid 00000000000000000000000000000003; auxiliary; under parcel",
+        "39, auxiliary under structural: class 25 `site`: it is auxiliary, and its superclass, class 17 `parcel`, is structural",
+    ),
+    (
+        "add class site 2.999; guid 00000000000000000000000000000003; structural; under habitat",
+        "40, structural under auxiliary: class 25 `site`: it is structural, and its superclass, class 11 `habitat`, is auxiliary",
+    ),
+    (
         "reactivate attribute formerlyOwned",
         "29, link alone: attribute 56 `formerlyOwned`: linkID 32007, and 32006 is held by attribute 55 `formerOwner`, which is defunct",
+    ),
+    (
+        "add attribute site 2.999; guid 00000000000000000000000000000003; syntax 9 2; link 32020",
+        "45, link syntax unfit: attribute 57 `site`: linkID 32020 with attributeSyntax 2.5.5.9, \
+             and an even one needs 2.5.5.1, 2.5.5.7 or 2.5.5.14",
     ),
     (
         "add auxiliary samplePlot measuredArea",
@@ -229,7 +250,9 @@ const REFUSALS: &[(&str, &str)] = &[
 #[test]
 fn refusals_name_the_rows_that_they_speak_of() {
     for (change, words) in REFUSALS {
-        assert_eq!(said(change), format!("refused {words} ({change})"));
+        // Of an addition the first line is told.
+        let told = change.split(';').next().unwrap();
+        assert_eq!(said(change), format!("refused {words} ({told})"));
     }
     let change = format!("rename attribute soilType {}", "a".repeat(65));
     let words = "4, unreadable: a name of 65 bytes, and 64 is the most";

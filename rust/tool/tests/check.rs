@@ -130,11 +130,11 @@ fn rules_of_attributes_are_told_with_what_breaks_them() {
         "29, link alone: attribute 1 `age`: linkID 5, and no attribute has 4"
     );
     let text = attribute("age", "syntax 9 2;link 4");
-    let words = "45, link syntax: attribute 1 `age`: linkID 4 with attributeSyntax 2.5.5.9, and an even one needs 2.5.5.1, 2.5.5.7 or 2.5.5.14";
+    let words = "45, link syntax unfit: attribute 1 `age`: linkID 4 with attributeSyntax 2.5.5.9, and an even one needs 2.5.5.1, 2.5.5.7 or 2.5.5.14";
     assert_eq!(told(&text), words);
     let back = attribute("age", "syntax 7 127;link 5");
     let text = back.replacen("syntax 12 64\n single", "syntax 1 127\n link 4", 1);
-    let words = "45, link syntax: attribute 1 `age`: linkID 5 with attributeSyntax 2.5.5.7, and an odd one needs 2.5.5.1";
+    let words = "45, link syntax unfit: attribute 1 `age`: linkID 5 with attributeSyntax 2.5.5.7, and an odd one needs 2.5.5.1";
     assert_eq!(told(&text), words);
 }
 
@@ -167,18 +167,24 @@ fn rules_of_classes_are_told_with_what_breaks_them() {
     let text = class("structural;under top;system-in top");
     let words = "20, not a superior: class 1 `stand`: its fixed possible superiors hold class 0 `top`, which is abstract";
     assert_eq!(told(&text), words);
-    let text = class("structural;under top").replacen("abstract", "auxiliary", 1);
-    let words =
-        "21, root not abstract: class 0 `top`: it is auxiliary, and class 0 must be abstract";
-    assert_eq!(told(&text), words);
+    for (own, kind) in [("auxiliary", "auxiliary"), ("88", "an 88 class")] {
+        let text = class("structural;under top").replacen("abstract", own, 1);
+        let detail = format!("it is {kind}, and class 0 must be abstract");
+        assert_eq!(
+            told(&text),
+            format!("21, root not abstract: class 0 `top`: {detail}")
+        );
+    }
     for (own, above, words) in [
         ("abstract", "structural", "38, abstract under other"),
         ("abstract", "auxiliary", "38, abstract under other"),
+        ("abstract", "88", "38, abstract under other"),
         ("auxiliary", "structural", "39, auxiliary under structural"),
         ("structural", "auxiliary", "40, structural under auxiliary"),
     ] {
         let text = class(&format!("{above};under top")) + &site(&format!("{own};under stand"));
-        let detail = format!("it is {own}, and its superclass, class 1 `stand`, is {above}");
+        let kind = if above == "88" { "an 88 class" } else { above };
+        let detail = format!("it is {own}, and its superclass, class 1 `stand`, is {kind}");
         assert_eq!(told(&text), format!("{words}: class 2 `site`: {detail}"));
     }
     let text = class("structural;under top;naming cn").replacen(" single\n", "", 1);
@@ -226,7 +232,8 @@ fn an_unreadable_value_is_told_with_what_it_may_be() {
             "{line}"
         );
     };
-    let words = "in attribute 1 `age`: field 0C, linkID (4 bytes); its length may be: 4; its value: not zero";
+    let words = "in attribute 1 `age`: field 0C, linkID (4 bytes); its length may be: 4; its value: not zero; \
+                 even: a forward link, of attributeSyntax 1, 7 or 14; odd: a back link, of 1 (rules 29 and 45)";
     ends(&attribute("age", "syntax 9 2;link 0"), words);
     let ldif = "dn: CN=top\nlDAPDisplayName: top\ngovernsID: 2.5.6.0\nschemaIDGUID:: t3qWv+YN0BGihQCqADBJ4g==
 subClassOf: top\nobjectClassCategory: 7\n";

@@ -116,10 +116,26 @@ fn a_number_is_explained_from_the_page() {
 ";
     assert_eq!(done(&["explain", "25"]), expected);
     assert_eq!(done(&["explain"]).lines().count(), 35);
-    for word in ["22", "32", "37", "41", "46", "x"] {
+    for word in ["32", "37", "41", "46", "x"] {
         assert_eq!(
             refused(2, &["explain", word]),
             format!("{word}: no such number; there are 0 to 21, 23 to 31, 38 to 40 and 45\n")
         );
     }
+}
+
+/// 22 is answered, with exit code 0, though no call gives it and no list has it.
+#[test]
+fn a_number_that_is_not_used_any_more_is_told_with_what_it_was() {
+    let expected = "22, not used any more
+  22 is not used (it was: a chain of superclasses that does not come to class
+  0), and will not be used again (document 02, request 7). A superclass comes
+  before its class (18), so every chain of stores in order ends at class 0, and
+  no call on them gave it. On stores that are not in order a quick change goes
+  on to the next number whose condition holds; depth tells such a chain by its
+  own 18.
+";
+    assert_eq!(done(&["explain", "22"]), expected);
+    let listed = done(&["explain"]);
+    assert!(!listed.lines().any(|line| line.starts_with("22")));
 }

@@ -1,7 +1,7 @@
 use mathlib.Core.Path.{_∙_}
 use native.Mathlib.Omega.{arith}
 use borrow.Author.Needs.{needs}
-use Rattle.reader.specs.ReaderLaws.{front-field, front-length}
+use Rattle.reader.proofs.Front.{front-field, front-length}
 use Rattle.reader.proofs.field_within.Statement.{statement}
 use Rattle.reader.proofs.field_within.Tie as tie
 

@@ -1,6 +1,6 @@
-//! Writes a script, or a sheet to be listed, made by hand from document 01 to
-//! standard output: `make-examples NAME`. Fails where the reference answers otherwise than the
-//! paper, and tells at which steps.
+//! Writes a script, or a sheet to be listed, made by hand from documents 01 and
+//! 02 to standard output: `make-examples NAME`. Fails where the reference answers
+//! otherwise than the papers, and tells at which steps.
 
 use std::io::{self, Write};
 use std::process::ExitCode;

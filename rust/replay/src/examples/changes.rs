@@ -363,7 +363,7 @@ fn demands(record: &mut Record) {
     record.pass(&base::all());
 }
 
-/// Where several hold, the smallest is given.
+/// Where several hold, the first in the order of judging is given.
 fn order_of_numbers(record: &mut Record) {
     let [absent, gone] = [&[0x20, 0x13], &[0x03, 0x02]].map(|n: &[u8; 2]| u16::from_be_bytes(*n));
     record.refused(&entry(0x49, absent, 0x15, gone), 5);

@@ -127,8 +127,8 @@ fn guids_taken(record: &mut Record) {
     record.pass(&[row(0, 7), row(1, 6), row(2, high | 7), row(3, 1 << 64 | 7)]);
 }
 
-/// The smallest number over all rows, then the lowest row that breaks it, an
-/// attribute before a class.
+/// The first number, in the order of judging, over all rows, then the lowest
+/// row that breaks it, an attribute before a class.
 fn first_found(record: &mut Record) {
     let row = Row::attribute;
     let (wrong, falling) = ("1", row(0).range(2, 1));

@@ -32,21 +32,10 @@ pub fn edge() -> Vec<u8> {
     sheet(&rows)
 }
 
-/// A sheet refused by a rule, whose table and row differ: class 3 breaks 40,
-/// attribute 2 has a wrong range, and 38, which class 5 breaks, goes before.
+/// A sheet refused by a rule, whose table and row differ.
 pub fn range() -> Vec<u8> {
-    let (attribute, class) = (Row::attribute, Row::class);
-    sheet(&[
-        attribute(0),
-        attribute(1),
-        attribute(2).range(6, 5),
-        class(0),
-        class(1),
-        class(2).category(3),
-        class(3).under(2),
-        class(4).under(1),
-        class(5).category(2).under(4),
-    ])
+    let attribute = Row::attribute;
+    sheet(&[attribute(0), attribute(1), attribute(2).range(6, 5)])
 }
 
 /// A sheet that cannot be read at its end: nothing but a heading and a tag.

@@ -1,8 +1,8 @@
-//! Scripts made by hand from document 01, not at random: for every number that
-//! a call can give the smallest schema or change that gives it, with active and
-//! defunct rows and rivals, and the nearest one that passes; every limit at its
-//! edge and past it. Each step has the answer that the paper gives, and a script
-//! is made only if the reference gives the same.
+//! Scripts made by hand from documents 01 and 02, not at random: for every number
+//! that a call can give the smallest schema or change that gives it, with active
+//! and defunct rows and rivals, and the nearest one that passes; every limit at
+//! its edge and past it. Each step has the answer that the papers give, and a
+//! script is made only if the reference gives the same.
 
 mod base;
 mod changes;
@@ -38,7 +38,7 @@ pub const SHEETS: [(&str, &str); 4] = [
         "no name oid must may\n0 c0 2.48.0 2 2\n1 c1 2.4294967295.0 2 4\n",
     ),
     ("none", "no name oid must may\n"),
-    ("range", "refused 38 2 5\n"),
+    ("range", "refused 25 1 2\n"),
     ("unreadable", "refused 4 0 4\n"),
 ];
 
@@ -54,7 +54,7 @@ pub fn listed(name: &str) -> Option<Vec<u8>> {
 }
 
 /// A script's bytes; or none of this name, or what the reference answers
-/// otherwise than the paper.
+/// otherwise than the papers.
 pub fn script(name: &str) -> Result<Vec<u8>, String> {
     let mut record = Record::default();
     match name {

@@ -1,4 +1,4 @@
-//! Rules 17 to 23 and 38 to 40: the rows that a class names.
+//! Rules 17 to 21, 23 and 38 to 40: the rows that a class names.
 
 use super::record::Record;
 use super::rows::Row;
@@ -216,6 +216,10 @@ fn rule_before_row(record: &mut Record) {
     let mut rows = misfits(&[ABSTRACT, AUXILIARY]);
     rows[0] = rows[0].clone().category(1);
     record.rows(&rows, (21, 2, 0));
+    // Neither the attributes' table nor a lower class goes before the rule.
+    let attributes = [Row::attribute(0), Row::attribute(1).range(6, 5)];
+    let classes = misfits(&[STRUCTURAL, (1, 1), (2, 4)]);
+    record.rows(&[&attributes[..], &classes].concat(), (38, 2, 5));
 }
 
 /// 38 to 40 stand "at 21's place in the order .. though their numbers are
@@ -228,13 +232,27 @@ fn before_smaller_numbers(record: &mut Record) {
         record.rows(&beside(four.clone().under(4)), (18, 2, 4));
         record.rows(&beside(four.clone().set(0x16, &[1])), (19, 2, 4));
         record.rows(&beside(four.clone().set(0x19, &[2])), (20, 2, 4));
-        let attributes = [
-            Row::attribute(0).range(2, 1).syntax(9, 65),
-            Row::attribute(1).link(7),
-        ];
-        let all = [&attributes[..], &beside(four.naming(0))].concat();
+        let all = [attributes_wrong(), beside(four.naming(0))].concat();
         record.rows(&all, (number, 2, 3));
     }
+    record.rows(&attributes_wrong(), (24, 1, 0));
+}
+
+/// Attributes that break 24 to 29, and a linked integer of its own, which breaks
+/// 45 alone.
+fn attributes_wrong() -> Vec<Row> {
+    let row = Row::attribute;
+    vec![
+        row(0).mapi(3),
+        row(1).mapi(3),
+        row(2).range(2, 1),
+        row(3).syntax(9, 65),
+        row(4).syntax(1, 127).with(0x08, &[1]),
+        row(5).linked(2),
+        row(6).linked(2),
+        row(7).linked(7),
+        row(8).syntax(9, 2).link(4),
+    ]
 }
 
 /// "23 The naming attribute isn't 2.5.5.12 and single-valued."

@@ -264,10 +264,11 @@ fn misfits(record: &mut Record) {
 }
 
 /// A linked row of a syntax that holds no names is refused whatever is asked of
-/// it (45); the rows linked with it are not.
+/// it (45); the rows linked with it, and classes, are not.
 fn linked(record: &mut Record) {
     let row = |number| Row::attribute(number);
-    record.pass(&[row(0).linked(2), row(1).linked(3), row(2), row(3).defunct()]);
+    let attributes = [row(0).linked(2), row(1).linked(3), row(2), row(3).defunct()];
+    record.pass(&[&attributes[..], &[Row::class(0)]].concat());
     let (syntax, link) = (2 + 151, 2 + 184);
     record.poke(0, 2 * 189 + link, 4);
     record.poke(0, 3 * 189 + link, 6);
@@ -277,6 +278,7 @@ fn linked(record: &mut Record) {
     number(record, &alter(0x45, 2, &[]), 45);
     number(record, &alter(0x47, 3, &[]), 45);
     record.quick(&rename(0x43, 0, b"x"), (0, 1, 0));
+    record.quick(&rename(0x44, 0, b"t"), (0, 2, 0));
     // Row 1 is the back link of row 2, which breaks 45; then of none.
     record.poke(0, 189 + link, 5);
     record.quick(&rename(0x43, 1, b"y"), (0, 1, 1));

@@ -1,4 +1,5 @@
-//! A script as it is made, each step with the answer that document 01 gives.
+//! A script as it is made, each step with the answer that documents 01 and 02
+//! give.
 
 use super::rows::{Row, sheet};
 use crate::player::Player;

@@ -29,6 +29,7 @@ pub fn examples(record: &mut Record) {
     refused_load(record);
     kept_sets(record);
     rules_audited(record);
+    two_rules_audited(record);
     depths(record);
     depths_astray(record);
 }
@@ -302,6 +303,23 @@ fn rules_audited(record: &mut Record) {
     audited(0, attribute_byte(8, 184), 7, (29, 1, 8));
     audited(0, attribute_byte(8, 184), 8, (45, 1, 8));
     audited(0, attribute_byte(12, 184), 3, (28, 1, 5));
+}
+
+/// Two rows that break a rule each: the first rule in the order of judging is
+/// told, though a lower row breaks the other.
+fn two_rules_audited(record: &mut Record) {
+    record.pass(&base::all());
+    record.poke(1, class_byte(14, 151), 1);
+    record.audit((40, 2, 14));
+    record.poke(1, class_byte(17, 151), 2);
+    record.audit((38, 2, 17));
+    record.plain(&[], (3, 0, 0));
+    record.pass(&base::all());
+    record.poke(0, attribute_byte(8, 184), 8);
+    record.audit((45, 1, 8));
+    record.poke(0, attribute_byte(12, 184), 11);
+    record.audit((29, 1, 12));
+    record.plain(&[], (3, 0, 0));
 }
 
 /// "the place is the number of steps, 0 for row 0"; 5 for rows not there.

@@ -206,7 +206,7 @@ fn dropped_object_classes(record: &mut Record) {
     }
 }
 
-/// Of two odd linkIDs that are the same 28 tells, since it is smaller than 29.
+/// Of two odd linkIDs that are the same 28 tells, since it comes before 29.
 fn odd_links_taken(record: &mut Record) {
     let row = |number, link| Row::attribute(number).linked(link);
     record.both(&[row(0, 2), row(1, 3), row(2, 3)], 1, (28, 1, 1));

@@ -3,13 +3,14 @@
 use super::{Command, Io};
 use crate::arguments::{Arguments, text};
 use crate::failure::Failure;
-use crate::numbers::{Section, known, section_of, sections, wrapped};
+use crate::numbers::{Section, known, retired, section_of, sections, wrapped};
 
 pub const COMMAND: Command = Command {
     name: "explain",
     usage: "explain [NUMBER]",
     summary: "Says what a number means and what can be done about it",
-    help: "Without a number, all numbers are listed with their names.
+    help: "Without a number, all numbers are listed with their names. Of one that is not used
+any more it is told what it was.
 
 Example:
 
@@ -28,9 +29,13 @@ fn act(arguments: &Arguments, io: &mut Io) -> Result<(), Failure> {
     }
     let [word] = arguments.exactly(COMMAND.usage)?;
     let word = text(word)?;
-    let section = word.parse().ok().and_then(section_of);
+    let number = word.parse().ok();
+    if let Some(told) = number.and_then(retired) {
+        let told = wrapped(&told, "  ", 80);
+        return io.say(&format!("{word}, not used any more\n{told}"));
+    }
     let unknown = || Failure::unusable(format!("{word}: no such number; there are {}", known()));
-    let section = section.ok_or_else(unknown)?;
+    let section = number.and_then(section_of).ok_or_else(unknown)?;
     let meaning = wrapped(&section.meaning, "  ", 80);
     let advice = wrapped(&format!("Do: {}", section.advice), "  ", 80);
     let calls = wrapped(&format!("Given by: {}.", section.calls), "  ", 80);

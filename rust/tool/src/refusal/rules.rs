@@ -122,19 +122,24 @@ fn class(number: u64, schema: &Schema, at: usize, row: &Class) -> Option<String>
     }
 }
 
+/// A class's category as a sentence says it.
+fn kind(row: &Class) -> &'static str {
+    match row.category_word() {
+        "88 class" => "an 88 class",
+        word => word,
+    }
+}
+
 /// Class 0 of another category than abstract.
 fn root(row: &Class) -> String {
-    let own = row.category_word();
+    let own = kind(row);
     format!("it is {own}, and class 0 must be abstract")
 }
 
 /// A category that does not fit under the superclass's.
 fn category(schema: &Schema, row: &Class) -> Option<String> {
-    let own = row.category_word();
-    let above = schema
-        .classes
-        .get(usize::from(row.superclass))?
-        .category_word();
+    let own = kind(row);
+    let above = kind(schema.classes.get(usize::from(row.superclass))?);
     let told = schema.told(RowId::class(row.superclass));
     Some(format!(
         "it is {own}, and its superclass, {told}, is {above}"
@@ -191,11 +196,7 @@ fn misfits(schema: &Schema, class: &Class, lists: [List; 2], fit: &[u8]) -> Opti
         class.list(list).iter().filter_map(move |number| {
             let entry = schema.classes.get(usize::from(*number))?;
             let told = schema.told(RowId::class(*number));
-            let words = format!(
-                "its {} hold {told}, which is {}",
-                list.title(),
-                entry.category_word()
-            );
+            let words = format!("its {} hold {told}, which is {}", list.title(), kind(entry));
             (!fit.contains(&entry.category)).then_some(words)
         })
     });

@@ -80,7 +80,7 @@ returns-6 c =
     let start = c .before .before .before .before in
     sym
     (numbered-unlike (λ r. r .breaks (schemaIn (start .args .attributes .now) (start .args .classes .now)) Attributes (start .args .a .0)) (λ n. refl)
-    (refusal.linkSyntax ∷ refusal.linkAlone ∷ refusal.objectClassWrong ∷ refusal.syntaxMisfit ∷ refusal.rangeCrossed ∷ []) commonNumbers
+    (refusal.linkSyntaxUnfit ∷ refusal.linkAlone ∷ refusal.objectClassWrong ∷ refusal.syntaxMisfit ∷ refusal.rangeCrossed ∷ []) commonNumbers
     (schemaRules (start .args .added)) (start .args .number) (c .match .rest) (start .pre .2) (unfold strays among in refl))
 
 pub attribute-breaks-spec : {M : Type 1} → statement M
