@@ -6,19 +6,20 @@ use Prim.Native.Nat.{ℕ, _+_, _*_, _-_, _≤_, _<_}
 use native.Mathlib.Omega.{arith}
 use lib.ListN.{length, drop, take}
 use Rattle.prelude.specs.Concat.{concatBelow}
-use Rattle.prelude.specs.ConcatLaws.{concat-none, concat-more, concat-length}
+use Rattle.prelude.specs.ConcatLaws.{concat-none, concat-more, concat-length, concat-same}
 use Rattle.prelude.specs.LentLaws.{lent-back}
 use Rattle.prelude.specs.Part.{part, splice}
 use Rattle.prelude.specs.PartLaws.{row-fits, part-length}
 use Rattle.prelude.specs.SaysLaws.{says-lt, says-false, says-true}
 use Rattle.prelude.specs.SpliceLaws.{part-splice-after, splice-append, splice-length, splice-part}
-use Rattle.sets.specs.Sets.{member, union}
-use Rattle.sets.specs.SetsLaws.{union-length}
+use Rattle.sets.specs.Sets.{member}
 use Rattle.schema.specs.Layout.{attributeSet, closureLength, closureWidth, demandedAt, reachedAt, classSet}
 use Rattle.schema.specs.Numbers.{classLimit}
-use Rattle.schema.specs.Store.{closureAt}
+use Rattle.schema.specs.Store.{Table, closureAt}
+use Rattle.graph.specs.Graph.{closureRow, closureRows}
+use Rattle.graph.specs.FreshLaws.{bytes-fresh, says-fresh}
 use Rattle.closure_change.specs.KeptLaws.{kept-length, where-length}
-use Rattle.closure_change.specs.Kept.{holds, rowWhere, eachHolding}
+use Rattle.closure_change.specs.Kept.{holds, rowWhere, eachHolding, refreshedAt, takenFrom}
 
 -- ---- the test
 
@@ -75,10 +76,9 @@ abbrev pub Done : ℕ → ℕ → (ℕ → List ℕ → List ℕ) → List ℕ �
 Done n k f o c now = now ≡ splice 0 (concatBelow c (rowWhere n k f o)) o
 
 module _ (n k : ℕ) (f : ℕ → List ℕ → List ℕ) (o : List ℕ) (long : closureLength ≤ length o)
-    (wide : (c : ℕ) (row : List ℕ) → length row ≡ closureWidth → length (f c row) ≡ closureWidth) where
+    (wide : (c : ℕ) → c < classLimit → length (f c (closureAt o c)) ≡ closureWidth) where
   rows-long : (c : ℕ) → c ≤ classLimit → length (concatBelow c (rowWhere n k f o)) ≡ closureWidth * c
-  rows-long c l = concat-length (rowWhere n k f o) closureWidth c
-      (λ i h. where-length o long n k f (λ d m. wide d (closureAt o d) (kept-length o long d m)) i (omega arith))
+  rows-long c l = concat-length (rowWhere n k f o) closureWidth c (λ i h. where-length o long n k f wide i (omega arith))
 
   rows-fit : (c : ℕ) → c ≤ classLimit → 0 + length (concatBelow c (rowWhere n k f o)) ≤ length o
   rows-fit c l = omega (arith, rows-long c l)
@@ -115,6 +115,19 @@ module _ (n k : ℕ) (f : ℕ → List ℕ → List ℕ) (o : List ℕ) (long : 
   unfolding eachHolding
   done-end c now h g p = let e : c ≡ classLimit = omega arith in p ∙ ap (λ (i : ℕ). splice 0 (concatBelow i (rowWhere n k f o)) o) e
 
--- rows that are joined in, or worked out afresh
-pub union-wide : (more : List ℕ) (c : ℕ) (row : List ℕ) → length row ≡ closureWidth → length (union row more) ≡ closureWidth
-union-wide more c row e = union-length row more ∙ e
+-- ---- rows of a closure store that is afresh, taken over
+
+pub taken-fresh : (t : Table) (fresh o : List ℕ) → closureLength ≤ length o → fresh ≡ splice 0 (closureRows t) o → (n k : ℕ) (closure : List ℕ)
+    → takenFrom fresh n k closure ≡ refreshedAt t n k closure
+unfolding takenFrom refreshedAt eachHolding rowWhere
+taken-fresh t fresh o long e n k closure =
+    ap (λ (rows : List ℕ). splice 0 rows closure) (concat-same classLimit (taken (closureAt fresh)) (taken (closureRow t)) (λ c l. ap (given c) (row c l)))
+  where
+    given : ℕ → List ℕ → List ℕ
+    given c row = cond (holds n k c (closureAt closure c)) row (closureAt closure c)
+
+    taken : (ℕ → List ℕ) → ℕ → List ℕ
+    taken f c = given c (f c)
+
+    row : (c : ℕ) → c < classLimit → closureAt fresh c ≡ closureRow t c
+    row c l = ap (λ (s : List ℕ). closureAt s c) e ∙ says-fresh t (splice 0 (closureRows t) o) .holds (bytes-fresh t o long) c l

@@ -33,6 +33,10 @@ eachHolding n k f closure = splice 0 (concatBelow classLimit (rowWhere n k f clo
 unfoldable pub joinedInto : ℕ → ℕ → List ℕ → List ℕ → List ℕ
 joinedInto n k more closure = eachHolding n k (λ c row. union row more) closure
 
+-- sets taken from another closure store
+unfoldable pub takenFrom : List ℕ → ℕ → ℕ → List ℕ → List ℕ
+takenFrom fresh n k closure = eachHolding n k (λ c row. closureAt fresh c) closure
+
 -- sets worked out afresh
 unfoldable pub refreshedAt : Table → ℕ → ℕ → List ℕ → List ℕ
 refreshedAt t n k closure = eachHolding n k (λ c row. closureRow t c) closure

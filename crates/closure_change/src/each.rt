@@ -1,7 +1,9 @@
 // The classes whose kept reach holds a class: sets joined in for each, or worked out afresh.
-use graph::closure::refresh;
+use graph::closure::refresh_all;
 use prelude::part::part_of;
+use prelude::part::put_bytes;
 use schema::layout::CLASS_SET;
+use schema::layout::CLOSURE_LENGTH;
 use schema::layout::CLOSURE_WIDTH;
 use schema::layout::REACHED;
 use schema::number::ClassNumber;
@@ -16,8 +18,8 @@ ghost use Rattle.schema.specs.Numbers.{classLimit};
 ghost use Rattle.schema.specs.Layout.{closureWidth, closureLength};
 ghost use Rattle.schema.specs.Store.{closureAt, tableIn};
 ghost use Rattle.schema.specs.declared.number.TableId.the-variants.{Classes};
-ghost use Rattle.graph.specs.Graph.{Readable, closureRow};
-ghost use Rattle.closure_change.specs.Kept.{holds as held, rowWhere, joinedInto, refreshedAt};
+ghost use Rattle.graph.specs.Graph.{Readable};
+ghost use Rattle.closure_change.specs.Kept.{holds as held, rowWhere, joinedInto, takenFrom, refreshedAt};
 
 // Whether class c is one of n, and its kept reach holds class k.
 fn holds(closure: &[u8], n: usize, k: usize, c: usize) -> bool
@@ -65,26 +67,39 @@ pub fn join_all(closure: &mut [u8], n: usize, k: usize, more: &[u8])
     }
 }
 
-// The sets of c are worked out afresh, if it is such a class.
-fn refresh_where(classes: &[u8], n: usize, k: usize, c: usize, closure: &mut [u8])
-    requires { ⌜ Readable (now classes) × (closureLength ≤ length (now closure)) × (c < classLimit) ⌝ }
+// The sets of c become those that another closure store has for it, if it is such a class.
+fn take_where(fresh: &[u8], n: usize, k: usize, c: usize, closure: &mut [u8])
+    requires { ⌜ (closureLength ≤ length (now fresh)) × (closureLength ≤ length (now closure)) × (c < classLimit) ⌝ }
     ensures { λ _. ⌜ now (closure .exit)
-        ≡ splice (closureWidth * c) (rowWhere n k (λ i row. closureRow (tableIn Classes (now (classes .entry))) i) (now (closure .entry)) c)
-        (now (closure .entry)) ⌝ }
+        ≡ splice (closureWidth * c) (rowWhere n k (λ i row. closureAt (now (fresh .entry)) i) (now (closure .entry)) c) (now (closure .entry)) ⌝ }
 {
     if holds(closure, n, k, c) {
-        refresh(classes, ClassNumber(c), closure);
+        put_bytes(
+            closure_row(fresh, ClassNumber(c)),
+            closure,
+            closure_start(ClassNumber(c)),
+        );
     }
 }
 
-// The sets of every such class are worked out afresh.
+// The sets of every such class do.
+fn take_all(fresh: &[u8], n: usize, k: usize, closure: &mut [u8])
+    requires { ⌜ (closureLength ≤ length (now fresh)) × (closureLength ≤ length (now closure)) ⌝ }
+    ensures { λ _. ⌜ now (closure .exit) ≡ takenFrom (now (fresh .entry)) n k (now (closure .entry)) ⌝ }
+{
+    let mut c = 0;
+    while c < ClassNumber::LIMIT {
+        take_where(fresh, n, k, c, closure);
+        c += 1;
+    }
+}
+
+// The sets of every such class are worked out afresh: those of all classes are, at once, since most classes may be concerned.
 pub fn refresh_holding(classes: &[u8], n: usize, k: usize, closure: &mut [u8])
     requires { ⌜ Readable (now classes) × (closureLength ≤ length (now closure)) ⌝ }
     ensures { λ _. ⌜ now (closure .exit) ≡ refreshedAt (tableIn Classes (now (classes .entry))) n k (now (closure .entry)) ⌝ }
 {
-    let mut c = 0;
-    while c < ClassNumber::LIMIT {
-        refresh_where(classes, n, k, c, closure);
-        c += 1;
-    }
+    let mut fresh = [0u8; CLOSURE_LENGTH];
+    refresh_all(classes, &mut fresh);
+    take_all(&fresh, n, k, closure);
 }

@@ -1,24 +1,23 @@
 -- Unions over the rows of chosen classes: one row more, all rows, and that they give what a class demands and allows.
 use mathlib.Core.Bool.{Bool, true, false, _&&_, _||_}
 use mathlib.Core.List.{List}
-use mathlib.Core.Logic.{_⊎_, inl, inr, ⊎-elim}
-use mathlib.Core.Path.{_≡_, refl, sym, ap, ap₂, _∙_}
+use mathlib.Core.Path.{_≡_, refl, sym, ap, _∙_}
 use Prim.Native.Nat.{ℕ, _+_, _*_, _≤_, _<_}
 use native.Mathlib.Numerals.{add-one}
 use native.Mathlib.Omega.{arith}
 use lib.ListN.{length, getD}
-use Rattle.prelude.specs.SaysLaws.{says, says-or, says-iff, says-same, says-false}
-use Rattle.prelude.specs.Below.{anyBelow, Some}
-use Rattle.prelude.specs.BelowLaws.{says-any, any-cong}
+use Rattle.prelude.specs.SaysLaws.{says-false}
+use Rattle.prelude.specs.Below.{anyBelow}
+use Rattle.prelude.specs.BelowLaws.{any-cong}
 use Rattle.prelude.specs.Part.{part, zeros}
 use Rattle.sets.specs.Sets.{flag, member, setOf, union}
 use Rattle.sets.specs.SetsLaws.{bit-flag, bit-zeros, says-member, is-set, set-cong, member-within}
 use Rattle.schema.specs.Numbers.{classLimit}
-use Rattle.schema.specs.Layout.{classSet, attributeSet, mandatoryAt, fixedOptionalAt, openOptionalAt}
+use Rattle.schema.specs.Layout.{classSet, attributeSet, mandatoryAt}
 use Rattle.schema.specs.Store.{Table}
 use Rattle.tables.specs.Named.{lists}
-use Rattle.graph.specs.Graph.{collectsBy, listsMandatory, listsOptional, reaches, demands, allows, demandedSet}
-use Rattle.graph.specs.Collect.{chosenLists, collected, collectedOptional, plus}
+use Rattle.graph.specs.Graph.{collectsBy, listsMandatory, reaches, demands, demandedSet}
+use Rattle.graph.specs.Collect.{chosenLists, collected, plus}
 
 or-assoc : (a b c : Bool) → (a || b) || c ≡ a || (b || c)
 or-assoc true b c = refl
@@ -87,36 +86,7 @@ module _ (t : Table) (chosen : ℕ → Bool) (at : ℕ) where
   from-empty o out z q = q ∙ set-cong attributeSet (λ b. member o b || collected t chosen at b) (collected t chosen at)
       (λ b l. rw (z, no-member attributeSet b))
 
--- the fixed ones, and then the open ones
-pub both-lists : (t : Table) (chosen : ℕ → Bool) (o f out : List ℕ) → o ≡ zeros attributeSet → f ≡ plus o (collected t chosen fixedOptionalAt)
-    → out ≡ plus f (collected t chosen openOptionalAt) → out ≡ setOf attributeSet (collectedOptional t chosen)
-unfolding collectedOptional plus
-both-lists t chosen o f out z p q =
-    let e : f ≡ setOf attributeSet (collected t chosen fixedOptionalAt) = from-empty t chosen fixedOptionalAt o f z p in
-    q ∙ set-cong attributeSet (λ b. member f b || collected t chosen openOptionalAt b)
-    (λ b. collected t chosen fixedOptionalAt b || collected t chosen openOptionalAt b)
-    (λ b l. ap (λ (x : Bool). x || collected t chosen openOptionalAt b)
-    (ap (λ (s : List ℕ). member s b) e ∙ member-within attributeSet (collected t chosen fixedOptionalAt) b l))
-
 -- ---- over the classes reached
-
--- some chosen number is in one set or in another
-either : (n : ℕ) (chosen p q : ℕ → Bool) → anyBelow n (λ k. chosen k && p k) || anyBelow n (λ k. chosen k && q k) ≡ anyBelow n (λ k. chosen k && (p k || q k))
-either n chosen p q =
-    says-same (says-or (says-any n {P = λ k. (chosen k ≡ true) × (p k ≡ true)} (λ k l. search says))
-    (says-any n {P = λ k. (chosen k ≡ true) × (q k ≡ true)} (λ k l. search says)))
-    (says-iff (says-any n {P = λ k. (chosen k ≡ true) × ((p k ≡ true) ⊎ (q k ≡ true))} (λ k l. search says)) (apart, ⊎-elim left right))
-  where
-    apart : Some n (λ k. (chosen k ≡ true) × ((p k ≡ true) ⊎ (q k ≡ true))) → Some n (λ k. (chosen k ≡ true) × (p k ≡ true))
-        ⊎ Some n (λ k. (chosen k ≡ true) × (q k ≡ true))
-    apart s = ⊎-elim (λ h. inl (record { at = s .at; below = s .below; is = (s .is .0, h) }))
-        (λ h. inr (record { at = s .at; below = s .below; is = (s .is .0, h) })) (s .is .1)
-
-    left : Some n (λ k. (chosen k ≡ true) × (p k ≡ true)) → Some n (λ k. (chosen k ≡ true) × ((p k ≡ true) ⊎ (q k ≡ true)))
-    left s = record { at = s .at; below = s .below; is = (s .is .0, inl (s .is .1)) }
-
-    right : Some n (λ k. (chosen k ≡ true) × (q k ≡ true)) → Some n (λ k. (chosen k ≡ true) × ((p k ≡ true) ⊎ (q k ≡ true)))
-    right s = record { at = s .at; below = s .below; is = (s .is .0, inr (s .is .1)) }
 
 module _ (t : Table) (c : ℕ) (s : List ℕ) (few : t .count ≤ classLimit) (reached : s ≡ setOf classSet (reaches t c)) where
   chosen-reached : (k : ℕ) → k < t .count → member s k ≡ reaches t c k
@@ -126,25 +96,6 @@ module _ (t : Table) (c : ℕ) (s : List ℕ) (few : t .count ≤ classLimit) (r
   unfolding collected chosenLists collectsBy listsMandatory
   collected-demands b = any-cong (t .count) _ _ (λ k l. ap (λ (x : Bool). x && member (part mandatoryAt attributeSet (t .row k)) b) (chosen-reached k l))
 
-  pub collected-allows : (b : ℕ) → collectedOptional t (member s) b ≡ allows t c b
-  unfolding collectedOptional collected chosenLists collectsBy listsOptional
-  collected-allows b =
-      ap₂ _||_ (any-cong n _ _ (λ k l. ap (λ (x : Bool). x && fixed k) (chosen-reached k l)))
-      (any-cong n _ _ (λ k l. ap (λ (x : Bool). x && other k) (chosen-reached k l)))
-      ∙ either n (reaches t c) fixed other
-    where
-      n : ℕ
-      n = t .count
-
-      fixed : ℕ → Bool
-      fixed k = member (part fixedOptionalAt attributeSet (t .row k)) b
-
-      other : ℕ → Bool
-      other k = member (part openOptionalAt attributeSet (t .row k)) b
-
   pub demanded-is : (out : List ℕ) → out ≡ setOf attributeSet (collected t (member s) mandatoryAt) → out ≡ demandedSet t c
   unfolding demandedSet
   demanded-is out q = q ∙ set-cong attributeSet (collected t (member s) mandatoryAt) (demands t c) (λ b l. collected-demands b)
-
-  pub allowed-is : (out : List ℕ) → out ≡ setOf attributeSet (collectedOptional t (member s)) → out ≡ setOf attributeSet (allows t c)
-  allowed-is out q = q ∙ set-cong attributeSet (collectedOptional t (member s)) (allows t c) (λ b l. collected-allows b)

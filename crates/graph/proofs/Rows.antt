@@ -5,9 +5,9 @@ use mathlib.Core.Path.{_≡_, refl, sym, ap, ap₂, _∙_}
 use Prim.Native.Nat.{ℕ, zero, suc, _+_, _-_, _*_, _≤_, _<_}
 use native.Mathlib.Omega.{arith}
 use lib.ListN.{length, take, drop, length-append, length-drop, drop-of-length-le}
-use lib.Seq.{take-at, drop-at, length-take-le}
-use Rattle.prelude.specs.Part.{part, sameBytes, splice, padded, zeros}
-use Rattle.prelude.specs.PartLaws.{padded-full, part-all, part-zeros, row-fits, row-length, says-same-bytes}
+use lib.Seq.{take-at, drop-at}
+use Rattle.prelude.specs.Part.{part, sameBytes, splice, zeros}
+use Rattle.prelude.specs.PartLaws.{part-all, part-zeros, row-fits, row-length, says-same-bytes}
 use Rattle.prelude.specs.SaysLaws.{choose, says-iff, says-same}
 use Rattle.prelude.specs.SpliceLaws.{part-splice-after, splice-append, splice-front, splice-length, splice-over, splice-part}
 use Rattle.prelude.specs.LentLaws.{lent-back}
@@ -17,15 +17,13 @@ use Rattle.sets.specs.Sets.{member, setOf, union}
 use Rattle.sets.specs.SideLaws.{member-zeros}
 use Rattle.sets.specs.SetsLaws.{set-length, union-length}
 use Rattle.schema.specs.Numbers.{classLimit}
-use Rattle.schema.specs.Layout.{classSet, attributeSet, closureLength, closureWidth, mandatoryAt, reachedAt, demandedAt, allowedAt}
+use Rattle.schema.specs.Layout.{classSet, attributeSet, closureLength, closureWidth, reachedAt, demandedAt, allowedAt}
 use Rattle.schema.specs.Store.{Table, closureAt}
 use Rattle.graph.specs.FreshLaws.{closure-row-length, closure-rows-at, closure-rows-length, fresh-bytes, says-fresh}
 use Rattle.graph.specs.FrontLaws.{fresh-front}
-use Rattle.graph.specs.Graph.{listsMandatory, listsOptional, reaches, demands, allows, demandedSet, closureRow, closureRows, isFresh}
-use Rattle.graph.specs.Collect.{collected, collectedOptional}
+use Rattle.graph.specs.Graph.{listsMandatory, listsOptional, closureRow, closureRows, isFresh}
 use Rattle.graph.specs.Stages.{comesTo, passedRow, stageRow, stageRows}
 use Rattle.graph.proofs.Warshall.{stage-end, stage-first, stage-more, stage-none}
-use Rattle.graph.proofs.Gather.{demanded-is, allowed-is}
 
 -- ---- one row
 
@@ -54,25 +52,6 @@ three-parts row x y z lx ly lz lr =
       append-assoc x y z,
     )
 
-pub row-written : (t : Table) (c : ℕ) (row bits x y z : List ℕ) → length row ≡ closureWidth → t .count ≤ classLimit → bits ≡ setOf classSet (reaches t c)
-    → x ≡ padded (length (take classSet (drop 0 row))) bits → y ≡ setOf attributeSet (collected t (member bits) mandatoryAt) → z
-    ≡ setOf attributeSet (collectedOptional t (member bits))
-    → take allowedAt (take demandedAt (x ++ drop classSet (drop 0 row)) ++ (y ++ drop attributeSet (drop demandedAt (x ++ drop classSet (drop 0 row)))))
-    ++ (z ++ drop attributeSet
-    (drop allowedAt (take demandedAt (x ++ drop classSet (drop 0 row)) ++
-    (y ++ drop attributeSet (drop demandedAt (x ++ drop classSet (drop 0 row)))))))
-    ≡ closureRow t c
-unfolding closureRow demandedSet
-row-written t c row bits x y z l few r p q s =
-    let whole : length bits ≡ classSet = ap length r ∙ set-length classSet (reaches t c) in
-    let front : length (take classSet row) ≡ classSet = length-take-le classSet row (omega arith) in
-    let ex : x ≡ setOf classSet (reaches t c) = p ∙ ap (λ (n : ℕ). padded n bits) front ∙ padded-full classSet bits whole ∙ r in
-    let ey : y ≡ setOf attributeSet (demands t c) = demanded-is t c bits few r y q in
-    let ez : z ≡ setOf attributeSet (allows t c) = allowed-is t c bits few r z s in
-    three-parts row x y z (ap length ex ∙ set-length classSet (reaches t c)) (ap length ey ∙ set-length attributeSet (demands t c))
-    (ap length ez ∙ set-length attributeSet (allows t c)) l
-    ∙ ap₂ (λ (a b : List ℕ). a ++ b) ex (ap₂ (λ (a b : List ℕ). a ++ b) ey ez)
-
 -- ---- the part of the store at one class
 
 -- lent on, and come back as another row
@@ -96,10 +75,6 @@ splice-row c closure long l =
     let e : closureWidth * c ≡ 0 + closureWidth * c = omega arith in
     ap (λ (i : ℕ). splice i (closureAt closure c) closure) e
     ∙ splice-part (0 + closureWidth * c) closureWidth closure (row-fits 0 closureWidth classLimit c (length closure) (omega arith) l)
-
-pub refreshed : (t : Table) (c at end : ℕ) (closure back : List ℕ) → at ≡ closureWidth * c → end ≡ at + closureWidth → back ≡ closureRow t c
-    → take at closure ++ (back ++ drop (end - at) (drop at closure)) ≡ splice (closureWidth * c) (closureRow t c) closure
-refreshed t c at end closure back e f q = row-lent-back c at end closure back (closureRow t c) e f (closure-row-length t c) q
 
 -- ---- all rows, one after the other
 

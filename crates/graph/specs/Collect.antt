@@ -5,7 +5,7 @@ use Prim.Native.Nat.{ℕ}
 use Rattle.prelude.specs.Below.{anyBelow}
 use Rattle.prelude.specs.Part.{part}
 use Rattle.sets.specs.Sets.{member, setOf}
-use Rattle.schema.specs.Layout.{attributeSet, fixedOptionalAt, openOptionalAt}
+use Rattle.schema.specs.Layout.{attributeSet}
 use Rattle.schema.specs.Store.{Table}
 
 -- class k is chosen and has b in the set at a place of its row
@@ -15,10 +15,6 @@ chosenLists t chosen at k b = chosen k && member (part at attributeSet (t .row k
 -- some chosen class has b in the set at a place of its row
 unfoldable pub collected : Table → (ℕ → Bool) → ℕ → ℕ → Bool
 collected t chosen at b = anyBelow (t .count) (λ k. chosenLists t chosen at k b)
-
--- some chosen class has b among its optional attributes, fixed or open
-unfoldable pub collectedOptional : Table → (ℕ → Bool) → ℕ → Bool
-collectedOptional t chosen b = collected t chosen fixedOptionalAt b || collected t chosen openOptionalAt b
 
 -- a set of attributes with those besides that pass f
 unfoldable pub plus : List ℕ → (ℕ → Bool) → List ℕ

@@ -1,29 +1,22 @@
 // The closure store: the three kept sets of every class, worked out afresh and compared.
 use crate::collect::write_mandatory;
-use crate::collect::write_optional;
 use crate::reach::reached;
 use crate::stages::pass_on;
 use crate::stages::write_firsts;
-use prelude::part::copy_padded;
 use prelude::part::part_of;
 use prelude::part::same;
-use schema::layout::ALLOWED;
 use schema::layout::CLOSURE_LENGTH;
-use schema::layout::CLOSURE_WIDTH;
-use schema::layout::DEMANDED;
 use schema::number::ClassNumber;
 use schema::number::TableId;
-use schema::store::closure_start;
 use schema::store::row_count;
 ghost use mathlib.Core.Path.{_≡_};
-ghost use Prim.Native.Nat.{_*_, _≤_, _<_};
+ghost use Prim.Native.Nat.{_≤_};
 ghost use lib.ListN.{length};
 ghost use Rattle.prelude.specs.Part.{splice};
-ghost use Rattle.schema.specs.Numbers.{classLimit};
-ghost use Rattle.schema.specs.Layout.{attributeSet, closureWidth, closureLength};
+ghost use Rattle.schema.specs.Layout.{attributeSet, closureLength};
 ghost use Rattle.schema.specs.Store.{tableIn};
 ghost use Rattle.schema.specs.declared.number.TableId.the-variants.{Classes};
-ghost use Rattle.graph.specs.Graph.{Readable, demandedSet, closureRow, closureRows, isFresh};
+ghost use Rattle.graph.specs.Graph.{Readable, demandedSet, closureRows, isFresh};
 
 // out becomes the set of attributes that c demands.
 pub fn write_demanded(classes: &[u8], c: ClassNumber, out: &mut [u8])
@@ -32,31 +25,6 @@ pub fn write_demanded(classes: &[u8], c: ClassNumber, out: &mut [u8])
     ensures { λ _. ⌜ now (out .exit) ≡ demandedSet (tableIn Classes (now (classes .entry))) (c .0) ⌝ }
 {
     write_mandatory(classes, reached(classes, c), out);
-}
-
-// row becomes the three kept sets of c.
-pub fn write_row(classes: &[u8], c: ClassNumber, row: &mut [u8])
-    requires { ⌜ Readable (now classes) ⌝ }
-    requires { ⌜ length (now row) ≡ closureWidth ⌝ }
-    ensures { λ _. ⌜ now (row .exit) ≡ closureRow (tableIn Classes (now (classes .entry))) (c .0) ⌝ }
-{
-    let seen = reached(classes, c);
-    let bits = seen.bits;
-    copy_padded(&mut row[0..DEMANDED], &bits);
-    write_mandatory(classes, seen, &mut row[DEMANDED..ALLOWED]);
-    write_optional(classes, seen, &mut row[ALLOWED..CLOSURE_WIDTH]);
-}
-
-// The part of the closure store at c is worked out afresh.
-pub fn refresh(classes: &[u8], c: ClassNumber, closure: &mut [u8])
-    requires { ⌜ Readable (now classes) ⌝ }
-    requires { ⌜ (c .0 < classLimit) × (closureLength ≤ length (now closure)) ⌝ }
-    ensures { λ _. ⌜ now (closure .exit) ≡ splice (closureWidth * c .0) (closureRow (tableIn Classes (now (classes .entry))) (c .0))
-        (now (closure .entry)) ⌝ }
-{
-    let at = closure_start(c);
-    let end = at + CLOSURE_WIDTH;
-    write_row(classes, c, &mut closure[at..end]);
 }
 
 // The whole closure store is worked out afresh; what stands behind it is not touched.

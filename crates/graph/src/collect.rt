@@ -2,9 +2,7 @@
 use prelude::part::clear;
 use prelude::part::part_of;
 use schema::layout::ATTRIBUTE_SET;
-use schema::layout::FIXED_OPTIONAL;
 use schema::layout::MANDATORY;
-use schema::layout::OPEN_OPTIONAL;
 use schema::number::ClassNumber;
 use schema::number::TableId;
 use schema::store::class_row;
@@ -18,7 +16,7 @@ ghost use Rattle.schema.specs.Layout.{attributeSet, classWidth, mandatoryAt};
 ghost use Rattle.schema.specs.Store.{tableIn};
 ghost use Rattle.schema.specs.declared.number.TableId.the-variants.{Classes};
 ghost use Rattle.graph.specs.Graph.{Readable};
-ghost use Rattle.graph.specs.Collect.{chosenLists, collected, collectedOptional, plus};
+ghost use Rattle.graph.specs.Collect.{chosenLists, collected, plus};
 
 // Adds to out the members of the set at a place of row k, if k is chosen.
 fn add_chosen(classes: &[u8], chosen: Visited, at: usize, k: usize, out: &mut [u8])
@@ -54,15 +52,4 @@ pub fn write_mandatory(classes: &[u8], chosen: Visited, out: &mut [u8])
 {
     clear(out);
     add_all(classes, chosen, MANDATORY, out);
-}
-
-// out becomes the optional attributes that the chosen classes list, fixed and open.
-pub fn write_optional(classes: &[u8], chosen: Visited, out: &mut [u8])
-    requires { ⌜ Readable (now classes) ⌝ }
-    requires { ⌜ length (now out) ≡ attributeSet ⌝ }
-    ensures { λ _. ⌜ now (out .exit) ≡ setOf attributeSet (collectedOptional (tableIn Classes (now (classes .entry))) (member (chosen .bits))) ⌝ }
-{
-    clear(out);
-    add_all(classes, chosen, FIXED_OPTIONAL, out);
-    add_all(classes, chosen, OPEN_OPTIONAL, out);
 }

@@ -2,8 +2,9 @@ use mathlib.Core.Path.{_≡_, refl}
 use Prim.Native.Nat.{_≤_, _-_}
 use lib.ListN.{length}
 use Rattle.schema.specs.Numbers.{classLimit}
-use Rattle.closure_change.proofs.Holding.{Done, done-none, done-more, done-length, done-end, union-wide}
+use Rattle.closure_change.proofs.Holding.{Done, done-none, done-more, done-length, done-end}
 use Rattle.sets.specs.Sets.{union}
+use Rattle.closure_change.specs.KeptLaws.{joined-wide}
 use Prim.Native.Nat.{_+_}
 use Rattle.closure_change.specs.Kept.{joinedInto}
 use native.Mathlib.Omega.{arith}
@@ -23,7 +24,7 @@ loop-holds c =
       search needs,
       refl,
       done-none (start .args .n) (start .args .k) (λ i row. union row (start .args .more .now)) (start .args .closure .now)
-          (start .pre .0) (union-wide (start .args .more .now)),
+          (start .pre .0) (joined-wide (start .args .closure .now) (start .pre .0) (start .args .more .now)),
     )
 
 join-where-requires : tie.Need-join-where-requires Inv-loop μ-loop
@@ -41,10 +42,10 @@ loop-again c =
     let c₂ = c₁ .before .before .before in
     let start = c₂ .before .before .before in
     let next = done-more (start .args .n) (start .args .k) (λ i row. union row (start .args .more .now)) (start .args .closure .now) (start .pre .0)
-    (union-wide (start .args .more .now)) (c₂ .loop .c) (c₂ .loop .closure) _ (omega arith) (c₂ .loop .inv .2) (c₁ .join-where .ensures) in (
+    (joined-wide (start .args .closure .now) (start .pre .0) (start .args .more .now)) (c₂ .loop .c) (c₂ .loop .closure) _ (omega arith) (c₂ .loop .inv .2) (c₁ .join-where .ensures) in (
       omega arith,
       done-length (start .args .n) (start .args .k) (λ i row. union row (start .args .more .now)) (start .args .closure .now)
-          (start .pre .0) (union-wide (start .args .more .now)) (c₂ .loop .c + 1) _ (omega arith) next,
+          (start .pre .0) (joined-wide (start .args .closure .now) (start .pre .0) (start .args .more .now)) (c₂ .loop .c + 1) _ (omega arith) next,
       next,
     )
 
@@ -56,7 +57,7 @@ returns c =
     let c₁ = c .before in
     let start = c₁ .before .before .before in
     unfold joinedInto in done-end (start .args .n) (start .args .k) (λ i row. union row (start .args .more .now)) (start .args .closure .now)
-    (start .pre .0) (union-wide (start .args .more .now)) (c₁ .loop .c) (c₁ .loop .closure) (c₁ .loop .inv .0) (search needs) (c₁ .loop .inv .2)
+    (start .pre .0) (joined-wide (start .args .closure .now) (start .pre .0) (start .args .more .now)) (c₁ .loop .c) (c₁ .loop .closure) (c₁ .loop .inv .0) (search needs) (c₁ .loop .inv .2)
 
 pub join-all-spec : {M : Type 1} → statement M
 join-all-spec =

@@ -1,80 +1,43 @@
-use mathlib.Core.Path.{_≡_, refl}
-use Prim.Native.Nat.{_≤_, _-_}
-use lib.ListN.{length}
-use Rattle.schema.specs.Numbers.{classLimit}
+use mathlib.Core.Path.{_∙_, refl}
+use native.Mathlib.Omega.{arith}
 use Rattle.schema.specs.Store.{tableIn}
 use Rattle.schema.specs.declared.number.TableId.the-variants.{Classes}
-use Rattle.closure_change.proofs.Holding.{Done, done-none, done-more, done-length, done-end}
-use Rattle.graph.specs.Graph.{closureRow}
-use Rattle.graph.specs.FreshLaws.{closure-row-length}
-use Prim.Native.Nat.{_+_}
-use Rattle.closure_change.specs.Kept.{refreshedAt}
-use native.Mathlib.Omega.{arith}
+use Rattle.closure_change.proofs.Holding.{taken-fresh}
 use borrow.Author.Needs.{needs}
 use Rattle.closure_change.proofs.each.refresh_holding.Statement.{statement}
 use Rattle.closure_change.proofs.each.refresh_holding.Tie as tie
 
-abbrev Inv-loop : tie.InvT-loop
-Inv-loop classes n k closure₀ c₀ closure c =
-    (c ≤ classLimit) × (length closure ≡ length closure₀) × Done n k (λ i row. closureRow (tableIn Classes classes) i) closure₀ c closure
+slice-aggregate-refresh-all : tie.Need-slice-aggregate-refresh-all
+slice-aggregate-refresh-all c = search needs
 
-abbrev μ-loop : tie.MeasureT-loop
-μ-loop classes n k closure₀ c₀ closure c = classLimit - c
+refresh-all-requires : tie.Need-refresh-all-requires
+refresh-all-requires c κs = search needs
 
-loop-holds : tie.Need-loop-holds Inv-loop μ-loop
-loop-holds c =
-    let start = c .before .before in (
-      search needs,
-      refl,
-      done-none (start .args .n) (start .args .k) (λ i row. closureRow (tableIn Classes (start .args .classes .now)) i)
-          (start .args .closure .now) (start .pre .1) (λ i row e. closure-row-length (tableIn Classes (start .args .classes .now)) i),
-    )
+slice-aggregate-take-all : tie.Need-slice-aggregate-take-all
+slice-aggregate-take-all c = search needs
 
-refresh-where-requires : tie.Need-refresh-where-requires Inv-loop μ-loop
-refresh-where-requires c κs = search needs
+take-all-requires : tie.Need-take-all-requires
+take-all-requires c κs = search needs
 
-add-c : tie.Need-add-c Inv-loop μ-loop
-add-c c = search needs
+same-length : tie.Need-same-length
+same-length c = search needs
 
-loop-less : tie.Need-loop-less Inv-loop μ-loop
-loop-less c = search needs
-
-loop-again : tie.Need-loop-again Inv-loop μ-loop
-loop-again c =
-    let c₁ = c .before .before in
-    let c₂ = c₁ .before .before .before in
-    let start = c₂ .before .before .before in
-    let next = done-more (start .args .n) (start .args .k) (λ i row. closureRow (tableIn Classes (start .args .classes .now)) i)
-    (start .args .closure .now) (start .pre .1) (λ i row e. closure-row-length (tableIn Classes (start .args .classes .now)) i) (c₂ .loop .c)
-    (c₂ .loop .closure) _ (omega arith) (c₂ .loop .inv .2) (c₁ .refresh-where .ensures) in (
-      omega arith,
-      done-length (start .args .n) (start .args .k) (λ i row. closureRow (tableIn Classes (start .args .classes .now)) i)
-          (start .args .closure .now) (start .pre .1) (λ i row e. closure-row-length (tableIn Classes (start .args .classes .now)) i) (c₂ .loop .c + 1) _
-          (omega arith) next,
-      next,
-    )
-
-same-length : tie.Need-same-length Inv-loop μ-loop
-same-length c = c .before .loop .inv .1
-
-returns : tie.Need-returns Inv-loop μ-loop
+returns : tie.Need-returns
 returns c =
-    let c₁ = c .before in
-    let start = c₁ .before .before .before in
-    unfold refreshedAt in done-end (start .args .n) (start .args .k) (λ i row. closureRow (tableIn Classes (start .args .classes .now)) i)
-    (start .args .closure .now) (start .pre .1) (λ i row e. closure-row-length (tableIn Classes (start .args .classes .now)) i) (c₁ .loop .c)
-    (c₁ .loop .closure) (c₁ .loop .inv .0) (search needs) (c₁ .loop .inv .2)
+    let c₁ = c .before .before in
+    let c₂ = c₁ .before .before .before .before in
+    let start = c₂ .before .before .before .before in
+    c₁ .take-all .ensures
+    ∙ taken-fresh (tableIn Classes (start .args .classes .now)) _ _ (omega arith) (c₂ .refresh-all .ensures) (start .args .n) (start .args .k)
+    (start .args .closure .now)
 
 pub refresh-holding-spec : {M : Type 1} → statement M
 refresh-holding-spec =
     tie.close
     (tie.spec
-    Inv-loop
-    μ-loop
-    loop-holds
-    refresh-where-requires
-    add-c
-    loop-less
-    loop-again
+    slice-aggregate-refresh-all
+    refresh-all-requires
+    slice-aggregate-take-all
+    take-all-requires
     same-length
     returns)
