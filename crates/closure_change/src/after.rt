@@ -48,9 +48,9 @@ fn write_option(b: usize, out: &mut [u8])
 }
 
 // An optional attribute is joined in for every class whose kept reach holds class k.
-fn join_option(b: usize, n: usize, k: usize, closure: &mut [u8])
+fn join_option(b: usize, n: usize, k: ClassNumber, closure: &mut [u8])
     requires { ⌜ closureLength ≤ length (now closure) ⌝ }
-    ensures { λ _. ⌜ now (closure .exit) ≡ joinedInto n k (optionRow b) (now (closure .entry)) ⌝ }
+    ensures { λ _. ⌜ now (closure .exit) ≡ joinedInto n (k .0) (optionRow b) (now (closure .entry)) ⌝ }
 {
     let mut more = [0u8; CLOSURE_WIDTH];
     write_option(b, &mut more);
@@ -58,9 +58,9 @@ fn join_option(b: usize, n: usize, k: usize, closure: &mut [u8])
 }
 
 // The kept sets of an auxiliary are, as they stand before.
-fn join_auxiliary(a: ClassNumber, n: usize, k: usize, closure: &mut [u8])
+fn join_auxiliary(a: ClassNumber, n: usize, k: ClassNumber, closure: &mut [u8])
     requires { ⌜ (closureLength ≤ length (now closure)) × (a .0 < classLimit) ⌝ }
-    ensures { λ _. ⌜ now (closure .exit) ≡ joinedInto n k (closureAt (now (closure .entry)) (a .0)) (now (closure .entry)) ⌝ }
+    ensures { λ _. ⌜ now (closure .exit) ≡ joinedInto n (k .0) (closureAt (now (closure .entry)) (a .0)) (now (closure .entry)) ⌝ }
 {
     let mut more = [0u8; CLOSURE_WIDTH];
     copy_padded(&mut more, closure_row(closure, a));
@@ -68,9 +68,9 @@ fn join_auxiliary(a: ClassNumber, n: usize, k: usize, closure: &mut [u8])
 }
 
 // The closure store after an entry was added to a list of class k.
-fn join_entry(list: OpenList, entry: usize, n: usize, k: usize, closure: &mut [u8])
+fn join_entry(list: OpenList, entry: usize, n: usize, k: ClassNumber, closure: &mut [u8])
     requires { ⌜ (closureLength ≤ length (now closure)) × (list ≡ OpenList.Auxiliary → entry < classLimit) ⌝ }
-    ensures { λ _. ⌜ now (closure .exit) ≡ entryJoined list entry n k (now (closure .entry)) ⌝ }
+    ensures { λ _. ⌜ now (closure .exit) ≡ entryJoined list entry n (k .0) (now (closure .entry)) ⌝ }
 {
     match list {
         OpenList::Optional => join_option(entry, n, k, closure),
@@ -105,11 +105,15 @@ pub fn update(change: Change, scratch: &[u8], classes: &[u8], n: usize, closure:
         Change::Deactivate(_) => {}
         Change::Reactivate(_) => {}
         Change::AddEntry => {
-            let k = target_of(scratch) as usize;
+            let ClassRead::Class(k) = ClassNumber::new(target_of(scratch) as usize) else {
+                return;
+            };
             join_entry(list_of(scratch), entry_of(scratch) as usize, n, k, closure);
         }
         Change::RemoveEntry => {
-            let k = target_of(scratch) as usize;
+            let ClassRead::Class(k) = ClassNumber::new(target_of(scratch) as usize) else {
+                return;
+            };
             refresh_holding(classes, n, k, closure);
         }
     }

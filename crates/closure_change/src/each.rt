@@ -22,15 +22,15 @@ ghost use Rattle.graph.specs.Graph.{Readable};
 ghost use Rattle.closure_change.specs.Kept.{holds as held, rowWhere, joinedInto, takenFrom, refreshedAt};
 
 // Whether class c is one of n, and its kept reach holds class k.
-fn holds(closure: &[u8], n: usize, k: usize, c: usize) -> bool
-    requires { ⌜ (closureLength ≤ length (now closure)) × (c < classLimit) ⌝ }
-    ensures { λ r. ⌜ r ≡ held n k c (closureAt (now (closure .entry)) c) ⌝ }
+fn holds(closure: &[u8], n: usize, k: ClassNumber, c: ClassNumber) -> bool
+    requires { ⌜ (closureLength ≤ length (now closure)) × (c .0 < classLimit) ⌝ }
+    ensures { λ r. ⌜ r ≡ held n (k .0) (c .0) (closureAt (now (closure .entry)) (c .0)) ⌝ }
 {
-    if n <= c {
+    if n <= c.0 {
         return false;
     }
-    let reached = part_of(closure_row(closure, ClassNumber(c)), REACHED, CLASS_SET);
-    sets::has(reached, k)
+    let reached = part_of(closure_row(closure, c), REACHED, CLASS_SET);
+    sets::has(reached, k.0)
 }
 
 // Sets are joined in for c, the part of the closure store at c being lent on.
@@ -45,59 +45,55 @@ fn join_at(closure: &mut [u8], c: ClassNumber, more: &[u8])
 }
 
 // Sets are joined in for c, if it is such a class.
-fn join_where(closure: &mut [u8], n: usize, k: usize, c: usize, more: &[u8])
-    requires { ⌜ (closureLength ≤ length (now closure)) × (c < classLimit) × (length (now more) ≡ closureWidth) ⌝ }
+fn join_where(closure: &mut [u8], n: usize, k: ClassNumber, c: ClassNumber, more: &[u8])
+    requires { ⌜ (closureLength ≤ length (now closure)) × (c .0 < classLimit) × (length (now more) ≡ closureWidth) ⌝ }
     ensures { λ _. ⌜ now (closure .exit)
-        ≡ splice (closureWidth * c) (rowWhere n k (λ i row. union row (now (more .entry))) (now (closure .entry)) c) (now (closure .entry)) ⌝ }
+        ≡ splice (closureWidth * c .0) (rowWhere n (k .0) (λ i row. union row (now (more .entry))) (now (closure .entry)) (c .0)) (now (closure .entry)) ⌝ }
 {
     if holds(closure, n, k, c) {
-        join_at(closure, ClassNumber(c), more);
+        join_at(closure, c, more);
     }
 }
 
 // Sets are joined in for every such class.
-pub fn join_all(closure: &mut [u8], n: usize, k: usize, more: &[u8])
+pub fn join_all(closure: &mut [u8], n: usize, k: ClassNumber, more: &[u8])
     requires { ⌜ (closureLength ≤ length (now closure)) × (length (now more) ≡ closureWidth) ⌝ }
-    ensures { λ _. ⌜ now (closure .exit) ≡ joinedInto n k (now (more .entry)) (now (closure .entry)) ⌝ }
+    ensures { λ _. ⌜ now (closure .exit) ≡ joinedInto n (k .0) (now (more .entry)) (now (closure .entry)) ⌝ }
 {
     let mut c = 0;
     while c < ClassNumber::LIMIT {
-        join_where(closure, n, k, c, more);
+        join_where(closure, n, k, ClassNumber(c), more);
         c += 1;
     }
 }
 
 // The sets of c become those that another closure store has for it, if it is such a class.
-fn take_where(fresh: &[u8], n: usize, k: usize, c: usize, closure: &mut [u8])
-    requires { ⌜ (closureLength ≤ length (now fresh)) × (closureLength ≤ length (now closure)) × (c < classLimit) ⌝ }
+fn take_where(fresh: &[u8], n: usize, k: ClassNumber, c: ClassNumber, closure: &mut [u8])
+    requires { ⌜ (closureLength ≤ length (now fresh)) × (closureLength ≤ length (now closure)) × (c .0 < classLimit) ⌝ }
     ensures { λ _. ⌜ now (closure .exit)
-        ≡ splice (closureWidth * c) (rowWhere n k (λ i row. closureAt (now (fresh .entry)) i) (now (closure .entry)) c) (now (closure .entry)) ⌝ }
+        ≡ splice (closureWidth * c .0) (rowWhere n (k .0) (λ i row. closureAt (now (fresh .entry)) i) (now (closure .entry)) (c .0)) (now (closure .entry)) ⌝ }
 {
     if holds(closure, n, k, c) {
-        put_bytes(
-            closure_row(fresh, ClassNumber(c)),
-            closure,
-            closure_start(ClassNumber(c)),
-        );
+        put_bytes(closure_row(fresh, c), closure, closure_start(c));
     }
 }
 
 // The sets of every such class do.
-fn take_all(fresh: &[u8], n: usize, k: usize, closure: &mut [u8])
+fn take_all(fresh: &[u8], n: usize, k: ClassNumber, closure: &mut [u8])
     requires { ⌜ (closureLength ≤ length (now fresh)) × (closureLength ≤ length (now closure)) ⌝ }
-    ensures { λ _. ⌜ now (closure .exit) ≡ takenFrom (now (fresh .entry)) n k (now (closure .entry)) ⌝ }
+    ensures { λ _. ⌜ now (closure .exit) ≡ takenFrom (now (fresh .entry)) n (k .0) (now (closure .entry)) ⌝ }
 {
     let mut c = 0;
     while c < ClassNumber::LIMIT {
-        take_where(fresh, n, k, c, closure);
+        take_where(fresh, n, k, ClassNumber(c), closure);
         c += 1;
     }
 }
 
 // The sets of every such class are worked out afresh: those of all classes are, at once, since most classes may be concerned.
-pub fn refresh_holding(classes: &[u8], n: usize, k: usize, closure: &mut [u8])
+pub fn refresh_holding(classes: &[u8], n: usize, k: ClassNumber, closure: &mut [u8])
     requires { ⌜ Readable (now classes) × (closureLength ≤ length (now closure)) ⌝ }
-    ensures { λ _. ⌜ now (closure .exit) ≡ refreshedAt (tableIn Classes (now (classes .entry))) n k (now (closure .entry)) ⌝ }
+    ensures { λ _. ⌜ now (closure .exit) ≡ refreshedAt (tableIn Classes (now (classes .entry))) n (k .0) (now (closure .entry)) ⌝ }
 {
     let mut fresh = [0u8; CLOSURE_LENGTH];
     refresh_all(classes, &mut fresh);

@@ -19,13 +19,13 @@ ghost use Rattle.graph.specs.Graph.{Readable};
 ghost use Rattle.graph.specs.Collect.{chosenLists, collected, plus};
 
 // Adds to out the members of the set at a place of row k, if k is chosen.
-fn add_chosen(classes: &[u8], chosen: Visited, at: usize, k: usize, out: &mut [u8])
+fn add_chosen(classes: &[u8], chosen: Visited, at: usize, k: ClassNumber, out: &mut [u8])
     requires { ⌜ Readable (now classes) ⌝ }
-    requires { ⌜ (at + attributeSet ≤ classWidth) × (k < tableIn Classes (now classes) .count) × (length (now out) ≡ attributeSet) ⌝ }
-    ensures { λ _. ⌜ now (out .exit) ≡ plus (now (out .entry)) (chosenLists (tableIn Classes (now (classes .entry))) (member (chosen .bits)) at k) ⌝ }
+    requires { ⌜ (at + attributeSet ≤ classWidth) × (k .0 < tableIn Classes (now classes) .count) × (length (now out) ≡ attributeSet) ⌝ }
+    ensures { λ _. ⌜ now (out .exit) ≡ plus (now (out .entry)) (chosenLists (tableIn Classes (now (classes .entry))) (member (chosen .bits)) at (k .0)) ⌝ }
 {
-    if chosen.has(k) {
-        let row = class_row(classes, ClassNumber(k));
+    if chosen.has(k.0) {
+        let row = class_row(classes, k);
         sets::join(out, part_of(row, at, ATTRIBUTE_SET));
     }
 }
@@ -39,7 +39,7 @@ fn add_all(classes: &[u8], chosen: Visited, at: usize, out: &mut [u8])
     let n = row_count(TableId::Classes, classes);
     let mut k = 0;
     while k < n {
-        add_chosen(classes, chosen, at, k, out);
+        add_chosen(classes, chosen, at, ClassNumber(k), out);
         k += 1;
     }
 }

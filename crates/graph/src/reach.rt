@@ -9,8 +9,9 @@ use schema::store::class_row;
 use schema::store::row_count;
 use sets::visited::Visited;
 ghost use mathlib.Core.Path.{_≡_};
-ghost use Prim.Native.Nat.{_<_};
+ghost use Prim.Native.Nat.{_≤_, _<_};
 ghost use Rattle.sets.specs.Sets.{member, setOf, from};
+ghost use Rattle.schema.specs.Numbers.{classLimit};
 ghost use Rattle.schema.specs.Layout.{classSet};
 ghost use Rattle.schema.specs.Store.{tableIn};
 ghost use Rattle.schema.specs.declared.number.TableId.the-variants.{Classes};
@@ -24,26 +25,29 @@ pub enum NextClass {
 }
 
 // Whether d is in one of two sets and not visited.
-fn is_unvisited(fixed: &[u8], other: &[u8], seen: Visited, d: usize) -> bool
-    ensures { λ r. ⌜ r ≡ unvisitedIn (now (fixed .entry)) (now (other .entry)) (seen .bits) d ⌝ }
+fn is_unvisited(fixed: &[u8], other: &[u8], seen: Visited, d: ClassNumber) -> bool
+    ensures { λ r. ⌜ r ≡ unvisitedIn (now (fixed .entry)) (now (other .entry)) (seen .bits) (d .0) ⌝ }
 {
-    if seen.has(d) {
+    let n = d.0;
+    if seen.has(n) {
         return false;
     }
-    if sets::has(fixed, d) {
+    if sets::has(fixed, n) {
         return true;
     }
-    sets::has(other, d)
+    sets::has(other, n)
 }
 
 // The first number from start on, below n, that is in one of two sets and not visited.
 fn first_unvisited(fixed: &[u8], other: &[u8], seen: Visited, start: usize, n: usize) -> NextClass
+    requires { ⌜ n ≤ classLimit ⌝ }
     ensures { λ r. ⌜ r ≡ firstClass n (from start (unvisitedIn (now (fixed .entry)) (now (other .entry)) (seen .bits))) ⌝ }
 {
     let mut d = start;
     while d < n {
-        if is_unvisited(fixed, other, seen, d) {
-            return NextClass::Class(ClassNumber(d));
+        let next = ClassNumber(d);
+        if is_unvisited(fixed, other, seen, next) {
+            return NextClass::Class(next);
         }
         d += 1;
     }

@@ -116,12 +116,12 @@ pub fn write_firsts(classes: &[u8], closure: &mut [u8])
 }
 
 // Class c gets what class k has, if it has come to k.
-fn pass_to(closure: &mut [u8], k: usize, own: &[u8], c: ClassNumber)
+fn pass_to(closure: &mut [u8], k: ClassNumber, own: &[u8], c: ClassNumber)
     requires { ⌜ (closureLength ≤ length (now closure)) × (c .0 < classLimit) × (length (now own) ≡ closureWidth) ⌝ }
-    ensures { λ _. ⌜ now (closure .exit) ≡ splice (closureWidth * c .0) (passedRow k (now (own .entry)) (closureAt (now (closure .entry)) (c .0)))
+    ensures { λ _. ⌜ now (closure .exit) ≡ splice (closureWidth * c .0) (passedRow (k .0) (now (own .entry)) (closureAt (now (closure .entry)) (c .0)))
         (now (closure .entry)) ⌝ }
 {
-    if sets::has(part_of(closure_row(closure, c), REACHED, CLASS_SET), k) {
+    if sets::has(part_of(closure_row(closure, c), REACHED, CLASS_SET), k.0) {
         let at = closure_start(c);
         let end = at + CLOSURE_WIDTH;
         sets::join(&mut closure[at..end], own);
@@ -129,9 +129,9 @@ fn pass_to(closure: &mut [u8], k: usize, own: &[u8], c: ClassNumber)
 }
 
 // Each of the first n classes that has come to class k gets what k has.
-fn pass_to_all(closure: &mut [u8], n: usize, k: usize, own: &[u8])
+fn pass_to_all(closure: &mut [u8], n: usize, k: ClassNumber, own: &[u8])
     requires { ⌜ (closureLength ≤ length (now closure)) × (length (now own) ≡ closureWidth) × (n ≤ classLimit) ⌝ }
-    ensures { λ _. ⌜ now (closure .exit) ≡ splice 0 (concatBelow n (λ c. passedRow k (now (own .entry)) (closureAt (now (closure .entry)) c)))
+    ensures { λ _. ⌜ now (closure .exit) ≡ splice 0 (concatBelow n (λ c. passedRow (k .0) (now (own .entry)) (closureAt (now (closure .entry)) c)))
         (now (closure .entry)) ⌝ }
 {
     let mut c = 0;
@@ -150,5 +150,5 @@ pub fn pass_on(closure: &mut [u8], n: usize, k: ClassNumber)
 {
     let mut own = [0u8; CLOSURE_WIDTH];
     copy_padded(&mut own, closure_row(closure, k));
-    pass_to_all(closure, n, k.0, &own);
+    pass_to_all(closure, n, k, &own);
 }

@@ -34,7 +34,7 @@ returns c =
     let c₂ = c₁ .before .before .before .before in
     let c₃ = c₂ .before in
     let start = c₃ .before .before .before .before in
-    c₁ .join-all .ensures ∙ ap (λ more. joinedInto (start .args .n) (start .args .k) more (start .args .closure .now)) (c₂ .copy-padded .ensures
+    c₁ .join-all .ensures ∙ ap (λ more. joinedInto (start .args .n) (start .args .k .0) more (start .args .closure .now)) (c₂ .copy-padded .ensures
     ∙ padded-full _ _ (ap length (c₃ .closure-row .ensures) ∙ kept-length (start .args .closure .now) (start .pre .0) (start .args .a .0)
     (start .pre .1)) ∙ c₃ .closure-row .ensures)
 

@@ -64,7 +64,7 @@ returns-3 c =
     let start = c₄ .before .before .before in
     let closure = start .args .closure .now in
     let w = class-is (start .args .entry) _ (sym (c₃ .new .ensures) ∙ c₂ .a .given .1) in
-    rw (c₄ .enum-told2 .given .1) (c₁ .join-auxiliary .ensures ∙ ap (λ x. joinedInto (start .args .n) (start .args .k) (closureAt closure x) closure)
+    rw (c₄ .enum-told2 .given .1) (c₁ .join-auxiliary .ensures ∙ ap (λ x. joinedInto (start .args .n) (start .args .k .0) (closureAt closure x) closure)
     (sym (w .0)))
 
 returns-4 : tie.Need-returns-4

@@ -24,7 +24,7 @@ returns c =
     let c₁ = c .before .before in
     let c₂ = c₁ .before .before .before .before in
     let start = c₂ .before .before .before in
-    c₁ .join-all .ensures ∙ ap (λ more. joinedInto (start .args .n) (start .args .k) more (start .args .closure .now)) (c₂ .write-option .ensures)
+    c₁ .join-all .ensures ∙ ap (λ more. joinedInto (start .args .n) (start .args .k .0) more (start .args .closure .now)) (c₂ .write-option .ensures)
 
 pub join-option-spec : {M : Type 1} → statement M
 join-option-spec =

@@ -11,16 +11,16 @@ use Rattle.closure_change.proofs.each.holds.Tie as tie
 
 returns : tie.Need-returns
 returns c =
-    let start = c .before .before in
-    held-beyond (start .args .n) (start .args .k) (start .args .c) _ (c .if1 .taken)
+    let start = c .before .before .before in
+    held-beyond (start .args .n) (start .args .k .0) (start .args .c .0) _ (c .if1 .taken)
 
 closure-row-requires : tie.Need-closure-row-requires
 closure-row-requires c κs = search needs
 
 part-of-requires : tie.Need-part-of-requires
 part-of-requires c κs =
-    let start = c .before .before .before in
-    rw (c .closure-row .ensures) (omega (arith, kept-length (start .args .closure .now) (start .pre .0) (start .args .c) (start .pre .1)))
+    let start = c .before .before .before .before in
+    rw (c .closure-row .ensures) (omega (arith, kept-length (start .args .closure .now) (start .pre .0) (start .args .c .0) (start .pre .1)))
 
 has-requires : tie.Need-has-requires
 has-requires c κs = search needs
@@ -30,9 +30,9 @@ returns-2 c =
     let c₁ = c .before in
     let c₂ = c₁ .before in
     let c₃ = c₂ .before in
-    let start = c₃ .before .before in
-    c .has .ensures ∙ ap (λ row. member row (start .args .k)) (c₁ .part-of .ensures ∙ ap (part reachedAt classSet) (c₂ .closure-row .ensures))
-    ∙ held-there (start .args .n) (start .args .k) (start .args .c) _ (c₃ .if1 .left)
+    let start = c₃ .before .before .before in
+    c .has .ensures ∙ ap (λ row. member row (start .args .k .0)) (c₁ .part-of .ensures ∙ ap (part reachedAt classSet) (c₂ .closure-row .ensures))
+    ∙ held-there (start .args .n) (start .args .k .0) (start .args .c .0) _ (c₃ .if1 .left)
 
 pub holds-spec : {M : Type 1} → statement M
 holds-spec =

@@ -13,7 +13,7 @@ use Rattle.closure_change.proofs.each.join_all.Statement.{statement}
 use Rattle.closure_change.proofs.each.join_all.Tie as tie
 
 abbrev Inv-loop : tie.InvT-loop
-Inv-loop closure₀ n k more c₀ closure c = (c ≤ classLimit) × (length closure ≡ length closure₀) × Done n k (λ i row. union row more) closure₀ c closure
+Inv-loop closure₀ n k more c₀ closure c = (c ≤ classLimit) × (length closure ≡ length closure₀) × Done n (k .0) (λ i row. union row more) closure₀ c closure
 
 abbrev μ-loop : tie.MeasureT-loop
 μ-loop closure₀ n k more c₀ closure c = classLimit - c
@@ -23,7 +23,7 @@ loop-holds c =
     let start = c .before .before in (
       search needs,
       refl,
-      done-none (start .args .n) (start .args .k) (λ i row. union row (start .args .more .now)) (start .args .closure .now)
+      done-none (start .args .n) (start .args .k .0) (λ i row. union row (start .args .more .now)) (start .args .closure .now)
           (start .pre .0) (joined-wide (start .args .closure .now) (start .pre .0) (start .args .more .now)),
     )
 
@@ -41,10 +41,10 @@ loop-again c =
     let c₁ = c .before .before in
     let c₂ = c₁ .before .before .before in
     let start = c₂ .before .before .before in
-    let next = done-more (start .args .n) (start .args .k) (λ i row. union row (start .args .more .now)) (start .args .closure .now) (start .pre .0)
+    let next = done-more (start .args .n) (start .args .k .0) (λ i row. union row (start .args .more .now)) (start .args .closure .now) (start .pre .0)
     (joined-wide (start .args .closure .now) (start .pre .0) (start .args .more .now)) (c₂ .loop .c) (c₂ .loop .closure) _ (omega arith) (c₂ .loop .inv .2) (c₁ .join-where .ensures) in (
       omega arith,
-      done-length (start .args .n) (start .args .k) (λ i row. union row (start .args .more .now)) (start .args .closure .now)
+      done-length (start .args .n) (start .args .k .0) (λ i row. union row (start .args .more .now)) (start .args .closure .now)
           (start .pre .0) (joined-wide (start .args .closure .now) (start .pre .0) (start .args .more .now)) (c₂ .loop .c + 1) _ (omega arith) next,
       next,
     )
@@ -56,7 +56,7 @@ returns : tie.Need-returns Inv-loop μ-loop
 returns c =
     let c₁ = c .before in
     let start = c₁ .before .before .before in
-    unfold joinedInto in done-end (start .args .n) (start .args .k) (λ i row. union row (start .args .more .now)) (start .args .closure .now)
+    unfold joinedInto in done-end (start .args .n) (start .args .k .0) (λ i row. union row (start .args .more .now)) (start .args .closure .now)
     (start .pre .0) (joined-wide (start .args .closure .now) (start .pre .0) (start .args .more .now)) (c₁ .loop .c) (c₁ .loop .closure) (c₁ .loop .inv .0) (search needs) (c₁ .loop .inv .2)
 
 pub join-all-spec : {M : Type 1} → statement M

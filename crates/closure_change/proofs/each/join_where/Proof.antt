@@ -20,7 +20,7 @@ returns c =
     let c₂ = c₁ .before .before in
     let c₃ = c₂ .before in
     let start = c₃ .before .before .before .before in
-    where-changed (start .args .closure .now) (start .pre .0) (start .args .c) (start .pre .1) (start .args .n) (start .args .k) (λ i row. union row
+    where-changed (start .args .closure .now) (start .pre .0) (start .args .c .0) (start .pre .1) (start .args .n) (start .args .k .0) (λ i row. union row
     (start .args .more .now)) _ (sym (c₃ .holds .ensures) ∙ c₂ .if1 .taken) (c₁ .join-at .ensures)
 
 same-length-2 : tie.Need-same-length-2
@@ -30,7 +30,7 @@ returns-2 : tie.Need-returns-2
 returns-2 c =
     let c₁ = c .before in
     let start = c₁ .before .before .before .before in
-    where-kept (start .args .closure .now) (start .pre .0) (start .args .c) (start .pre .1) (start .args .n) (start .args .k) (λ i row. union row
+    where-kept (start .args .closure .now) (start .pre .0) (start .args .c .0) (start .pre .1) (start .args .n) (start .args .k .0) (λ i row. union row
     (start .args .more .now)) (sym (c₁ .holds .ensures) ∙ c .if1 .left)
 
 pub join-where-spec : {M : Type 1} → statement M

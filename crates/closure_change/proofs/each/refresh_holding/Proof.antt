@@ -28,7 +28,7 @@ returns c =
     let c₂ = c₁ .before .before .before .before in
     let start = c₂ .before .before .before .before in
     c₁ .take-all .ensures
-    ∙ taken-fresh (tableIn Classes (start .args .classes .now)) _ _ (omega arith) (c₂ .refresh-all .ensures) (start .args .n) (start .args .k)
+    ∙ taken-fresh (tableIn Classes (start .args .classes .now)) _ _ (omega arith) (c₂ .refresh-all .ensures) (start .args .n) (start .args .k .0)
     (start .args .closure .now)
 
 pub refresh-holding-spec : {M : Type 1} → statement M

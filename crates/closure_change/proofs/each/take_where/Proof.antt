@@ -26,8 +26,8 @@ put-bytes-requires c κs =
       arith,
       c .closure-start .ensures,
       ap length (c₁ .closure-row .ensures),
-      kept-length (start .args .fresh .now) (start .pre .0) (start .args .c) (start .pre .2),
-      row-there (start .args .closure .now) (start .pre .1) (start .args .c) (start .pre .2),
+      kept-length (start .args .fresh .now) (start .pre .0) (start .args .c .0) (start .pre .2),
+      row-there (start .args .closure .now) (start .pre .1) (start .args .c .0) (start .pre .2),
     )
 
 same-length : tie.Need-same-length
@@ -41,7 +41,7 @@ returns c =
     let c₄ = c₃ .before in
     let c₅ = c₄ .before in
     let start = c₅ .before .before .before .before in
-    where-changed (start .args .closure .now) (start .pre .1) (start .args .c) (start .pre .2) (start .args .n) (start .args .k)
+    where-changed (start .args .closure .now) (start .pre .1) (start .args .c .0) (start .pre .2) (start .args .n) (start .args .k .0)
     (λ i row. closureAt (start .args .fresh .now) i) _ (sym (c₅ .holds .ensures) ∙ c₄ .if1 .taken)
     (c₁ .put-bytes .ensures .bytes
     ∙ ap₂ (λ at row. splice at row (start .args .closure .now)) (c₂ .closure-start .ensures) (c₃ .closure-row .ensures))
@@ -53,7 +53,7 @@ returns-2 : tie.Need-returns-2
 returns-2 c =
     let c₁ = c .before in
     let start = c₁ .before .before .before .before in
-    where-kept (start .args .closure .now) (start .pre .1) (start .args .c) (start .pre .2) (start .args .n) (start .args .k)
+    where-kept (start .args .closure .now) (start .pre .1) (start .args .c .0) (start .pre .2) (start .args .n) (start .args .k .0)
     (λ i row. closureAt (start .args .fresh .now) i) (sym (c₁ .holds .ensures) ∙ c .if1 .left)
 
 pub take-where-spec : {M : Type 1} → statement M

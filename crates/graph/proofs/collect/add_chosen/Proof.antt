@@ -24,7 +24,7 @@ part-of-requires c κs =
     let c₁ = c .before in
     let start = c₁ .before .before .before .before .before in
     let x = c₁ .class-row .result .now in
-    let w : classWidth ≤ length x = table-row-wide Classes (start .args .classes .now) x (start .args .k) (start .pre .0 .long) (omega arith)
+    let w : classWidth ≤ length x = table-row-wide Classes (start .args .classes .now) x (start .args .k .0) (start .pre .0 .long) (omega arith)
     (c₁ .class-row .ensures) in omega arith
 
 join-requires : tie.Need-join-requires
@@ -32,7 +32,7 @@ join-requires c κs =
     let c₁ = c .before .before in
     let start = c₁ .before .before .before .before .before in
     let x = c₁ .class-row .result .now in
-    let w : classWidth ≤ length x = table-row-wide Classes (start .args .classes .now) x (start .args .k) (start .pre .0 .long) (omega arith)
+    let w : classWidth ≤ length x = table-row-wide Classes (start .args .classes .now) x (start .args .k .0) (start .pre .0 .long) (omega arith)
     (c₁ .class-row .ensures) in ap length (c .part-of .ensures) ∙ part-length (start .args .at) attributeSet x (omega arith) ∙ sym (start .pre .1 .2)
 
 same-length : tie.Need-same-length
@@ -46,7 +46,7 @@ returns c =
     let c₄ = c₃ .before in
     let c₅ = c₄ .before in
     let start = c₅ .before .before .before in
-    chosen-joined (tableIn Classes (start .args .classes .now)) (member (start .args .chosen .bits)) (start .args .at) (start .args .k)
+    chosen-joined (tableIn Classes (start .args .classes .now)) (member (start .args .chosen .bits)) (start .args .at) (start .args .k .0)
     (start .args .out .now) (start .pre .1 .2) _ _ _ (sym (c₅ .has .ensures) ∙ c₄ .if1 .taken) (c₃ .class-row .ensures) (c₂ .part-of .ensures)
     (c₁ .join .ensures)
 
@@ -55,7 +55,7 @@ returns-2 c =
     let c₁ = c .before in
     let c₂ = c₁ .before in
     let start = c₂ .before .before in
-    not-chosen (tableIn Classes (start .args .classes .now)) (member (start .args .chosen .bits)) (start .args .at) (start .args .k)
+    not-chosen (tableIn Classes (start .args .classes .now)) (member (start .args .chosen .bits)) (start .args .at) (start .args .k .0)
     (start .args .out .now) (start .pre .1 .2) (λ i. c₂ .slice-known .given i .fits) (sym (c₁ .has .ensures) ∙ c .if1 .left)
 
 pub add-chosen-spec : {M : Type 1} → statement M

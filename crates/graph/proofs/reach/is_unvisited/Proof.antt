@@ -32,7 +32,7 @@ unfolding unvisitedIn
 returns c =
     let c₁ = c .before in
     let start = c₁ .before .before .before in
-    let d = start .args .d in
+    let d = start .args .d .0 in
     unseen-false (member (start .args .fixed .now) d) (member (start .args .other .now) d) _ (sym (c₁ .has .ensures) ∙ c .if1 .taken)
 
 has-requires-2 : tie.Need-has-requires-2

@@ -67,7 +67,7 @@ returns c =
     ∙ row-length 0 closureWidth classLimit (start .args .c .0) (start .args .closure .now) (omega (arith, start .pre .0)) (start .pre .1))
     (c₁ .join .ensures ∙ ap (λ (r : List ℕ). union r (start .args .own .now)) (row-lent (start .args .c .0) _ _ (start .args .closure .now)
     (s .closure-start .ensures) refl)) ∙ ap (λ (q : Bool). splice (closureWidth * start .args .c .0) (cond q (union row (start .args .own .now)) row)
-    (start .args .closure .now)) (sym (passed-test _ _ (start .args .k) _ _ (c₅ .closure-row .ensures) (c₄ .part-of .ensures) (c₃ .has .ensures)
+    (start .args .closure .now)) (sym (passed-test _ _ (start .args .k .0) _ _ (c₅ .closure-row .ensures) (c₄ .part-of .ensures) (c₃ .has .ensures)
     ∙ c₂ .if1 .taken))
 
 same-length-2 : tie.Need-same-length-2
@@ -82,7 +82,7 @@ returns-2 c =
     let start = c₃ .before .before .before .before in
     sym (splice-row (start .args .c .0) (start .args .closure .now) (start .pre .0) (start .pre .1)) ∙ ap (λ (q : Bool). splice
     (closureWidth * start .args .c .0) (cond q (union (closureAt (start .args .closure .now) (start .args .c .0)) (start .args .own .now)) (closureAt
-    (start .args .closure .now) (start .args .c .0))) (start .args .closure .now)) (sym (passed-test _ _ (start .args .k) _ _ (c₃ .closure-row .ensures)
+    (start .args .closure .now) (start .args .c .0))) (start .args .closure .now)) (sym (passed-test _ _ (start .args .k .0) _ _ (c₃ .closure-row .ensures)
     (c₂ .part-of .ensures) (c₁ .has .ensures) ∙ c .if1 .left))
 
 pub pass-to-spec : {M : Type 1} → statement M

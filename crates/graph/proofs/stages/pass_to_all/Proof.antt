@@ -14,7 +14,7 @@ use Rattle.graph.proofs.stages.pass_to_all.Statement.{statement}
 use Rattle.graph.proofs.stages.pass_to_all.Tie as tie
 
 abbrev Inv-loop : tie.InvT-loop
-Inv-loop closure₀ n k own c₀ closure c = (c ≤ n) × (length closure ≡ length closure₀) × (closure ≡ splice 0 (concatBelow c (λ i. passedRow k own
+Inv-loop closure₀ n k own c₀ closure c = (c ≤ n) × (length closure ≡ length closure₀) × (closure ≡ splice 0 (concatBelow c (λ i. passedRow (k .0) own
     (closureAt closure₀ i))) closure₀)
 
 abbrev μ-loop : tie.MeasureT-loop
@@ -25,8 +25,8 @@ loop-holds c =
     let start = c .before .before in (
       search needs,
       refl,
-      rowed-none (λ i. passedRow (start .args .k) (start .args .own .now) (closureAt (start .args .closure .now) i))
-          (start .args .closure .now) (start .pre .0) (passed-rows (start .args .k) (start .args .own .now) (start .args .closure .now) (start .pre .0)),
+      rowed-none (λ i. passedRow (start .args .k .0) (start .args .own .now) (closureAt (start .args .closure .now) i))
+          (start .args .closure .now) (start .pre .0) (passed-rows (start .args .k .0) (start .args .own .now) (start .args .closure .now) (start .pre .0)),
     )
 
 pass-to-requires : tie.Need-pass-to-requires Inv-loop μ-loop
@@ -48,16 +48,16 @@ loop-again c =
     let c₂ = c₁ .before .before in
     let c₃ = c₂ .before in
     let start = c₃ .before .before .before in
-    let next = rowed-more (λ i. passedRow (start .args .k) (start .args .own .now) (closureAt (start .args .closure .now) i)) (start .args .closure .now)
-    (start .pre .0) (passed-rows (start .args .k) (start .args .own .now) (start .args .closure .now) (start .pre .0)) (c₃ .loop .c) (c₃ .loop .closure) _
+    let next = rowed-more (λ i. passedRow (start .args .k .0) (start .args .own .now) (closureAt (start .args .closure .now) i)) (start .args .closure .now)
+    (start .pre .0) (passed-rows (start .args .k .0) (start .args .own .now) (start .args .closure .now) (start .pre .0)) (c₃ .loop .c) (c₃ .loop .closure) _
     (omega (arith, c₂ .loop-test .taken, start .pre .2)) (c₃ .loop .inv .2) (c₁ .pass-to .ensures ∙ ap (λ (row : List ℕ). splice
-    (closureWidth * c₃ .loop .c) (passedRow (start .args .k) (start .args .own .now) row) (c₃ .loop .closure)) (rowed-kept (λ i. passedRow (start .args .k)
-    (start .args .own .now) (closureAt (start .args .closure .now) i)) (start .args .closure .now) (start .pre .0) (passed-rows (start .args .k)
+    (closureWidth * c₃ .loop .c) (passedRow (start .args .k .0) (start .args .own .now) row) (c₃ .loop .closure)) (rowed-kept (λ i. passedRow (start .args .k .0)
+    (start .args .own .now) (closureAt (start .args .closure .now) i)) (start .args .closure .now) (start .pre .0) (passed-rows (start .args .k .0)
     (start .args .own .now) (start .args .closure .now) (start .pre .0)) (c₃ .loop .c) (c₃ .loop .closure) (omega
     (arith, c₂ .loop-test .taken, start .pre .2)) (c₃ .loop .inv .2))) in (
       omega (arith, c₂ .loop-test .taken),
-      rowed-length (λ i. passedRow (start .args .k) (start .args .own .now) (closureAt (start .args .closure .now) i))
-          (start .args .closure .now) (start .pre .0) (passed-rows (start .args .k) (start .args .own .now) (start .args .closure .now) (start .pre .0))
+      rowed-length (λ i. passedRow (start .args .k .0) (start .args .own .now) (closureAt (start .args .closure .now) i))
+          (start .args .closure .now) (start .pre .0) (passed-rows (start .args .k .0) (start .args .own .now) (start .args .closure .now) (start .pre .0))
           (c₃ .loop .c + 1) _ (omega (arith, c₂ .loop-test .taken, start .pre .2)) next,
       next,
     )
@@ -71,8 +71,8 @@ returns : tie.Need-returns Inv-loop μ-loop
 returns c =
     let c₁ = c .before in
     let start = c₁ .before .before .before in
-    rowed-end (λ i. passedRow (start .args .k) (start .args .own .now) (closureAt (start .args .closure .now) i)) (start .args .closure .now)
-    (start .pre .0) (passed-rows (start .args .k) (start .args .own .now) (start .args .closure .now) (start .pre .0)) (start .args .n) (c₁ .loop .c)
+    rowed-end (λ i. passedRow (start .args .k .0) (start .args .own .now) (closureAt (start .args .closure .now) i)) (start .args .closure .now)
+    (start .pre .0) (passed-rows (start .args .k .0) (start .args .own .now) (start .args .closure .now) (start .pre .0)) (start .args .n) (c₁ .loop .c)
     (c₁ .loop .closure) (c₁ .loop .inv .0) (omega (arith, c .loop-test .left)) (c₁ .loop .inv .2)
 
 pub pass-to-all-spec : {M : Type 1} → statement M
