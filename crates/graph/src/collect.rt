@@ -1,4 +1,5 @@
 // The attributes that a set of classes lists: unions over the rows of the class store.
+use crate::visited::Visited;
 use prelude::part::clear;
 use prelude::part::part_of;
 use schema::layout::ATTRIBUTE_SET;
@@ -7,7 +8,6 @@ use schema::number::ClassNumber;
 use schema::number::TableId;
 use schema::store::class_row;
 use schema::store::row_count;
-use sets::visited::Visited;
 ghost use mathlib.Core.Path.{_≡_};
 ghost use Prim.Native.Nat.{_+_, _≤_, _<_};
 ghost use lib.ListN.{length};
@@ -24,7 +24,7 @@ fn add_chosen(classes: &[u8], chosen: Visited, at: usize, k: ClassNumber, out: &
     requires { ⌜ (at + attributeSet ≤ classWidth) × (k .0 < tableIn Classes (now classes) .count) × (length (now out) ≡ attributeSet) ⌝ }
     ensures { λ _. ⌜ now (out .exit) ≡ plus (now (out .entry)) (chosenLists (tableIn Classes (now (classes .entry))) (member (chosen .bits)) at (k .0)) ⌝ }
 {
-    if chosen.has(k.0) {
+    if chosen.has(k) {
         let row = class_row(classes, k);
         sets::join(out, part_of(row, at, ATTRIBUTE_SET));
     }

@@ -5,3 +5,4 @@ pub mod demand;
 pub mod depth;
 pub mod reach;
 pub mod stages;
+pub mod visited;

@@ -1,4 +1,5 @@
 // The classes that a class reaches. Document 01: "A class *reaches* itself, its superclass, all its auxiliaries, and what these reach".
+use crate::visited::Visited;
 use schema::class::fixed_auxiliary;
 use schema::class::open_auxiliary;
 use schema::class::superclass;
@@ -7,7 +8,6 @@ use schema::number::ClassRead;
 use schema::number::TableId;
 use schema::store::class_row;
 use schema::store::row_count;
-use sets::visited::Visited;
 ghost use mathlib.Core.Path.{_≡_};
 ghost use Prim.Native.Nat.{_≤_, _<_};
 ghost use Rattle.sets.specs.Sets.{member, setOf, from};
@@ -28,14 +28,13 @@ pub enum NextClass {
 fn is_unvisited(fixed: &[u8], other: &[u8], seen: Visited, d: ClassNumber) -> bool
     ensures { λ r. ⌜ r ≡ unvisitedIn (now (fixed .entry)) (now (other .entry)) (seen .bits) (d .0) ⌝ }
 {
-    let n = d.0;
-    if seen.has(n) {
+    if seen.has(d) {
         return false;
     }
-    if sets::has(fixed, n) {
+    if sets::has(fixed, d.0) {
         return true;
     }
-    sets::has(other, n)
+    sets::has(other, d.0)
 }
 
 // The first number from start on, below n, that is in one of two sets and not visited.
@@ -70,14 +69,13 @@ fn visit(classes: &[u8], c: ClassNumber, seen: Visited) -> Visited
     requires { ⌜ Readable (now classes) ⌝ }
     ensures { λ r. ⌜ r .bits ≡ setOf classSet (afterVisit (tableIn Classes (now (classes .entry))) (member (seen .bits)) (c .0)) ⌝ }
 {
-    let n = c.0;
-    if row_count(TableId::Classes, classes) <= n {
+    if row_count(TableId::Classes, classes) <= c.0 {
         return seen;
     }
-    if seen.has(n) {
+    if seen.has(c) {
         return seen;
     }
-    let marked = seen.with(n);
+    let marked = seen.with(c);
     let above = superclass(class_row(classes, c));
     let ClassRead::Class(up) = above else {
         return walk(classes, c, 0, marked);

@@ -1,6 +1,5 @@
 // Sets of small numbers as byte strings: n is a member where bit n % 8, the least significant first, of byte n / 8 is set. A set has the length
 // of the slice that holds it: 16 bytes for classes, 32 for attributes.
-pub mod visited;
 
 use prelude::part::is_zero;
 ghost use mathlib.Core.Path.{_≡_};

@@ -35,8 +35,8 @@ use Rattle.graph.proofs.reach.next_unvisited.Reads as next-unvisited-re
 use Rattle.schema.proofs.class.superclass.Reads as superclass-reads
 use Rattle.schema.proofs.store.row_count.Reads as row-count-reads
 use Rattle.schema.proofs.store.class_row.Reads as class-row-reads
-use Rattle.sets.proofs.visited.Visited.has.Reads as has-reads
-use Rattle.sets.proofs.visited.Visited.with.Reads as with-reads
+use Rattle.graph.proofs.visited.Visited.has.Reads as has-reads
+use Rattle.graph.proofs.visited.Visited.with.Reads as with-reads
 
 abbrev μ-visit : Measures 1 visit-kinds.ps ℕ
 μ-visit κs a = unvisitedCount (a .1 .1 .0 .bits) * 256
@@ -91,22 +91,22 @@ visit-row-count-requires t c κs = search needs
 
 visit-returns : (t : ℕ) → visit-lts.Need-returns (visit-calls t) (visit-at t) visit.Post
 visit-returns t c =
-    let a = c .before .before .before .args in
+    let a = c .before .before .before .before .args in
     let long : length (a .seen .bits) ≡ classSet = search needs in
     let small : (i : ℕ) → Fits w8 (getD (a .seen .bits) i 0) = λ i. search needs in
     let whole : ClassBytes (a .seen .bits) = record { long = long; bytes = λ i. small i .fits } in
-    visit-absent (tableIn Classes (a .classes .now)) ((c .before .before .before) .pre .1 .few) (a .c .0) (a .seen .bits) whole (omega arith)
+    visit-absent (tableIn Classes (a .classes .now)) ((c .before .before .before .before) .pre .1 .few) (a .c .0) (a .seen .bits) whole (omega arith)
 
 visit-has-requires : (t : ℕ) → visit-lts.Need-has-requires (visit-calls t) (visit-at t) visit.Post
 visit-has-requires t c κs = search needs
 
 visit-returns-2 : (t : ℕ) → visit-lts.Need-returns-2 (visit-calls t) (visit-at t) visit.Post
 visit-returns-2 t c =
-    let a = c .before .before .before .before .before .args in
+    let a = c .before .before .before .before .before .before .args in
     let long : length (a .seen .bits) ≡ classSet = search needs in
     let small : (i : ℕ) → Fits w8 (getD (a .seen .bits) i 0) = λ i. search needs in
     let whole : ClassBytes (a .seen .bits) = record { long = long; bytes = λ i. small i .fits } in
-    visit-seen (tableIn Classes (a .classes .now)) ((c .before .before .before .before .before) .pre .1 .few) (a .c .0) (a .seen .bits) whole
+    visit-seen (tableIn Classes (a .classes .now)) ((c .before .before .before .before .before .before) .pre .1 .few) (a .c .0) (a .seen .bits) whole
     (sym (c .before .has .ensures) ∙ c .if2 .taken)
 
 visit-with-requires : (t : ℕ) → visit-lts.Need-with-requires (visit-calls t) (visit-at t) visit.Post
@@ -116,9 +116,9 @@ visit-class-row-requires : (t : ℕ) → visit-lts.Need-class-row-requires (visi
 visit-class-row-requires t c κs = search needs
 
 visit-superclass-requires : (t : ℕ) → visit-lts.Need-superclass-requires (visit-calls t) (visit-at t) visit.Post
-visit-superclass-requires t c κs = table-row-wide Classes (c .before .before .before .before .before .before .before .args .classes .now) _
-    (c .before .before .before .before .before .before .before .args .c .0)
-    ((c .before .before .before .before .before .before .before) .pre .1 .long) (omega arith) (c .class-row .ensures)
+visit-superclass-requires t c κs = table-row-wide Classes (c .before .before .before .before .before .before .before .before .args .classes .now) _
+    (c .before .before .before .before .before .before .before .before .args .c .0)
+    ((c .before .before .before .before .before .before .before .before) .pre .1 .long) (omega arith) (c .class-row .ensures)
 
 visit-enum-known-above : (t : ℕ) → visit-lts.Need-enum-known-above (visit-calls t) (visit-at t) visit.Post
 visit-enum-known-above t c = search needs
@@ -128,7 +128,7 @@ visit-enum-told t c = search needs
 
 visit-walk-requires : (t : ℕ) → visit-lts.Need-walk-requires (visit-calls t) (visit-at t) visit.Post
 visit-walk-requires t c κs =
-    let s = (c .before .before .before .before .before .before .before .before .before .before) in
+    let s = (c .before .before .before .before .before .before .before .before .before .before .before) in
     let b = s .args .seen .bits in
     let m = c .before .before .before .before .with .result .bits in
     let t0 = tableIn Classes (s .args .classes .now) in
@@ -141,7 +141,7 @@ visit-walk-requires t c κs =
 
 visit-returns-3 : (t : ℕ) → visit-lts.Need-returns-3 (visit-calls t) (visit-at t) visit.Post
 visit-returns-3 t c =
-    let s = (c .before .before .before .before .before .before .before .before .before .before .before) in
+    let s = (c .before .before .before .before .before .before .before .before .before .before .before .before) in
     let b = s .args .seen .bits in
     let m = c .before .before .before .before .before .with .result .bits in
     let t0 = tableIn Classes (s .args .classes .now) in
@@ -160,7 +160,7 @@ visit-returns-3 t c =
 
 visit-visit-requires : (t : ℕ) → visit-lts.Need-visit-requires (visit-calls t) (visit-at t) visit.Post
 visit-visit-requires t c κs =
-    let s = (c .before .before .before .before .before .before .before .before .before .before .before) in
+    let s = (c .before .before .before .before .before .before .before .before .before .before .before .before) in
     let b = s .args .seen .bits in
     let m = c .before .before .before .before .before .with .result .bits in
     let t0 = tableIn Classes (s .args .classes .now) in
@@ -173,7 +173,7 @@ visit-visit-requires t c κs =
 
 visit-walk-requires-2 : (t : ℕ) → visit-lts.Need-walk-requires-2 (visit-calls t) (visit-at t) visit.Post
 visit-walk-requires-2 t c κs =
-    let s = (c .before .before .before .before .before .before .before .before .before .before .before .before) in
+    let s = (c .before .before .before .before .before .before .before .before .before .before .before .before .before) in
     let b = s .args .seen .bits in
     let m = c .before .before .before .before .before .before .with .result .bits in
     let t0 = tableIn Classes (s .args .classes .now) in
@@ -190,7 +190,7 @@ visit-walk-requires-2 t c κs =
 
 visit-returns-4 : (t : ℕ) → visit-lts.Need-returns-4 (visit-calls t) (visit-at t) visit.Post
 visit-returns-4 t c =
-    let s = (c .before .before .before .before .before .before .before .before .before .before .before .before .before) in
+    let s = (c .before .before .before .before .before .before .before .before .before .before .before .before .before .before) in
     let b = s .args .seen .bits in
     let m = c .before .before .before .before .before .before .before .with .result .bits in
     let t0 = tableIn Classes (s .args .classes .now) in

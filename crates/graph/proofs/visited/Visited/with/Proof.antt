@@ -2,8 +2,8 @@ use mathlib.Core.Path.{_≡_}
 use lib.ListN.{length}
 use native.Mathlib.Omega.{arith}
 use borrow.Author.Needs.{needs}
-use Rattle.sets.proofs.visited.Visited.with.Statement.{statement}
-use Rattle.sets.proofs.visited.Visited.with.Tie as tie
+use Rattle.graph.proofs.visited.Visited.with.Statement.{statement}
+use Rattle.graph.proofs.visited.Visited.with.Tie as tie
 
 slice-aggregate-insert : tie.Need-slice-aggregate-insert
 slice-aggregate-insert c = search needs

@@ -1,7 +1,7 @@
 use mathlib.Core.Path.{refl}
 use Rattle.prelude.specs.Part.{zeros}
-use Rattle.sets.proofs.visited.Visited.none.Statement.{statement}
-use Rattle.sets.proofs.visited.Visited.none.Tie as tie
+use Rattle.graph.proofs.visited.Visited.none.Statement.{statement}
+use Rattle.graph.proofs.visited.Visited.none.Tie as tie
 
 returns : tie.Need-returns
 unfolding zeros
