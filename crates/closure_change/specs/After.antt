@@ -1,6 +1,6 @@
 -- What a quick change does with the closure, and its rule 30. Here r is what the change carries, t the class table after it, and n how many classes
 -- there were before.
-use Rattle.schema.specs.Numbers.{classLimit}
+use Rattle.schema.specs.Numbers.{classLimit, limit}
 use Rattle.schema.specs.Layout.{classWidth, closureLength}
 use mathlib.Core.Path.{_≡_}
 use lib.ListN.{length}
@@ -17,6 +17,7 @@ use Rattle.change_read.specs.declared.read.Change.the-variants.{Add, SetRange, 
 use Rattle.change_read.specs.declared.carried.OpenList.{OpenList}
 use Rattle.change_read.specs.declared.carried.OpenList.the-variants.{Optional, Auxiliary, Superior}
 use Rattle.change_read.specs.Carried.{entryOf, listOf, targetOf}
+use Rattle.change_rows.specs.Lists.{listTable}
 use Rattle.closure_change.specs.Kept.{joinedInto, optionRow, refreshedAt, withNew}
 
 -- an entry was added to a list of class k: "an added auxiliary or optional attribute is joined in"
@@ -63,11 +64,11 @@ demandBefore (Reactivate u) r t old = old
 demandBefore AddEntry r t old = old
 demandBefore RemoveEntry r t old = demandedSet t (targetOf r)
 
--- what the code knows on its way: the stores can be read, and an entry that was added, with its class, lies within the closure store
+-- what the code knows on its way: the stores can be read, and an entry that was added, with its class, is within its limit
 pub record Updatable (change : Change) (r classes closure : List ℕ) : Type 0 where
   pub carried : length r ≡ classWidth
   pub readable : Readable classes
   pub long : closureLength ≤ length closure
   pub target : change ≡ AddEntry → targetOf r < classLimit
   pub removed : change ≡ RemoveEntry → targetOf r < classLimit
-  pub entry : change ≡ AddEntry → listOf r ≡ Auxiliary → entryOf r < classLimit
+  pub entry : change ≡ AddEntry → entryOf r < limit (listTable (listOf r))

@@ -3,10 +3,10 @@ use crate::added::write_new;
 use crate::each::join_all;
 use crate::each::refresh_holding;
 use change_read::carried::OpenList;
-use change_read::carried::entry_of;
 use change_read::carried::list_of;
 use change_read::carried::target_of;
 use change_read::read::Change;
+use change_rows::list::entry_read;
 use graph::closure::write_demanded;
 use prelude::part::clear;
 use prelude::part::copy_padded;
@@ -17,8 +17,11 @@ use schema::layout::ALLOWED;
 use schema::layout::ATTRIBUTE_SET;
 use schema::layout::CLOSURE_WIDTH;
 use schema::layout::DEMANDED;
+use schema::number::AttributeNumber;
 use schema::number::ClassNumber;
 use schema::number::ClassRead;
+use schema::number::NumberRead;
+use schema::number::RowId;
 use schema::number::TableId;
 use schema::store::closure_row;
 ghost use mathlib.Core.Bool.{not};
@@ -27,30 +30,31 @@ ghost use Prim.Native.Nat.{_≤_, _<_};
 ghost use lib.ListN.{length};
 ghost use Rattle.prelude.specs.Part.{sameBytes};
 ghost use Rattle.sets.specs.Sets.{subset};
-ghost use Rattle.schema.specs.Numbers.{classLimit};
+ghost use Rattle.schema.specs.Numbers.{classLimit, limit, numberOf, tableOf};
 ghost use Rattle.schema.specs.Layout.{attributeSet, classWidth, closureLength, closureWidth};
 ghost use Rattle.schema.specs.Store.{closureAt, demandedIn, tableIn};
 ghost use Rattle.schema.specs.declared.number.TableId.the-variants.{Classes};
 ghost use Rattle.graph.specs.Graph.{Readable, demandedSet};
 ghost use Rattle.change_read.specs.Carried.{targetOf};
+ghost use Rattle.change_rows.specs.Lists.{listTable};
 ghost use Rattle.closure_change.specs.Kept.{joinedInto, optionRow};
 ghost use Rattle.closure_change.specs.After.{Updatable, closureAfter, entryJoined, entryDemands, demandBefore, demandChanges};
 
 // out becomes the kept sets of a class that allows attribute b alone.
-fn write_option(b: usize, out: &mut [u8])
+fn write_option(b: AttributeNumber, out: &mut [u8])
     requires { ⌜ length (now out) ≡ closureWidth ⌝ }
-    ensures { λ _. ⌜ now (out .exit) ≡ optionRow b ⌝ }
+    ensures { λ _. ⌜ now (out .exit) ≡ optionRow (b .0) ⌝ }
 {
     let mut allowed = [0u8; ATTRIBUTE_SET];
-    sets::insert(&mut allowed, b);
+    sets::insert(&mut allowed, b.0);
     clear(out);
     put_bytes(&allowed, out, ALLOWED);
 }
 
 // An optional attribute is joined in for every class whose kept reach holds class k.
-fn join_option(b: usize, n: usize, k: ClassNumber, closure: &mut [u8])
+fn join_option(b: AttributeNumber, n: usize, k: ClassNumber, closure: &mut [u8])
     requires { ⌜ closureLength ≤ length (now closure) ⌝ }
-    ensures { λ _. ⌜ now (closure .exit) ≡ joinedInto n (k .0) (optionRow b) (now (closure .entry)) ⌝ }
+    ensures { λ _. ⌜ now (closure .exit) ≡ joinedInto n (k .0) (optionRow (b .0)) (now (closure .entry)) ⌝ }
 {
     let mut more = [0u8; CLOSURE_WIDTH];
     write_option(b, &mut more);
@@ -68,14 +72,19 @@ fn join_auxiliary(a: ClassNumber, n: usize, k: ClassNumber, closure: &mut [u8])
 }
 
 // The closure store after an entry was added to a list of class k.
-fn join_entry(list: OpenList, entry: usize, n: usize, k: ClassNumber, closure: &mut [u8])
-    requires { ⌜ (closureLength ≤ length (now closure)) × (list ≡ OpenList.Auxiliary → entry < classLimit) ⌝ }
-    ensures { λ _. ⌜ now (closure .exit) ≡ entryJoined list entry n (k .0) (now (closure .entry)) ⌝ }
+fn join_entry(list: OpenList, entry: RowId, n: usize, k: ClassNumber, closure: &mut [u8])
+    requires { ⌜ (closureLength ≤ length (now closure)) × (tableOf entry ≡ listTable list) × (numberOf entry < limit (tableOf entry)) ⌝ }
+    ensures { λ _. ⌜ now (closure .exit) ≡ entryJoined list (numberOf entry) n (k .0) (now (closure .entry)) ⌝ }
 {
     match list {
-        OpenList::Optional => join_option(entry, n, k, closure),
+        OpenList::Optional => {
+            let RowId::Attribute(b) = entry else {
+                return;
+            };
+            join_option(b, n, k, closure)
+        }
         OpenList::Auxiliary => {
-            let ClassRead::Class(a) = ClassNumber::new(entry) else {
+            let RowId::Class(a) = entry else {
                 return;
             };
             join_auxiliary(a, n, k, closure)
@@ -108,7 +117,10 @@ pub fn update(change: Change, scratch: &[u8], classes: &[u8], n: usize, closure:
             let ClassRead::Class(k) = ClassNumber::new(target_of(scratch) as usize) else {
                 return;
             };
-            join_entry(list_of(scratch), entry_of(scratch) as usize, n, k, closure);
+            let NumberRead::Row(entry) = entry_read(scratch) else {
+                return;
+            };
+            join_entry(list_of(scratch), entry, n, k, closure);
         }
         Change::RemoveEntry => {
             let ClassRead::Class(k) = ClassNumber::new(target_of(scratch) as usize) else {
@@ -153,14 +165,15 @@ fn auxiliary_demands(a: ClassNumber, k: ClassNumber, closure: &[u8]) -> bool
 }
 
 // Rule 30 for an entry added to a list of class k.
-fn entry_demands(list: OpenList, entry: usize, k: ClassNumber, closure: &[u8]) -> bool
-    requires { ⌜ (closureLength ≤ length (now closure)) × (list ≡ OpenList.Auxiliary → entry < classLimit) × (k .0 < classLimit) ⌝ }
-    ensures { λ r. ⌜ r ≡ entryDemands list entry (k .0) (now (closure .entry)) ⌝ }
+fn entry_demands(list: OpenList, entry: RowId, k: ClassNumber, closure: &[u8]) -> bool
+    requires { ⌜ (closureLength ≤ length (now closure)) × (tableOf entry ≡ listTable list) × (numberOf entry < limit (tableOf entry))
+        × (k .0 < classLimit) ⌝ }
+    ensures { λ r. ⌜ r ≡ entryDemands list (numberOf entry) (k .0) (now (closure .entry)) ⌝ }
 {
     match list {
         OpenList::Optional => false,
         OpenList::Auxiliary => {
-            let ClassRead::Class(a) = ClassNumber::new(entry) else {
+            let RowId::Class(a) = entry else {
                 return false;
             };
             auxiliary_demands(a, k, closure)
@@ -201,7 +214,10 @@ pub fn demand_changes(
             let ClassRead::Class(k) = ClassNumber::new(target_of(scratch) as usize) else {
                 return false;
             };
-            entry_demands(list_of(scratch), entry_of(scratch) as usize, k, closure)
+            let NumberRead::Row(entry) = entry_read(scratch) else {
+                return false;
+            };
+            entry_demands(list_of(scratch), entry, k, closure)
         }
         Change::RemoveEntry => {
             let ClassRead::Class(k) = ClassNumber::new(target_of(scratch) as usize) else {

@@ -1,13 +1,13 @@
-use mathlib.Core.Path.{_∙_, ap, sym, subst}
-use Rattle.schema.specs.NumbersLaws.{class-is, class-beyond}
-use Rattle.schema.specs.Numbers.{classLimit}
+use mathlib.Core.Bool.{not}
+use mathlib.Core.Path.{_∙_, ap, sym}
+use Rattle.prelude.specs.Part.{sameBytes}
+use Rattle.schema.specs.NumbersLaws.{class-is, class-beyond, number-beyond}
 use Rattle.schema.specs.Store.{tableIn}
 use Rattle.schema.specs.declared.number.TableId.the-variants.{Classes}
-use Rattle.closure_change.proofs.Carried.{entry-same}
-use Prim.Native.Nat.{_<_}
-use mathlib.Core.Bool.{not}
-use Rattle.prelude.specs.Part.{sameBytes}
 use Rattle.graph.specs.Graph.{demandedSet}
+use Rattle.change_read.specs.Carried.{entryOf, listOf}
+use Rattle.change_rows.specs.Lists.{listTable}
+use Rattle.closure_change.proofs.Carried.{entry-is, entry-same}
 use native.Mathlib.Omega.{arith}
 use borrow.Author.Needs.{needs}
 use Rattle.closure_change.proofs.after.demand_changes.Statement.{statement}
@@ -54,37 +54,49 @@ returns c =
     let start = c₃ .before .before .before .before .before .before in
     absurd (omega (
       arith,
-      class-beyond (c₂ .target-of .result) (sym (c₁ .new .ensures)
-          ∙ c .enum-told7 .given .1),
+      class-beyond (c₂ .target-of .result) (sym (c₁ .new .ensures) ∙ c .enum-told7 .given .1),
       c₂ .target-of .ensures,
       start .pre .target (c₃ .enum-told6 .given .1),
+    ))
+
+entry-read-requires : tie.Need-entry-read-requires
+entry-read-requires c κs = search needs
+
+enum-known-entry : tie.Need-enum-known-entry
+enum-known-entry c = search needs
+
+enum-told-8 : tie.Need-enum-told-8
+enum-told-8 c = search needs
+
+returns-2 : tie.Need-returns-2
+returns-2 c =
+    let c₁ = c .before .before in
+    let c₂ = c₁ .before .before .before .before .before .before in
+    let start = c₂ .before .before .before .before .before .before in
+    let r = start .args .scratch .now in
+    absurd (omega (
+      arith,
+      number-beyond (listTable (listOf r)) (entryOf r) (sym (c₁ .entry-read .ensures) ∙ c .enum-told8 .given .1),
+      start .pre .entry (c₂ .enum-told6 .given .1),
     ))
 
 list-of-requires : tie.Need-list-of-requires
 list-of-requires c κs = search needs
 
-entry-of-requires : tie.Need-entry-of-requires
-entry-of-requires c κs = search needs
-
-cast-entry-demands : tie.Need-cast-entry-demands
-cast-entry-demands c = search needs
-
 entry-demands-requires : tie.Need-entry-demands-requires
 entry-demands-requires c κs =
-    let c₁ = c .before in
+    let c₁ = c .before .before in
     let c₂ = c₁ .before .before in
     let c₃ = c₂ .before .before in
-    let c₄ = c₃ .before in
+    let c₄ = c₃ .before .before in
     let c₅ = c₄ .before in
-    let start = c₅ .before .before .before .before .before .before in
-    let w = class-is (c₄ .target-of .result) _ (sym (c₃ .new .ensures) ∙ c₂ .k .given .1) in (
-      start .pre .long,
-      λ e. subst (λ x. x < classLimit) (sym (c .entry-of .ensures)) (start .pre .entry (c₅ .enum-told6 .given .1) (sym (c₁ .list-of .ensures) ∙ e)),
-      omega (arith, w .0, w .1),
-    )
+    let start = c₅ .before .before .before .before .before .before .before in
+    let entry = entry-is (start .args .scratch .now) (sym (c₂ .entry-read .ensures) ∙ c₁ .entry .given .1) in
+    let target = class-is (c₅ .target-of .result) _ (sym (c₄ .new .ensures) ∙ c₃ .k .given .1) in
+    (start .pre .long, entry .table ∙ ap listTable (sym (c .list-of .ensures)), entry .below, omega (arith, target .0, target .1))
 
-enum-told-8 : tie.Need-enum-told-8
-enum-told-8 c = search needs
+enum-told-9 : tie.Need-enum-told-9
+enum-told-9 c = search needs
 
 target-of-requires-2 : tie.Need-target-of-requires-2
 target-of-requires-2 c κs = search needs
@@ -98,28 +110,24 @@ new-requires-2 c κs = search needs
 enum-known-k-2 : tie.Need-enum-known-k-2
 enum-known-k-2 c = search needs
 
-enum-told-9 : tie.Need-enum-told-9
-enum-told-9 c = search needs
+enum-told-10 : tie.Need-enum-told-10
+enum-told-10 c = search needs
 
-returns-2 : tie.Need-returns-2
-returns-2 c =
+returns-3 : tie.Need-returns-3
+returns-3 c =
     let c₁ = c .before .before in
     let c₂ = c₁ .before in
     let c₃ = c₂ .before in
     let start = c₃ .before .before .before .before .before .before in
     absurd (omega (
       arith,
-      class-beyond (c₂ .target-of2 .result) (sym (c₁ .new2 .ensures)
-          ∙ c .enum-told9 .given .1),
+      class-beyond (c₂ .target-of2 .result) (sym (c₁ .new2 .ensures) ∙ c .enum-told10 .given .1),
       c₂ .target-of2 .ensures,
-      start .pre .removed (c₃ .enum-told8 .given .1),
+      start .pre .removed (c₃ .enum-told9 .given .1),
     ))
 
 demand-differs-requires : tie.Need-demand-differs-requires
 demand-differs-requires c κs = search needs
-
-returns-3 : tie.Need-returns-3
-returns-3 c = search needs
 
 returns-4 : tie.Need-returns-4
 returns-4 c = search needs
@@ -134,28 +142,33 @@ returns-7 : tie.Need-returns-7
 returns-7 c = search needs
 
 returns-8 : tie.Need-returns-8
-returns-8 c =
-    let c₁ = c .before in
-    let c₂ = c₁ .before in
-    let c₃ = c₂ .before .before in
-    let c₄ = c₃ .before .before in
-    let c₅ = c₄ .before in
-    let c₆ = c₅ .before in
-    let start = c₆ .before .before .before .before .before .before in
-    let w = class-is (c₅ .target-of .result) _ (sym (c₄ .new .ensures) ∙ c₃ .k .given .1) in
-    rw (c₆ .enum-told6 .given .1) (c .entry-demands .ensures ∙ entry-same (c₂ .list-of .ensures) (c₁ .entry-of .ensures) (sym (w .0) ∙ c₅ .target-of .ensures)
-    (start .args .closure .now))
+returns-8 c = search needs
 
 returns-9 : tie.Need-returns-9
 returns-9 c =
+    let c₁ = c .before in
+    let c₂ = c₁ .before .before in
+    let c₃ = c₂ .before .before in
+    let c₄ = c₃ .before .before in
+    let c₅ = c₄ .before .before in
+    let c₆ = c₅ .before in
+    let c₇ = c₆ .before in
+    let start = c₇ .before .before .before .before .before .before in
+    let entry = entry-is (start .args .scratch .now) (sym (c₃ .entry-read .ensures) ∙ c₂ .entry .given .1) in
+    let target = class-is (c₆ .target-of .result) _ (sym (c₅ .new .ensures) ∙ c₄ .k .given .1) in
+    rw (c₇ .enum-told6 .given .1) (c .entry-demands .ensures
+    ∙ entry-same (c₁ .list-of .ensures) (entry .number) (sym (target .0) ∙ c₆ .target-of .ensures) (start .args .closure .now))
+
+returns-10 : tie.Need-returns-10
+returns-10 c =
     let c₁ = c .before .before in
     let c₂ = c₁ .before .before in
     let c₃ = c₂ .before in
     let c₄ = c₃ .before in
     let start = c₄ .before .before .before .before .before .before in
-    let w = class-is (c₃ .target-of2 .result) _ (sym (c₂ .new2 .ensures) ∙ c₁ .k2 .given .1) in
-    rw (c₄ .enum-told8 .given .1) (c .demand-differs .ensures ∙ ap (λ k. not (sameBytes (start .args .before .now) (demandedSet (tableIn Classes
-    (start .args .classes .now)) k))) (sym (w .0) ∙ c₃ .target-of2 .ensures))
+    let target = class-is (c₃ .target-of2 .result) _ (sym (c₂ .new2 .ensures) ∙ c₁ .k2 .given .1) in
+    rw (c₄ .enum-told9 .given .1) (c .demand-differs .ensures ∙ ap (λ k. not (sameBytes (start .args .before .now) (demandedSet (tableIn Classes
+    (start .args .classes .now)) k))) (sym (target .0) ∙ c₃ .target-of2 .ensures))
 
 pub demand-changes-spec : {M : Type 1} → statement M
 demand-changes-spec =
@@ -173,22 +186,24 @@ demand-changes-spec =
     enum-known-k
     enum-told-7
     returns
-    list-of-requires
-    entry-of-requires
-    cast-entry-demands
-    entry-demands-requires
+    entry-read-requires
+    enum-known-entry
     enum-told-8
+    returns-2
+    list-of-requires
+    entry-demands-requires
+    enum-told-9
     target-of-requires-2
     cast-new-2
     new-requires-2
     enum-known-k-2
-    enum-told-9
-    returns-2
-    demand-differs-requires
+    enum-told-10
     returns-3
+    demand-differs-requires
     returns-4
     returns-5
     returns-6
     returns-7
     returns-8
-    returns-9)
+    returns-9
+    returns-10)

@@ -30,7 +30,7 @@ returns c =
     let c₂ = c₁ .before .before .before .before .before in
     let c₃ = c₂ .before .before .before in
     let start = c₃ .before .before .before in
-    option-written (start .args .b) refl (c₃ .insert .ensures) (c₂ .clear .ensures ∙ ap zeros (start .pre)) (c₁ .put-bytes .ensures)
+    option-written (start .args .b .0) refl (c₃ .insert .ensures) (c₂ .clear .ensures ∙ ap zeros (start .pre)) (c₁ .put-bytes .ensures)
 
 pub write-option-spec : {M : Type 1} → statement M
 write-option-spec =
