@@ -25,7 +25,7 @@ use Rattle.tables_shape.specs.ShapeLaws.{formed-shaped}
 use Rattle.rules.specs.declared.row.Added.{Added}
 use Rattle.rules.specs.Rules.{rowCases, schemaRules}
 use Rattle.rules.specs.SameLaws.{row-cases-same}
-use Rattle.change_read.specs.declared.carried.OpenList.the-variants.{Auxiliary}
+use Rattle.change_rows.specs.Lists.{listTable}
 use Rattle.change_read.specs.declared.read.Change.{Change}
 use Rattle.change_read.specs.declared.read.Change.the-variants.{Add, AddEntry, RemoveEntry}
 use Rattle.change_read.specs.declared.read.ChangeRead.{ChangeRead}
@@ -39,7 +39,7 @@ use Rattle.change_asked.specs.Asked.{askedCases, firstAsked}
 use Rattle.change_asked.specs.AskedLaws.{asked-there}
 use Rattle.change_model.specs.Sound.{rowNumber}
 use Rattle.change_model.specs.Model.{addedBy, answerBy, changedCases}
-use Rattle.change_model.specs.ThereLaws.{class-room, entry-class}
+use Rattle.change_model.specs.ThereLaws.{class-room, entry-there}
 use Rattle.closure_change.specs.After.{Updatable, closureAfter, demandBefore, demandChanges}
 use Rattle.closure_change.specs.SameLaws.{after-same, demand-same}
 use Rattle.keeper.specs.Answering.{InShape, firstAnswer, shapeAnswers}
@@ -49,7 +49,7 @@ use Rattle.keeper_change.specs.Judged.{RowThere, judgedRow}
 use Rattle.keeper_change.specs.Made.{Allowed, before, rowsMade}
 use Rattle.keeper_change.specs.MadeLaws.{made-same, row-table}
 use Rattle.keeper_change.specs.Quick.{InShapeFor, quickAnswer, quickChange, quickDiffers, quickMade, quickNumber, quickRead, quickTo}
-use Rattle.keeper_change.proofs.Making.{classes-few, closure-long, made-readable, made-shaped, number-is}
+use Rattle.keeper_change.proofs.Making.{closure-long, few-rows, made-readable, made-shaped, number-is}
 use Rattle.schema.specs.Refusals as refusal
 
 -- ---- what a quick change comes to once its stores are in shape
@@ -174,16 +174,16 @@ module _ (change : Change) (r : List ℕ) (s : Stores) (j : Allowed change r s) 
     carried = change-length (j .read .text) change r (j .read .bytes) (j .read .reads);
     readable = made-readable change r s j;
     long = closure-long change r s j;
-    target = λ e. omega (arith, target-there AddEntry e refl, classes-few change r s j);
-    removed = λ e. omega (arith, target-there RemoveEntry e refl, classes-few change r s j);
-    entry = λ e l. omega (arith, entry-there e l, classes-few change r s j);
+    target = λ e. omega (arith, target-there AddEntry e refl, few-rows change r s j Classes);
+    removed = λ e. omega (arith, target-there RemoveEntry e refl, few-rows change r s j Classes);
+    entry = λ e. omega (arith, entry-below e, few-rows change r s j (listTable (listOf r)));
   }
     where
       target-there : (x : Change) → change ≡ x → isAddition x ≡ false → targetOf r < table (tableFor x) m .count
       target-there x e f = asked-there x r m (subst (λ (y : Change). firstAsked y r m ≡ 0) e (j .asked)) f
 
-      entry-there : change ≡ AddEntry → listOf r ≡ Auxiliary → entryOf r < m .classes .count
-      entry-there e l = entry-class r m (subst (λ (x : Change). rowNumber x r m ≡ 0) e z) l
+      entry-below : change ≡ AddEntry → entryOf r < table (listTable (listOf r)) m .count
+      entry-below e = entry-there r m (subst (λ (x : Change). rowNumber x r m ≡ 0) e z)
 
   -- what the code has found on its way
   module _ {added : Added} {a c : List ℕ} {b : Before} {n : ℕ} (is : added ≡ addedBy change r n) (count : n ≡ m .classes .count)

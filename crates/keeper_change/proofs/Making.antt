@@ -27,6 +27,7 @@ use Rattle.change_model.specs.ThereLaws.{class-room}
 use Rattle.keeper.specs.Answering.{InShape}
 use Rattle.graph.specs.Graph.{Readable}
 use Rattle.tables.specs.Shaped.{Shaped}
+use Rattle.tables_shape.specs.Shape.{StoresFormed}
 use Rattle.tables_shape.specs.ShapeLaws.{formed-readable, says-formed, formed-shaped}
 
 module _ (change : Change) (r : List ℕ) (s : Stores) (j : Allowed change r s) where
@@ -57,8 +58,12 @@ module _ (change : Change) (r : List ℕ) (s : Stores) (j : Allowed change r s) 
   pub made-readable : Readable (rowsMade change r s .classes)
   made-readable = formed-readable _ _ (new-shape .long .attributes) (new-shape .long .classes) (new-shape .formed)
 
-  pub classes-few : m .classes .count ≤ classLimit
-  classes-few = says-formed (s .attributes) (s .classes) (j .shape .long .attributes) (j .shape .long .classes) .holds (j .shape .formed) .classes .few
+  formed : StoresFormed (s .attributes) (s .classes)
+  formed = says-formed (s .attributes) (s .classes) (j .shape .long .attributes) (j .shape .long .classes) .holds (j .shape .formed)
+
+  pub few-rows : (t : TableId) → table t m .count ≤ limit t
+  few-rows Attributes = formed .attributes .few
+  few-rows Classes = formed .classes .few
 
   pub closure-long : closureLength ≤ length (s .closure)
   closure-long = j .shape .long .closure
@@ -84,9 +89,8 @@ module _ (change : Change) (r : List ℕ) (s : Stores) (j : Allowed change r s) 
       store-long Classes = new-shape .long .classes
 
       counted : (t : TableId) → countIn t (tableStore t s) ≤ limit t
-      counted Attributes =
-          says-formed (s .attributes) (s .classes) (j .shape .long .attributes) (j .shape .long .classes) .holds (j .shape .formed) .attributes .few
-      counted Classes = classes-few
+      counted Attributes = few-rows Attributes
+      counted Classes = few-rows Classes
 
   pub back : Bytes old → rowsBack (before change r old) (rowsMade change r s) ≡ s
   back = taken-back change (j .read .text) r s (j .read .bytes) (j .read .reads) (j .shape) (j .asked)

@@ -22,9 +22,10 @@ use Rattle.rules_attribute.specs.Range.{EndsCrossed}
 use Rattle.rules_attribute.specs.Syntax.{SyntaxFits}
 use Rattle.rules_attribute.specs.Links.{ForwardOf, LinkSyntaxFits}
 use Rattle.rules_class.specs.Live.{SuperclassEarly, CanName}
-use Rattle.rules_class.specs.Category.{class88, abstract, listCategory, Illegal}
+use Rattle.rules_class.specs.Category.{class88, abstract, listCategory, inheritanceNumber, Illegal}
 use Rattle.rules_class.specs.declared.category.Inheritance.{Inheritance}
-use Rattle.rules_class.specs.declared.category.Inheritance.the-variants.{AbstractUnderOther, AuxiliaryUnderStructural, StructuralUnderAuxiliary}
+use Rattle.rules_class.specs.declared.category.Inheritance.the-variants.{RootNotAbstract, AbstractUnderOther, AuxiliaryUnderStructural}
+use Rattle.rules_class.specs.declared.category.Inheritance.the-variants.{StructuralUnderAuxiliary}
 use Rattle.rules.specs.declared.row.Added.{Added}
 use Rattle.rules.specs.declared.row.Added.the-variants.{Nothing, Class, Entry}
 use Rattle.schema.specs.Refusals as refusal
@@ -57,10 +58,10 @@ ruleNumber attributeNotLive = refusal.attributeNotLive
 ruleNumber classNotLive = refusal.classNotLive
 ruleNumber notAnAuxiliary = refusal.notAnAuxiliary
 ruleNumber notASuperior = refusal.notASuperior
-ruleNumber rootNotAbstract = refusal.rootNotAbstract
-ruleNumber abstractUnderOther = refusal.abstractUnderOther
-ruleNumber auxiliaryUnderStructural = refusal.auxiliaryUnderStructural
-ruleNumber structuralUnderAuxiliary = refusal.structuralUnderAuxiliary
+ruleNumber rootNotAbstract = inheritanceNumber RootNotAbstract
+ruleNumber abstractUnderOther = inheritanceNumber AbstractUnderOther
+ruleNumber auxiliaryUnderStructural = inheritanceNumber AuxiliaryUnderStructural
+ruleNumber structuralUnderAuxiliary = inheritanceNumber StructuralUnderAuxiliary
 ruleNumber namingUnfit = refusal.namingUnfit
 ruleNumber mapiTaken = refusal.mapiTaken
 ruleNumber rangeCrossed = refusal.rangeCrossed

@@ -1,8 +1,9 @@
 use native.Mathlib.Omega.{arith}
 use mathlib.Core.Path.{_∙_, ap, ap₂, subst, sym, subst₂}
+use Rattle.schema.specs.declared.number.TableId.the-variants.{Classes}
 use borrow.Author.Needs.{needs}
 use Rattle.keeper_change.proofs.plain.plain_judged.Statement.{statement}
-use Rattle.keeper_change.proofs.Making.{addable, applicable, back, classes-few, closure-long, made-readable, made-shaped, restorable, store-bytes}
+use Rattle.keeper_change.proofs.Making.{addable, applicable, back, closure-long, few-rows, made-readable, made-shaped, restorable, store-bytes}
 use Rattle.keeper_change.proofs.Whole.{judged-at, judged-done, judged-refused, number-found, refreshed-made}
 use Rattle.graph.specs.Graph.{Readable}
 use Rattle.keeper_change.specs.Made.{Restorable, rowsBack}
@@ -56,7 +57,7 @@ judged-whole-requires c κs =
     let r = start .args .scratch .now in (
       subst (λ x. Shaped (x .attributes) (x .classes)) (sym (c₁ .make .ensures (s .closure))) (made-shaped change r s (start .pre .allowed)),
       closure-long change r s (start .pre .allowed),
-      omega (arith, c₂ .row-count .ensures, classes-few change r s (start .pre .allowed)),
+      omega (arith, c₂ .row-count .ensures, few-rows change r s (start .pre .allowed) Classes),
     )
 
 undo-requires : tie.Need-undo-requires
