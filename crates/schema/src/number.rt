@@ -3,7 +3,8 @@
 // it is of.
 ghost use mathlib.Core.Path.{_≡_};
 ghost use Prim.Native.Nat.{_<_};
-ghost use Rattle.schema.specs.Numbers.{classLimit, attributeLimit, classRead, attributeRead, numberRead, limit, rowId, tableOf, numberOf, sameTable, sameRow};
+ghost use Rattle.schema.specs.Numbers.{classLimit, attributeLimit, limit, classRead, attributeRead, numberRead};
+ghost use Rattle.schema.specs.Numbers.{rowId, tableOf, numberOf, sameTable, sameRow};
 
 pub struct ClassNumber(pub usize);
 

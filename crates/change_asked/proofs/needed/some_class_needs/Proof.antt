@@ -46,7 +46,8 @@ returns c =
     let c₅ = c₄ .before in
     let start = c₅ .before .before in
     sym (any-here (classNeeds (tableOf (start .args .id)) (numberOf (start .args .id)) (tableIn Classes (start .args .classes .now)))
-    (c₄ .loop .j) _ (omega (arith, c₅ .row-count .ensures, c₃ .loop-test .taken)) (sym (rw (c₂ .class-at .ensures) at (c₁ .class-needs .ensures)) ∙ c .if1 .taken))
+    (c₄ .loop .j) _ (omega (arith, c₅ .row-count .ensures, c₃ .loop-test .taken))
+    (sym (rw (c₂ .class-at .ensures) at (c₁ .class-needs .ensures)) ∙ c .if1 .taken))
 
 add-j : tie.Need-add-j Inv-loop μ-loop
 add-j c = search needs

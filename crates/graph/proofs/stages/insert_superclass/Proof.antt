@@ -1,8 +1,6 @@
-use mathlib.Core.Path.{sym, ap, _∙_}
-use Prim.Native.Nat.{ℕ}
+use mathlib.Core.Path.{sym, _∙_}
 use native.Mathlib.Omega.{arith}
 use borrow.Author.Needs.{needs}
-use Rattle.sets.specs.Sets.{withMember}
 use Rattle.sets.specs.SetsLaws.{with-beyond}
 use Rattle.schema.specs.ClassRow.{superclassOf}
 use Rattle.schema.specs.NumbersLaws.{class-is, class-beyond}

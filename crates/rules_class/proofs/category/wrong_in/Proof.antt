@@ -84,7 +84,8 @@ loop-again c =
     let start = c₄ .before .before .before .before .before in (
       omega (arith, c₃ .loop-test .taken),
       any-more (λ i. wronglyListed (start .args .kind) (tableIn Classes (start .args .classes .now))
-          (start .args .row .now) (start .args .at * 8 + i)) (c₄ .loop .i) (c₄ .loop .inv .1) (sym (rw (c₂ .class-at .ensures) at (c₁ .is-wrongly-listed .ensures)) ∙ c .if2 .left),
+          (start .args .row .now) (start .args .at * 8 + i)) (c₄ .loop .i) (c₄ .loop .inv .1)
+          (sym (rw (c₂ .class-at .ensures) at (c₁ .is-wrongly-listed .ensures)) ∙ c .if2 .left),
     )
 
 returns-3 : tie.Need-returns-3 Inv-loop μ-loop
