@@ -5,7 +5,8 @@ use schema::number::AttributeNumber;
 use schema::number::ClassNumber;
 use schema::number::RowId;
 use schema::number::TableId;
-use schema::number::row_id;
+use schema::number::attribute_at;
+use schema::number::class_at;
 use schema::number::same_row;
 use schema::row::is_defunct;
 use schema::store::attribute_row;
@@ -17,7 +18,7 @@ ghost use Prim.Native.Nat.{_≤_, _<_};
 ghost use lib.ListN.{length};
 ghost use Rattle.prelude.specs.Below.{anyBelow};
 ghost use Rattle.schema.specs.Layout.{attributeWidth};
-ghost use Rattle.schema.specs.Numbers.{tableOf, numberOf};
+ghost use Rattle.schema.specs.Numbers.{limit, tableOf, numberOf};
 ghost use Rattle.schema.specs.Store.{tableIn, schemaIn, table};
 ghost use Rattle.schema.specs.declared.number.TableId.the-variants.{Attributes, Classes};
 ghost use Rattle.tables.specs.Shaped.{TableShaped, Shaped};
@@ -25,7 +26,7 @@ ghost use Rattle.change_asked.specs.Needed.{classNeeds, linkNeeds, neede
 
 // Whether a class is active, is another row than the given one, and names it.
 fn class_needs(id: RowId, classes: &[u8], j: ClassNumber) -> bool
-    requires { ⌜ TableShaped Classes (now classes) × (j .0 < tableIn Classes (now classes) .count) ⌝ }
+    requires { ⌜ TableShaped Classes (now classes) × (j .0 < tableIn Classes (now classes) .count) × (numberOf id < limit (tableOf id)) ⌝ }
     ensures { λ r. ⌜ r ≡ classNeeds (tableOf id) (numberOf id) (tableIn Classes (now (classes .entry))) (j .0) ⌝ }
 {
     if same_row(id, RowId::Class(j)) {
@@ -40,14 +41,14 @@ fn class_needs(id: RowId, classes: &[u8], j: ClassNumber) -> bool
 
 // Whether some class is.
 fn some_class_needs(id: RowId, classes: &[u8]) -> bool
-    requires { ⌜ TableShaped Classes (now classes) ⌝ }
+    requires { ⌜ TableShaped Classes (now classes) × (numberOf id < limit (tableOf id)) ⌝ }
     ensures { λ r. ⌜ r ≡ anyBelow (tableIn Classes (now (classes .entry)) .count)
         (classNeeds (tableOf id) (numberOf id) (tableIn Classes (now (classes .entry)))) ⌝ }
 {
     let count = row_count(TableId::Classes, classes);
     let mut j = 0;
     while j < count {
-        if class_needs(id, classes, ClassNumber(j)) {
+        if class_needs(id, classes, class_at(j)) {
             return true;
         }
         j += 1;
@@ -79,7 +80,7 @@ fn some_link_needs(row: &[u8], attributes: &[u8]) -> bool
     let count = row_count(TableId::Attributes, attributes);
     let mut j = 0;
     while j < count {
-        if link_needs(row, attributes, AttributeNumber(j)) {
+        if link_needs(row, attributes, attribute_at(j)) {
             return true;
         }
         j += 1;

@@ -16,12 +16,9 @@ use Rattle.sets.specs.Sets.{flag, member, setOf, union, withMember}
 use Rattle.sets.specs.SetsLaws.{bit-flag, bit-zeros, is-set, set-cong, member-within, with-length, union-length}
 use Rattle.schema.specs.Layout.{allowedAt, attributeSet, classSet, closureWidth, classWidth}
 use Rattle.schema.specs.Numbers.{classLimit}
-use Rattle.schema.specs.ClassRow.{superclassOf, mandatoryOf, fixedOptionalOf, openOptionalOf}
+use Rattle.schema.specs.ClassRow.{mandatoryOf, fixedOptionalOf, openOptionalOf}
 use Rattle.schema.specs.Store.{Table, closureAt}
 use Rattle.graph.specs.Graph.{inherits}
-use Rattle.tables.specs.Named.{lists}
-use Rattle.tables.specs.declared.named.ClassList.the-variants.{Auxiliaries}
-use Rattle.prelude.specs.SaysLaws.{says-eq, says-false, says-true}
 use Rattle.closure_change.specs.Kept.{namedSets, optionRow, ownRow}
 
 -- ---- the kept sets of the classes that class n names
@@ -124,17 +121,3 @@ option-written b {next} {empty} {allowed} {out₀} {out} z a o w =
     let l : length allowed ≡ attributeSet = ap length e ∙ with-length b (zeros attributeSet) ∙ zeros-length attributeSet in
     w .bytes ∙ ap (splice allowedAt allowed) o ∙ ap (λ (i : ℕ). take allowedAt (zeros closureWidth) ++ (allowed ++ drop (allowedAt + i) (zeros closureWidth))) l
     ∙ ap (λ (x : List ℕ). zeros allowedAt ++ x) (append-nil allowed ∙ e)
-
--- ---- a class that is named
-
-module _ (t : Table) (n y x : ℕ) (row : List ℕ) (is : row ≡ t .row n) (up : x ≡ superclassOf row) where
-  pub inherits-up : x ≡ y → true ≡ inherits t n y
-  unfolding inherits
-  inherits-up e =
-      sym (ap (λ (b : Bool). b || lists Auxiliaries (t .row n) y) (says-true (says-eq (superclassOf (t .row n)) y) (sym (up ∙ ap superclassOf is) ∙ e)))
-
-  pub inherits-listed : (b : Bool) → ¬ (x ≡ y) → b ≡ lists Auxiliaries row y → b ≡ inherits t n y
-  unfolding inherits
-  inherits-listed b d e =
-      e ∙ ap (λ (r : List ℕ). lists Auxiliaries r y) is
-      ∙ sym (ap (λ (q : Bool). q || lists Auxiliaries (t .row n) y) (says-false (says-eq (superclassOf (t .row n)) y) (λ q. d (up ∙ ap superclassOf is ∙ q))))

@@ -14,7 +14,7 @@ use schema::store::closure_row;
 use schema::store::closure_start;
 use tables::named::ClassList;
 use tables::named::is_listed;
-use tables::named::superclass_number;
+use tables::named::is_superclass;
 ghost use mathlib.Core.Bool.{_&&_, _||_};
 ghost use mathlib.Core.Path.{_≡_};
 ghost use Prim.Native.Nat.{_≤_, _<_};
@@ -29,11 +29,11 @@ ghost use Rattle.closure_change.specs.Kept.{namedSets, ownRow, withNew};
 
 // Whether class n names class y as its superclass or an auxiliary.
 fn inherits(classes: &[u8], n: ClassNumber, y: ClassNumber) -> bool
-    requires { ⌜ Readable (now classes) × (n .0 < classLimit) ⌝ }
+    requires { ⌜ Readable (now classes) × (n .0 < classLimit) × (y .0 < classLimit) ⌝ }
     ensures { λ r. ⌜ r ≡ inheritsIn (tableIn Classes (now (classes .entry))) (n .0) (y .0) ⌝ }
 {
     let row = class_row(classes, n);
-    if superclass_number(row) == y.0 {
+    if is_superclass(row, y) {
         return true;
     }
     is_listed(ClassList::Auxiliaries, row, y)

@@ -8,18 +8,19 @@ use schema::class::fixed_optional;
 use schema::class::mandatory;
 use schema::class::open_auxiliary;
 use schema::class::open_optional;
+use schema::class::superclass;
 use schema::layout::ALLOWED;
 use schema::layout::CLASS_SET;
 use schema::layout::CLOSURE_WIDTH;
 use schema::layout::DEMANDED;
 use schema::layout::REACHED;
 use schema::number::ClassNumber;
+use schema::number::ClassRead;
 use schema::number::TableId;
 use schema::store::class_row;
 use schema::store::closure_row;
 use schema::store::closure_start;
 use schema::store::row_count;
-use tables::named::superclass_number;
 ghost use mathlib.Core.Bool.{_&&_};
 ghost use mathlib.Core.Path.{_≡_};
 ghost use Prim.Native.Nat.{_*_, _≤_, _<_};
@@ -27,9 +28,10 @@ ghost use lib.Dec.{ltb};
 ghost use lib.ListN.{length};
 ghost use Rattle.prelude.specs.Concat.{concatBelow};
 ghost use Rattle.prelude.specs.Part.{splice};
-ghost use Rattle.sets.specs.Sets.{member, setOf};
+ghost use Rattle.sets.specs.Sets.{member, setOf, withMember};
 ghost use Rattle.schema.specs.Numbers.{classLimit};
-ghost use Rattle.schema.specs.Layout.{attributeSet, classSet, closureLength, closureWidth};
+ghost use Rattle.schema.specs.Layout.{attributeSet, classSet, classWidth, closureLength, closureWidth};
+ghost use Rattle.schema.specs.ClassRow.{superclassOf};
 ghost use Rattle.schema.specs.Store.{closureAt, tableIn};
 ghost use Rattle.schema.specs.declared.number.TableId.the-variants.{Classes};
 ghost use Rattle.graph.specs.Graph.{Readable, listsMandatory, listsOptional};
@@ -47,6 +49,18 @@ fn keep_below(s: &mut [u8], n: usize)
     }
 }
 
+// The superclass of a row is put into a set of classes. One beyond the limit has no place there.
+fn insert_superclass(row: &[u8], out: &mut [u8])
+    requires { ⌜ (classWidth ≤ length (now row)) × (length (now out) ≡ classSet) ⌝ }
+    ensures { λ _. ⌜ now (out .exit) ≡ withMember (superclassOf (now (row .entry))) (now (out .entry)) ⌝ }
+{
+    let read = superclass(row);
+    match read {
+        ClassRead::Class(s) => sets::insert(out, s.0),
+        ClassRead::Beyond => {}
+    }
+}
+
 // out becomes the classes that c names and that have a row, and c itself.
 fn write_named(classes: &[u8], c: ClassNumber, out: &mut [u8])
     requires { ⌜ Readable (now classes) × (c .0 < tableIn Classes (now classes) .count) × (length (now out) ≡ classSet) ⌝ }
@@ -55,7 +69,7 @@ fn write_named(classes: &[u8], c: ClassNumber, out: &mut [u8])
     let row = class_row(classes, c);
     copy_padded(out, fixed_auxiliary(row));
     sets::join(out, open_auxiliary(row));
-    sets::insert(out, superclass_number(row));
+    insert_superclass(row, out);
     keep_below(out, row_count(TableId::Classes, classes));
     sets::insert(out, c.0);
 }

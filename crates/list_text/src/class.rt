@@ -11,6 +11,7 @@ use schema::layout::ATTRIBUTE_SET;
 use schema::layout::DEMANDED;
 use schema::number::ClassNumber;
 use schema::number::TableId;
+use schema::number::class_at;
 use schema::row::arc;
 use schema::row::arc_count;
 use schema::row::name;
@@ -93,7 +94,7 @@ pub fn put_classes(classes: &[u8], closure: &[u8], out: &mut [u8], at: usize) ->
     let mut next = at;
     let mut c = 0;
     while c < n {
-        next = put_class(classes, closure, ClassNumber(c), out, next);
+        next = put_class(classes, closure, class_at(c), out, next);
         c += 1;
     }
     next

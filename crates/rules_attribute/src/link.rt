@@ -5,6 +5,7 @@ use schema::attribute::syntax;
 use schema::number::AttributeNumber;
 use schema::number::RowId;
 use schema::number::TableId;
+use schema::number::attribute_at;
 use schema::store::attribute_row;
 use schema::store::row_count;
 use tables::live::is_live;
@@ -52,7 +53,7 @@ fn has_forward(attributes: &[u8], back: &[u8]) -> bool
     let n = row_count(TableId::Attributes, attributes);
     let mut j = 0;
     while j < n {
-        if is_live_forward(attributes, back, AttributeNumber(j)) {
+        if is_live_forward(attributes, back, attribute_at(j)) {
             return true;
         }
         j += 1;

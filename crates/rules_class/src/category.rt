@@ -10,6 +10,7 @@ use schema::layout::CLASS_SET;
 use schema::number::ClassNumber;
 use schema::number::ClassRead;
 use schema::number::TableId;
+use schema::number::class_at;
 use schema::refusal::ABSTRACT_UNDER_OTHER;
 use schema::refusal::AUXILIARY_UNDER_STRUCTURAL;
 use schema::refusal::DONE;
@@ -23,6 +24,7 @@ ghost use mathlib.Core.Path.{_≡_};
 ghost use Prim.Native.Nat.{_+_, _*_, _≤_, _<_};
 ghost use lib.ListN.{length};
 ghost use Rattle.prelude.specs.Below.{anyBelow};
+ghost use Rattle.schema.specs.Numbers.{classLimit};
 ghost use Rattle.schema.specs.Layout.{classSet, classWidth};
 ghost use Rattle.schema.specs.Store.{tableIn};
 ghost use Rattle.schema.specs.declared.number.TableId.the-variants.{Classes};
@@ -61,7 +63,7 @@ fn list_category(kind: ClassList) -> u8
 
 // Whether a class that is there has neither of the two categories that a list's classes may have.
 fn has_other_category(kind: ClassList, classes: &[u8], c: ClassNumber) -> bool
-    requires { ⌜ TableShaped Classes (now classes) ⌝ }
+    requires { ⌜ TableShaped Classes (now classes) × (c .0 < classLimit) ⌝ }
     ensures { λ r. ⌜ r ≡ otherCategory kind (tableIn Classes (now (classes .entry))) (c .0) ⌝ }
 {
     if row_count(TableId::Classes, classes) <= c.0 {
@@ -76,7 +78,7 @@ fn has_other_category(kind: ClassList, classes: &[u8], c: ClassNumber) -> bool
 
 // Whether a list of the row holds the class, which has a category that it may not have there.
 fn is_wrongly_listed(kind: ClassList, classes: &[u8], row: &[u8], c: ClassNumber) -> bool
-    requires { ⌜ TableShaped Classes (now classes) × (classWidth ≤ length (now row)) ⌝ }
+    requires { ⌜ TableShaped Classes (now classes) × (classWidth ≤ length (now row)) × (c .0 < classLimit) ⌝ }
     ensures { λ r. ⌜ r ≡ wronglyListed kind (tableIn Classes (now (classes .entry))) (now (row .entry)) (c .0) ⌝ }
 {
     if !is_listed(kind, row, c) {
@@ -106,7 +108,7 @@ fn wrong_in(kind: ClassList, classes: &[u8], row: &[u8], at: usize) -> bool
     }
     let mut i = 0;
     while i < 8 {
-        if is_wrongly_listed(kind, classes, row, ClassNumber(at * 8 + i)) {
+        if is_wrongly_listed(kind, classes, row, class_at(at * 8 + i)) {
             return true;
         }
         i += 1;

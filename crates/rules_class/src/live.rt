@@ -12,7 +12,9 @@ use schema::class::naming_attribute;
 use schema::class::open_auxiliary;
 use schema::class::open_optional;
 use schema::class::open_superior;
+use schema::class::superclass;
 use schema::number::ClassNumber;
+use schema::number::ClassRead;
 use schema::number::RowId;
 use schema::number::TableId;
 use schema::number::row_id;
@@ -24,14 +26,15 @@ use tables::live::is_live;
 use tables::named::ClassList;
 use tables::named::is_listed;
 use tables::named::is_naming;
-use tables::named::superclass_number;
+ghost use mathlib.Core.Bool.{not};
 ghost use mathlib.Core.Path.{_≡_};
-ghost use Prim.Native.Nat.{_+_, _*_, _≤_, _<_};
+ghost use Prim.Native.Nat.{_+_, _*_, _/_, _≤_, _<_};
+ghost use lib.Dec.{eqb};
 ghost use lib.ListN.{length};
 ghost use Rattle.prelude.specs.Below.{anyBelow};
-ghost use Rattle.schema.specs.Numbers.{limit, tableOf, numberOf};
+ghost use Rattle.schema.specs.Numbers.{classLimit, limit, tableOf, numberOf};
 ghost use Rattle.schema.specs.Layout.{attributeSet, classSet, classWidth};
-ghost use Rattle.schema.specs.ClassRow.{namingOf};
+ghost use Rattle.schema.specs.ClassRow.{superclassOf, namingOf};
 ghost use Rattle.schema.specs.Store.{tableIn};
 ghost use Rattle.schema.specs.declared.number.TableId.the-variants.{Attributes, Classes};
 ghost use Rattle.tables.specs.Shaped.{TableShaped};
@@ -40,7 +43,7 @@ ghost use Rattle.rules_class.specs.Live.{namesDead, notLive, superclassL
 
 // Whether the row names a row that is not live for it.
 fn names_dead(store: &[u8], row: &[u8], id: RowId) -> bool
-    requires { ⌜ TableShaped (tableOf id) (now store) × (classWidth ≤ length (now row)) ⌝ }
+    requires { ⌜ TableShaped (tableOf id) (now store) × (classWidth ≤ length (now row)) × (numberOf id < limit (tableOf id)) ⌝ }
     ensures { λ r. ⌜ r ≡ namesDead (tableOf id) (tableIn (tableOf id) (now (store .entry))) (now (row .entry)) (numberOf id) ⌝ }
 {
     if !is_naming(row, id) {
@@ -75,6 +78,18 @@ fn names_no_attribute(row: &[u8], at: usize) -> bool
     named_elsewhere(row, at)
 }
 
+// Whether the superclass of a row is none of the eight classes of a byte.
+fn superclass_elsewhere(row: &[u8], at: usize) -> bool
+    requires { ⌜ (classWidth ≤ length (now row)) × (at < classSet) ⌝ }
+    ensures { λ r. ⌜ r ≡ not (eqb (superclassOf (now (row .entry)) / 8) at) ⌝ }
+{
+    let read = superclass(row);
+    match read {
+        ClassRead::Class(s) => s.0 / 8 != at,
+        ClassRead::Beyond => true,
+    }
+}
+
 // Whether a row names none of the eight classes of a byte.
 fn names_no_class(row: &[u8], at: usize) -> bool
     requires { ⌜ (classWidth ≤ length (now row)) × (at < classSet) ⌝ }
@@ -86,7 +101,7 @@ fn names_no_class(row: &[u8], at: usize) -> bool
     if !is_blank(fixed_superior(row), open_superior(row), at) {
         return false;
     }
-    superclass_number(row) / 8 != at
+    superclass_elsewhere(row, at)
 }
 
 // Whether a row names none of the eight rows of a byte.
@@ -136,14 +151,17 @@ pub fn not_live(table: TableId, store: &[u8], row: &[u8]) -> bool
 
 // Whether the superclass of class c is not earlier.
 fn superclass_late(row: &[u8], c: ClassNumber) -> bool
-    requires { ⌜ classWidth ≤ length (now row) ⌝ }
+    requires { ⌜ (classWidth ≤ length (now row)) × (c .0 < classLimit) ⌝ }
     ensures { λ r. ⌜ r ≡ superclassLate (c .0) (now (row .entry)) ⌝ }
 {
-    let above = superclass_number(row);
+    let read = superclass(row);
+    let ClassRead::Class(above) = read else {
+        return true;
+    };
     if c.0 == 0 {
-        return above != 0;
+        return above.0 != 0;
     }
-    c.0 <= above
+    c.0 <= above.0
 }
 
 // Whether a class breaks rule 18.

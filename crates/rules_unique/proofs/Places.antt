@@ -117,6 +117,11 @@ module _ (key : Key) (m : Schema) where
   place-below Attributes k h l = omega (arith, l)
   place-below Classes k h l = rw h (omega (arith, l))
 
+  -- there are no more places than rows
+  pub places-few : placeCount key m ≤ first + m .classes .count
+  unfolding placeCount
+  places-few = choose (λ (x : ℕ). first + x ≤ first + m .classes .count) (hasKey key Classes) (λ e. omega arith) (λ e. omega arith)
+
   -- what stands at a place
   record Placed (p : ℕ) (i : RowId) : Type 0 where
     there : numberOf i < table (tableOf i) m .count

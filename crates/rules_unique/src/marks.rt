@@ -6,10 +6,9 @@ use crate::is_taken;
 use prelude::number::byte_at;
 use schema::attribute::link;
 use schema::attribute::mapi;
-use schema::number::AttributeNumber;
-use schema::number::ClassNumber;
 use schema::number::RowId;
 use schema::number::TableId;
+use schema::number::row_id;
 use schema::row::guid;
 use schema::row::identifier;
 use schema::row::name;
@@ -17,10 +16,10 @@ use schema::store::row_count;
 use schema::store::schema_row;
 ghost use mathlib.Core.Bool.{_&&_};
 ghost use mathlib.Core.Path.{_≡_};
-ghost use Prim.Native.Nat.{_≤_, _<_};
+ghost use Prim.Native.Nat.{_+_, _≤_, _<_};
 ghost use lib.ListN.{length};
 ghost use Rattle.prelude.specs.Part.{zeros};
-ghost use Rattle.schema.specs.Numbers.{tableOf, numberOf};
+ghost use Rattle.schema.specs.Numbers.{attributeLimit, classLimit, tableOf, numberOf};
 ghost use Rattle.schema.specs.Store.{table, schemaIn};
 ghost use Rattle.tables.specs.Shaped.{Shaped};
 ghost use Rattle.rules_unique.specs.Unique.{everyRow, taken, Keyed};
@@ -91,12 +90,13 @@ fn is_met(key: Key, row: &[u8], mark: usize, marks: &[u8]) -> bool
 
 // Place p of the rows of both tables, the attributes first.
 fn id_at(attributes: usize, p: usize) -> RowId
+    requires { ⌜ (attributes ≤ attributeLimit) × (p < attributes + classLimit) ⌝ }
     ensures { λ r. ⌜ r ≡ placeId attributes p ⌝ }
 {
     if p < attributes {
-        return RowId::Attribute(AttributeNumber(p));
+        return row_id(TableId::Attributes, p);
     }
-    RowId::Class(ClassNumber(p - attributes))
+    row_id(TableId::Classes, p - attributes)
 }
 
 // How many rows have the key.

@@ -3,7 +3,8 @@
 // it is of.
 ghost use mathlib.Core.Path.{_≡_};
 ghost use Prim.Native.Nat.{_<_};
-ghost use Rattle.schema.specs.Numbers.{classRead, attributeRead, numberRead, limit, rowId, tableOf, numberOf, sameTable, sameRow};
+ghost use Rattle.schema.specs.Numbers.{classLimit, attributeLimit, limit, classRead, attributeRead, numberRead};
+ghost use Rattle.schema.specs.Numbers.{rowId, tableOf, numberOf, sameTable, sameRow};
 
 pub struct ClassNumber(pub usize);
 
@@ -97,6 +98,21 @@ pub fn number_read(table: TableId, n: usize) -> NumberRead
             NumberRead::Row(RowId::Class(c))
         }
     }
+}
+
+// The number k of a class, and of an attribute, where something has checked k. What comes from outside passes through `new`.
+pub fn class_at(k: usize) -> ClassNumber
+    requires { ⌜ k < classLimit ⌝ }
+    ensures { λ r. ⌜ r .0 ≡ k ⌝ }
+{
+    ClassNumber(k)
+}
+
+pub fn attribute_at(k: usize) -> AttributeNumber
+    requires { ⌜ k < attributeLimit ⌝ }
+    ensures { λ r. ⌜ r .0 ≡ k ⌝ }
+{
+    AttributeNumber(k)
 }
 
 // Row k of a table, where something has checked k. What comes from outside passes through `number_read`.

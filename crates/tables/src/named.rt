@@ -1,5 +1,4 @@
 // What a class row names.
-use prelude::number::byte_at;
 use schema::class::Naming;
 use schema::class::fixed_auxiliary;
 use schema::class::fixed_optional;
@@ -9,17 +8,19 @@ use schema::class::naming_attribute;
 use schema::class::open_auxiliary;
 use schema::class::open_optional;
 use schema::class::open_superior;
-use schema::layout::SUPERCLASS;
+use schema::class::superclass;
 use schema::number::AttributeNumber;
 use schema::number::ClassNumber;
+use schema::number::ClassRead;
 use schema::number::RowId;
 use sets::has;
 ghost use mathlib.Core.Bool.{_||_};
 ghost use mathlib.Core.Path.{_≡_};
-ghost use Prim.Native.Nat.{_≤_};
+ghost use Prim.Native.Nat.{_≤_, _<_};
+ghost use lib.Dec.{eqb};
 ghost use lib.ListN.{length};
 ghost use Rattle.sets.specs.Sets.{member};
-ghost use Rattle.schema.specs.Numbers.{tableOf, numberOf};
+ghost use Rattle.schema.specs.Numbers.{classLimit, limit, tableOf, numberOf};
 ghost use Rattle.schema.specs.Layout.{classWidth};
 ghost use Rattle.schema.specs.declared.number.TableId.the-variants.{Attributes, Classes};
 ghost use Rattle.schema.specs.ClassRow.{superclassOf, namingOf};
@@ -80,20 +81,24 @@ fn names_attribute(row: &[u8], a: AttributeNumber) -> bool
     is_named_by(row, a)
 }
 
-// The superclass as a number, whether it has a row or not.
-pub fn superclass_number(row: &[u8]) -> usize
-    requires { ⌜ classWidth ≤ length (now row) ⌝ }
-    ensures { λ r. ⌜ r ≡ superclassOf (now (row .entry)) ⌝ }
+// Whether class c is the row's superclass.
+pub fn is_superclass(row: &[u8], c: ClassNumber) -> bool
+    requires { ⌜ (classWidth ≤ length (now row)) × (c .0 < classLimit) ⌝ }
+    ensures { λ r. ⌜ r ≡ eqb (superclassOf (now (row .entry))) (c .0) ⌝ }
 {
-    byte_at(row, SUPERCLASS) as usize
+    let read = superclass(row);
+    match read {
+        ClassRead::Class(s) => s.0 == c.0,
+        ClassRead::Beyond => false,
+    }
 }
 
 // Whether the row names a class: as superclass or in a list.
 fn names_class(row: &[u8], c: ClassNumber) -> bool
-    requires { ⌜ classWidth ≤ length (now row) ⌝ }
+    requires { ⌜ (classWidth ≤ length (now row)) × (c .0 < classLimit) ⌝ }
     ensures { λ r. ⌜ r ≡ names Classes (now (row .entry)) (c .0) ⌝ }
 {
-    if superclass_number(row) == c.0 {
+    if is_superclass(row, c) {
         return true;
     }
     if is_listed(ClassList::Auxiliaries, row, c) {
@@ -104,7 +109,7 @@ fn names_class(row: &[u8], c: ClassNumber) -> bool
 
 // Whether the row names a row of either table.
 pub fn is_naming(row: &[u8], id: RowId) -> bool
-    requires { ⌜ classWidth ≤ length (now row) ⌝ }
+    requires { ⌜ (classWidth ≤ length (now row)) × (numberOf id < limit (tableOf id)) ⌝ }
     ensures { λ r. ⌜ r ≡ names (tableOf id) (now (row .entry)) (numberOf id) ⌝ }
 {
     match id {

@@ -1,17 +1,19 @@
 -- What each step of the check says of the whole.
 use mathlib.Core.Bool.{false, true}
 use mathlib.Core.List.{List}
-use mathlib.Core.Path.{_≡_}
+use mathlib.Core.Path.{_≡_, ap₂}
 use Prim.Native.Nat.{_*_, _+_, _-_, _<_, ℕ, _≤_}
 use native.Mathlib.Omega.{arith}
 use lib.Dec.{leb}
-use lib.ListN.{length}
-use Rattle.prelude.specs.Part.{isZero}
+use Rattle.prelude.specs.Part.{isZero, part, zeros}
+use Rattle.prelude.specs.PartLaws.{zeros-zero}
 use Rattle.prelude.specs.SaysLaws.{says-false, says-le, says-true}
 use Rattle.schema.specs.declared.number.TableId.{TableId}
+use Rattle.schema.specs.declared.number.RowId.{RowId}
 use Rattle.schema.specs.Store.{countIn}
-use Rattle.schema.specs.Numbers.{limit}
-use Rattle.schema.specs.Layout.{rowWidth, storeLength}
+use Rattle.schema.specs.Numbers.{limit, rowId, tableOf, numberOf}
+use Rattle.schema.specs.NumbersLaws.{id-table, id-number}
+use Rattle.schema.specs.Layout.{rowsAt, rowWidth, storeLength}
 use Rattle.tables_shape.specs.Shape.{besideZero, rowsFormed, tableFormed, unusedRows}
 use Rattle.tables_shape.specs.ShapeLaws.{rows-split}
 
@@ -36,7 +38,22 @@ module _ (t : TableId) (s : List ℕ) where
     unfolding tableFormed
     rows-kept h e = rw (beside, few h, ← read, e)
 
--- the unused rows lie within the store, the width and the limit as a function found them
-pub unused-room : (t : TableId) (n w m : ℕ) (s : List ℕ) → w ≡ rowWidth t → m ≡ limit t → n ≤ limit t → storeLength t ≤ length s
-    → 2 + w * n + w * (m - n) ≤ length s
-unused-room t n w m s e f few long = rw (e, f) (omega (arith, rows-split (rowWidth t) (limit t) n few))
+-- a full table has no unused rows
+pub unused-none : (t : TableId) (n : ℕ) (s : List ℕ) → n ≡ limit t → isZero (unusedRows t n s) ≡ true
+unfolding zeros part
+unused-none t n s e =
+    let none : limit t - n ≡ 0 = omega (arith, e) in
+    let empty : rowWidth t * (limit t - n) ≡ 0 = rw none (omega arith) in
+    rw empty (zeros-zero 0)
+
+-- the unused rows end where the store does, their start and its end as a function found them
+module _ (t : TableId) (n at end : ℕ) {id : RowId} (is : id ≡ rowId t n) (starts : at ≡ rowsAt + rowWidth (tableOf id) * numberOf id)
+    (ends : end ≡ storeLength t) (few : n ≤ limit t) where
+  unused-start : at ≡ rowsAt + rowWidth t * n
+  unused-start = rw (is, id-table t n, id-number t n) at starts
+
+  pub unused-left : end ≡ at + rowWidth t * (limit t - n)
+  unused-left = omega (arith, unused-start, ends, rows-split (rowWidth t) (limit t) n few)
+
+  pub unused-found : (s : List ℕ) → part at (end - at) s ≡ unusedRows t n s
+  unused-found s = ap₂ (λ (a l : ℕ). part a l s) unused-start (omega (arith, unused-left))

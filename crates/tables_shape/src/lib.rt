@@ -3,13 +3,13 @@ use prelude::number::byte_at;
 use prelude::part::is_zero;
 use prelude::part::part_of;
 use rows_read::wellformed::well_formed;
-use schema::layout::ROWS;
-use schema::layout::row_width;
+use schema::layout::store_length;
 use schema::number::TableId;
 use schema::number::row_id;
 use schema::number::row_limit;
 use schema::store::row;
 use schema::store::row_count;
+use schema::store::row_start;
 ghost use mathlib.Core.Path.{_≡_};
 ghost use Prim.Native.Nat.{_≤_};
 ghost use lib.ListN.{length};
@@ -24,9 +24,12 @@ fn unused_zero(table: TableId, store: &[u8], n: usize) -> bool
     requires { ⌜ (n ≤ limit table) × (storeLength table ≤ length (now store)) ⌝ }
     ensures { λ r. ⌜ r ≡ isZero (unusedRows table n (now (store .entry))) ⌝ }
 {
-    let width = row_width(table);
-    let left = row_limit(table) - n;
-    is_zero(part_of(store, ROWS + width * n, width * left))
+    if n == row_limit(table) {
+        return true;
+    }
+    let at = row_start(row_id(table, n));
+    let end = store_length(table);
+    is_zero(part_of(store, at, end - at))
 }
 
 // Whether the reader could have stored each of the first n rows.

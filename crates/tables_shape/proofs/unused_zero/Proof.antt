@@ -1,76 +1,80 @@
+use mathlib.Core.Path.{sym, ap, _∙_}
 use native.Mathlib.Omega.{arith}
-use Rattle.tables_shape.proofs.Checking.{unused-room}
 use borrow.Author.Needs.{needs}
+use Rattle.prelude.specs.Part.{isZero}
+use Rattle.schema.specs.NumbersLaws.{id-table, id-number}
+use Rattle.tables_shape.proofs.Checking.{unused-none, unused-left, unused-found}
 use Rattle.tables_shape.proofs.unused_zero.Statement.{statement}
 use Rattle.tables_shape.proofs.unused_zero.Tie as tie
-
-row-width-requires : tie.Need-row-width-requires
-row-width-requires c κs = search needs
 
 row-limit-requires : tie.Need-row-limit-requires
 row-limit-requires c κs = search needs
 
-sub-left : tie.Need-sub-left
-sub-left c = search needs
-
-mul-part-of : tie.Need-mul-part-of
-mul-part-of c =
+returns : tie.Need-returns
+returns c =
     let c₁ = c .before in
     let start = c₁ .before .before in
-    omega (
-      arith,
-      unused-room (start .args .table) (start .args .n) _ _ (start .args .store .now) (c₁ .row-width .ensures) (c .row-limit .ensures)
-          (start .pre .0) (start .pre .1),
-    )
+    sym (unused-none (start .args .table) (start .args .n) (start .args .store .now) (c .if1 .taken ∙ c₁ .row-limit .ensures))
 
-add-part-of : tie.Need-add-part-of
-add-part-of c =
-    let c₁ = c .before in
-    let start = c₁ .before .before in
-    omega (
-      arith,
-      unused-room (start .args .table) (start .args .n) _ _ (start .args .store .now) (c₁ .row-width .ensures) (c .row-limit .ensures)
-          (start .pre .0) (start .pre .1),
-    )
+row-id-requires : tie.Need-row-id-requires
+row-id-requires c κs = search needs
 
-mul-part-of-2 : tie.Need-mul-part-of-2
-mul-part-of-2 c =
+row-start-requires : tie.Need-row-start-requires
+row-start-requires c κs =
     let c₁ = c .before in
-    let start = c₁ .before .before in
+    let c₂ = c₁ .before in
+    let start = c₂ .before .before in
+    rw (c .row-id .ensures, id-table (start .args .table) (start .args .n), id-number (start .args .table) (start .args .n)) (omega
+    (arith, start .pre .0, c₁ .if1 .left, c₂ .row-limit .ensures))
+
+store-length-requires : tie.Need-store-length-requires
+store-length-requires c κs = search needs
+
+sub-part-of : tie.Need-sub-part-of
+sub-part-of c =
+    let c₁ = c .before in
+    let c₂ = c₁ .before in
+    let start = c₂ .before .before .before .before in
     omega (
       arith,
-      unused-room (start .args .table) (start .args .n) _ _ (start .args .store .now) (c₁ .row-width .ensures) (c .row-limit .ensures)
-          (start .pre .0) (start .pre .1),
+      unused-left (start .args .table) (start .args .n) _ _ (c₂ .row-id .ensures) (c₁ .row-start .ensures) (c .store-length .ensures) (start .pre .0),
     )
 
 part-of-requires : tie.Need-part-of-requires
 part-of-requires c κs =
     let c₁ = c .before in
-    let start = c₁ .before .before in
-    unused-room (start .args .table) (start .args .n) _ _ (start .args .store .now)
-    (c₁ .row-width .ensures) (c .row-limit .ensures) (start .pre .0) (start .pre .1)
+    let c₂ = c₁ .before in
+    let start = c₂ .before .before .before .before in
+    omega (
+      arith,
+      unused-left (start .args .table) (start .args .n) _ _ (c₂ .row-id .ensures) (c₁ .row-start .ensures) (c .store-length .ensures) (start .pre .0),
+      c .store-length .ensures,
+      start .pre .1,
+    )
 
 is-zero-requires : tie.Need-is-zero-requires
 is-zero-requires c κs = search needs
 
-returns : tie.Need-returns
-returns c =
+returns-2 : tie.Need-returns-2
+returns-2 c =
     let c₁ = c .before in
     let c₂ = c₁ .before in
     let c₃ = c₂ .before in
-    rw
-    (c .is-zero .ensures, c₁ .part-of .ensures, c₃ .row-width .ensures, c₂ .row-limit .ensures)
+    let c₄ = c₃ .before in
+    let start = c₄ .before .before .before .before in
+    c .is-zero .ensures ∙ ap isZero (c₁ .part-of .ensures ∙ unused-found (start .args .table) (start .args .n) _ _ (c₄ .row-id .ensures)
+    (c₃ .row-start .ensures) (c₂ .store-length .ensures) (start .pre .0) (start .args .store .now))
 
 pub unused-zero-spec : {M : Type 1} → statement M
 unused-zero-spec =
     tie.close
     (tie.spec
-    row-width-requires
     row-limit-requires
-    sub-left
-    mul-part-of
-    add-part-of
-    mul-part-of-2
+    returns
+    row-id-requires
+    row-start-requires
+    store-length-requires
+    sub-part-of
     part-of-requires
     is-zero-requires
-    returns)
+    returns-2)

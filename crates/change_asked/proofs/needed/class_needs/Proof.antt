@@ -40,12 +40,14 @@ returns-2 c =
 is-naming-requires : tie.Need-is-naming-requires
 is-naming-requires c κs =
     let c₁ = c .before .before in
-    let start = c₁ .before .before .before .before in
-    rw (c₁ .class-row .ensures) (omega (
-      arith,
-      table-row-length Classes (start .args .classes .now) (start .args .j .0) (start .pre .0 .long) (omega
-          (arith, start .pre .1, start .pre .0 .few)),
-    ))
+    let start = c₁ .before .before .before .before in (
+      rw (c₁ .class-row .ensures) (omega (
+        arith,
+        table-row-length Classes (start .args .classes .now) (start .args .j .0) (start .pre .0 .long) (omega
+            (arith, start .pre .1, start .pre .0 .few)),
+      )),
+      start .pre .2,
+    )
 
 returns-3 : tie.Need-returns-3
 unfolding classNeeds

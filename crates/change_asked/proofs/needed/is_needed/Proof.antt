@@ -4,13 +4,17 @@ use borrow.Author.Needs.{needs}
 use Rattle.change_asked.proofs.needed.is_needed.Statement.{statement}
 use Rattle.change_asked.proofs.Asking.{attribute-there, needed-by-class}
 use Rattle.schema.specs.declared.number.TableId.the-variants.{Attributes}
+use Rattle.schema.specs.Numbers.{tableOf, numberOf}
 use Rattle.schema.specs.Store.{schemaIn}
-use Rattle.tables.specs.ShapedLaws.{shaped-wide}
+use Rattle.tables.specs.ShapedLaws.{shaped-wide, shaped-within}
 use Rattle.change_asked.specs.Needed.{needed}
 use Rattle.change_asked.proofs.needed.is_needed.Tie as tie
 
 some-class-needs-requires : tie.Need-some-class-needs-requires
-some-class-needs-requires c κs = search needs
+some-class-needs-requires c κs =
+    let start = c .before .before in
+    let id = start .args .id in
+    (start .pre .0 .classes, shaped-within (start .pre .0) (tableOf id) (numberOf id) (start .pre .1))
 
 returns : tie.Need-returns
 returns c =

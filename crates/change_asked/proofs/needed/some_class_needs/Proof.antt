@@ -19,16 +19,23 @@ abbrev μ-loop : tie.MeasureT-loop
 μ-loop id classes count j₀ j = count - j
 
 row-count-requires : tie.Need-row-count-requires Inv-loop μ-loop
-row-count-requires c κs = c .before .pre .long
+row-count-requires c κs = c .before .pre .0 .long
 
 loop-holds : tie.Need-loop-holds Inv-loop μ-loop
 loop-holds c = (search needs, any-zero _)
 
-class-needs-requires : tie.Need-class-needs-requires Inv-loop μ-loop
-class-needs-requires c κs =
+class-at-requires : tie.Need-class-at-requires Inv-loop μ-loop
+class-at-requires c κs =
     let c₁ = c .before .before in
     let start = c₁ .before .before in
-    (start .pre, omega (arith, c₁ .row-count .ensures, c .loop-test .taken))
+    omega (arith, start .pre .0 .few, c₁ .row-count .ensures, c .loop-test .taken)
+
+class-needs-requires : tie.Need-class-needs-requires Inv-loop μ-loop
+class-needs-requires c κs =
+    let c₁ = c .before in
+    let c₂ = c₁ .before .before in
+    let start = c₂ .before .before in
+    (start .pre .0, omega (arith, c .class-at .ensures, c₂ .row-count .ensures, c₁ .loop-test .taken), start .pre .1)
 
 returns : tie.Need-returns Inv-loop μ-loop
 returns c =
@@ -36,9 +43,11 @@ returns c =
     let c₂ = c₁ .before in
     let c₃ = c₂ .before in
     let c₄ = c₃ .before in
-    let start = c₄ .before .before in
+    let c₅ = c₄ .before in
+    let start = c₅ .before .before in
     sym (any-here (classNeeds (tableOf (start .args .id)) (numberOf (start .args .id)) (tableIn Classes (start .args .classes .now)))
-    (c₃ .loop .j) _ (omega (arith, c₄ .row-count .ensures, c₂ .loop-test .taken)) (sym (c₁ .class-needs .ensures) ∙ c .if1 .taken))
+    (c₄ .loop .j) _ (omega (arith, c₅ .row-count .ensures, c₃ .loop-test .taken))
+    (sym (rw (c₂ .class-at .ensures) at (c₁ .class-needs .ensures)) ∙ c .if1 .taken))
 
 add-j : tie.Need-add-j Inv-loop μ-loop
 add-j c = search needs
@@ -51,10 +60,11 @@ loop-again c =
     let c₁ = c .before in
     let c₂ = c₁ .before in
     let c₃ = c₂ .before in
-    let start = c₃ .before .before .before in (
-      omega (arith, c₂ .loop-test .taken),
+    let c₄ = c₃ .before in
+    let start = c₄ .before .before .before in (
+      omega (arith, c₃ .loop-test .taken),
       any-more (classNeeds (tableOf (start .args .id)) (numberOf (start .args .id)) (tableIn Classes
-          (start .args .classes .now))) (c₃ .loop .j) (c₃ .loop .inv .1) (sym (c₁ .class-needs .ensures) ∙ c .if1 .left),
+          (start .args .classes .now))) (c₄ .loop .j) (c₄ .loop .inv .1) (sym (rw (c₂ .class-at .ensures) at (c₁ .class-needs .ensures)) ∙ c .if1 .left),
     )
 
 returns-2 : tie.Need-returns-2 Inv-loop μ-loop
@@ -73,6 +83,7 @@ some-class-needs-spec =
     μ-loop
     row-count-requires
     loop-holds
+    class-at-requires
     class-needs-requires
     returns
     add-j

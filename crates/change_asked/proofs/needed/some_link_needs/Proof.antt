@@ -23,11 +23,18 @@ row-count-requires c κs = c .before .before .pre .0 .long
 loop-holds : tie.Need-loop-holds Inv-loop μ-loop
 loop-holds c = (search needs, any-zero _)
 
-link-needs-requires : tie.Need-link-needs-requires Inv-loop μ-loop
-link-needs-requires c κs =
+attribute-at-requires : tie.Need-attribute-at-requires Inv-loop μ-loop
+attribute-at-requires c κs =
     let c₁ = c .before .before in
     let start = c₁ .before .before .before in
-    (start .pre .0, omega (arith, c₁ .row-count .ensures, c .loop-test .taken), start .pre .1)
+    omega (arith, start .pre .0 .few, c₁ .row-count .ensures, c .loop-test .taken)
+
+link-needs-requires : tie.Need-link-needs-requires Inv-loop μ-loop
+link-needs-requires c κs =
+    let c₁ = c .before in
+    let c₂ = c₁ .before .before in
+    let start = c₂ .before .before .before in
+    (start .pre .0, omega (arith, c .attribute-at .ensures, c₂ .row-count .ensures, c₁ .loop-test .taken), start .pre .1)
 
 returns : tie.Need-returns Inv-loop μ-loop
 returns c =
@@ -35,12 +42,13 @@ returns c =
     let c₂ = c₁ .before in
     let c₃ = c₂ .before in
     let c₄ = c₃ .before in
-    let start = c₄ .before .before .before in
-    sym (any-here (linkNeeds (start .args .row .now) (tableIn Attributes (start .args .attributes .now))) (c₃ .loop .j) _ (omega (
+    let c₅ = c₄ .before in
+    let start = c₅ .before .before .before in
+    sym (any-here (linkNeeds (start .args .row .now) (tableIn Attributes (start .args .attributes .now))) (c₄ .loop .j) _ (omega (
       arith,
-      c₄ .row-count .ensures,
-      c₂ .loop-test .taken,
-    )) (sym (c₁ .link-needs .ensures) ∙ c .if1 .taken))
+      c₅ .row-count .ensures,
+      c₃ .loop-test .taken,
+    )) (sym (rw (c₂ .attribute-at .ensures) at (c₁ .link-needs .ensures)) ∙ c .if1 .taken))
 
 add-j : tie.Need-add-j Inv-loop μ-loop
 add-j c = search needs
@@ -53,10 +61,11 @@ loop-again c =
     let c₁ = c .before in
     let c₂ = c₁ .before in
     let c₃ = c₂ .before in
-    let start = c₃ .before .before .before .before in (
-      omega (arith, c₂ .loop-test .taken),
+    let c₄ = c₃ .before in
+    let start = c₄ .before .before .before .before in (
+      omega (arith, c₃ .loop-test .taken),
       any-more (linkNeeds (start .args .row .now) (tableIn Attributes (start .args .attributes .now)))
-          (c₃ .loop .j) (c₃ .loop .inv .1) (sym (c₁ .link-needs .ensures) ∙ c .if1 .left),
+          (c₄ .loop .j) (c₄ .loop .inv .1) (sym (rw (c₂ .attribute-at .ensures) at (c₁ .link-needs .ensures)) ∙ c .if1 .left),
     )
 
 returns-2 : tie.Need-returns-2 Inv-loop μ-loop
@@ -78,6 +87,7 @@ some-link-needs-spec =
     μ-loop
     row-count-requires
     loop-holds
+    attribute-at-requires
     link-needs-requires
     returns
     add-j

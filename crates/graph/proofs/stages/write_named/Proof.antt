@@ -1,13 +1,11 @@
 use Rattle.graph.proofs.Firsts.{part-fits, other-length, joined-is, named-written}
 use Rattle.schema.specs.ClassRow.{superclassOf, fixedAuxiliaryOf, openAuxiliaryOf}
 use Rattle.schema.specs.Layout.{classSet, fixedAuxiliaryAt, openAuxiliaryAt}
-use Rattle.sets.specs.SetsLaws.{set-length, with-length}
 use Rattle.sets.specs.Sets.{member, setOf}
 use Prim.Native.Nat.{ℕ}
 use mathlib.Core.Path.{refl, ap, _∙_}
 use mathlib.Core.List.{List}
 use mathlib.Core.Bool.{_||_}
-use lib.ListN.{length}
 use Rattle.schema.specs.Store.{tableIn}
 use Rattle.schema.specs.declared.number.TableId.the-variants.{Classes}
 use Rattle.schema.specs.StoreLaws.{table-row-wide}
@@ -63,47 +61,23 @@ join-requires c κs =
           (arith, start .pre .0 .few, start .pre .1)) (c₃ .class-row .ensures),
     )) (c .open-auxiliary .ensures)
 
-superclass-number-requires : tie.Need-superclass-number-requires
-superclass-number-requires c κs =
+insert-superclass-requires : tie.Need-insert-superclass-requires
+insert-superclass-requires c κs =
     let c₁ = c .before .before .before .before .before .before .before .before .before .before .before in
-    let start = c₁ .before .before .before in
-    table-row-wide Classes (start .args .classes .now) (c₁ .class-row .result .now) (start .args .c .0) (start .pre .0 .long) (omega
-    (arith, start .pre .0 .few, start .pre .1)) (c₁ .class-row .ensures)
+    let start = c₁ .before .before .before in (
+      table-row-wide Classes (start .args .classes .now) (c₁ .class-row .result .now) (start .args .c .0) (start .pre .0 .long) (omega
+          (arith, start .pre .0 .few, start .pre .1)) (c₁ .class-row .ensures),
+      search needs,
+    )
+
+row-count-requires : tie.Need-row-count-requires
+row-count-requires c κs = search needs
+
+keep-below-requires : tie.Need-keep-below-requires
+keep-below-requires c κs = search needs
 
 insert-requires : tie.Need-insert-requires
 insert-requires c κs = search needs
-
-row-count-requires : tie.Need-row-count-requires
-row-count-requires c κs =
-    let start = c .before .before .before .before .before .before .before .before .before .before .before .before .before .before .before .before .before
-    .before .before in
-    start .pre .0 .long
-
-keep-below-requires : tie.Need-keep-below-requires
-keep-below-requires c κs =
-    let c₁ = c .before .before .before .before in
-    let c₂ = c₁ .before .before .before .before .before in
-    let c₃ = c₂ .before in
-    let c₄ = c₃ .before .before .before .before in
-    let c₅ = c₄ .before in
-    let c₆ = c₅ .before .before in
-    let start = c₆ .before .before .before in
-    ap length (c₁ .insert .ensures) ∙ with-length _ _ ∙ ap length (joined-is classSet fixedAuxiliaryAt (c₆ .class-row .result .now) (start .args .out .now)
-    (omega (
-      arith,
-      table-row-wide Classes (start .args .classes .now) (c₆ .class-row .result .now) (start .args .c .0) (start .pre .0 .long) (omega
-          (arith, start .pre .0 .few, start .pre .1)) (c₆ .class-row .ensures),
-    )) (start .pre .2) (c₅ .fixed-auxiliary .ensures)
-    (c₄ .copy-padded .ensures) openAuxiliaryAt (omega (
-      arith,
-      table-row-wide Classes (start .args .classes .now) (c₆ .class-row .result .now)
-          (start .args .c .0) (start .pre .0 .long) (omega (arith, start .pre .0 .few, start .pre .1)) (c₆ .class-row .ensures),
-    )) (c₃ .open-auxiliary .ensures) _
-    (c₂ .join .ensures) ∙ ap (λ (row : List ℕ). setOf classSet (λ k. member (fixedAuxiliaryOf row) k || member (openAuxiliaryOf row) k))
-    (c₆ .class-row .ensures)) ∙ set-length classSet _
-
-insert-requires-2 : tie.Need-insert-requires-2
-insert-requires-2 c κs = search needs
 
 same-length : tie.Need-same-length
 same-length c = search needs
@@ -114,27 +88,21 @@ returns c =
     let c₂ = c₁ .before .before .before .before in
     let c₃ = c₂ .before in
     let c₄ = c₃ .before .before .before .before in
-    let c₅ = c₄ .before in
-    let c₆ = c₅ .before .before .before .before in
-    let c₇ = c₆ .before in
-    let c₈ = c₇ .before .before .before .before in
-    let c₉ = c₈ .before in
-    let c₁₀ = c₉ .before .before in
-    let start = c₁₀ .before .before .before in
-    named-written (tableIn Classes (start .args .classes .now)) (start .args .c .0) (start .pre .1) _ _ _ _ _ _ (c₅ .superclass-number .ensures
-    ∙ ap superclassOf (c₁₀ .class-row .ensures)) (c₃ .row-count .ensures) (joined-is classSet fixedAuxiliaryAt (c₁₀ .class-row .result .now)
-    (start .args .out .now) (omega (
-      arith,
-      table-row-wide Classes (start .args .classes .now) (c₁₀ .class-row .result .now) (start .args .c .0)
-          (start .pre .0 .long) (omega (arith, start .pre .0 .few, start .pre .1)) (c₁₀ .class-row .ensures),
-    )) (start .pre .2) (c₉ .fixed-auxiliary .ensures)
-    (c₈ .copy-padded .ensures) openAuxiliaryAt (omega (
-      arith,
-      table-row-wide Classes (start .args .classes .now) (c₁₀ .class-row .result .now)
-          (start .args .c .0) (start .pre .0 .long) (omega (arith, start .pre .0 .few, start .pre .1)) (c₁₀ .class-row .ensures),
-    )) (c₇ .open-auxiliary .ensures) _
-    (c₆ .join .ensures) ∙ ap (λ (row : List ℕ). setOf classSet (λ k. member (fixedAuxiliaryOf row) k || member (openAuxiliaryOf row) k))
-    (c₁₀ .class-row .ensures)) (c₄ .insert .ensures) (c₂ .keep-below .ensures) (c₁ .insert2 .ensures)
+    let c₅ = c₄ .before .before .before .before in
+    let c₆ = c₅ .before in
+    let c₇ = c₆ .before .before .before .before in
+    let c₈ = c₇ .before in
+    let c₉ = c₈ .before .before in
+    let start = c₉ .before .before .before in
+    let row = c₉ .class-row .result .now in
+    let wide = table-row-wide Classes (start .args .classes .now) row (start .args .c .0) (start .pre .0 .long) (omega
+    (arith, start .pre .0 .few, start .pre .1)) (c₉ .class-row .ensures) in
+    named-written (tableIn Classes (start .args .classes .now)) (start .args .c .0) (start .pre .1) _ _ _ _ _ _
+    (ap superclassOf (c₉ .class-row .ensures)) (c₃ .row-count .ensures) (joined-is classSet fixedAuxiliaryAt row (start .args .out .now)
+    (omega (arith, wide)) (start .pre .2) (c₈ .fixed-auxiliary .ensures) (c₇ .copy-padded .ensures) openAuxiliaryAt (omega (arith, wide))
+    (c₆ .open-auxiliary .ensures) _ (c₅ .join .ensures)
+    ∙ ap (λ (row : List ℕ). setOf classSet (λ k. member (fixedAuxiliaryOf row) k || member (openAuxiliaryOf row) k)) (c₉ .class-row .ensures))
+    (c₄ .insert-superclass .ensures) (c₂ .keep-below .ensures) (c₁ .insert .ensures)
 
 pub write-named-spec : {M : Type 1} → statement M
 write-named-spec =
@@ -145,10 +113,9 @@ write-named-spec =
     copy-padded-requires
     open-auxiliary-requires
     join-requires
-    superclass-number-requires
-    insert-requires
+    insert-superclass-requires
     row-count-requires
     keep-below-requires
-    insert-requires-2
+    insert-requires
     same-length
     returns)

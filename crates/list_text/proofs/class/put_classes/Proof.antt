@@ -34,30 +34,38 @@ row-count-requires c κs = c .before .before .before .pre .0 .long
 loop-holds : tie.Need-loop-holds Inv-loop μ-loop
 loop-holds c = writing-none
 
+class-at-requires : tie.Need-class-at-requires Inv-loop μ-loop
+class-at-requires c κs =
+    let c₁ = c .before .before in
+    let start = c₁ .before .before .before .before in
+    omega (arith, start .pre .0 .few, c₁ .row-count .ensures, c .loop-test .taken)
+
 put-class-requires : tie.Need-put-class-requires Inv-loop μ-loop
 put-class-requires c κs =
     let c₁ = c .before in
     let c₂ = c₁ .before in
     let c₃ = c₂ .before in
-    let start = c₃ .before .before .before .before in (
+    let c₄ = c₃ .before in
+    let start = c₄ .before .before .before .before in
+    rw (c₁ .class-at .ensures) (
       record {
         classesLong = start .pre .0 .long;
         closureLong = start .pre .1;
         below = omega
-            (arith, start .pre .0 .few, c₃ .row-count .ensures, c₁ .loop-test .taken);
-        bounded = start .pre .0 .bounded (c₂ .loop .c)
-            (omega (arith, c₃ .row-count .ensures, c₁ .loop-test .taken));
+            (arith, start .pre .0 .few, c₄ .row-count .ensures, c₂ .loop-test .taken);
+        bounded = start .pre .0 .bounded (c₃ .loop .c)
+            (omega (arith, c₄ .row-count .ensures, c₂ .loop-test .taken));
       },
       writing-room
-          (room (start .args .classes .now) (start .args .closure .now) (start .args .at) (start .args .out .now) (c₃ .row-count .ensures) (start .pre .2))
-          (c₂ .loop .inv) (c₁ .loop-test .taken),
+          (room (start .args .classes .now) (start .args .closure .now) (start .args .at) (start .args .out .now) (c₄ .row-count .ensures) (start .pre .2))
+          (c₃ .loop .inv) (c₂ .loop-test .taken),
     )
 
 add-c : tie.Need-add-c Inv-loop μ-loop
 add-c c = omega arith
 
 loop-less : tie.Need-loop-less Inv-loop μ-loop
-loop-less c = omega (arith, c .before .before .before .before .loop-test .taken)
+loop-less c = omega (arith, c .before .before .before .before .before .loop-test .taken)
 
 loop-again : tie.Need-loop-again Inv-loop μ-loop
 loop-again c =
@@ -65,10 +73,11 @@ loop-again c =
     let c₂ = c₁ .before .before in
     let c₃ = c₂ .before in
     let c₄ = c₃ .before in
-    let start = c₄ .before .before .before .before in
+    let c₅ = c₄ .before in
+    let start = c₅ .before .before .before .before in
     writing-more
-    (room (start .args .classes .now) (start .args .closure .now) (start .args .at) (start .args .out .now) (c₄ .row-count .ensures) (start .pre .2))
-    (c₃ .loop .inv) (c₂ .loop-test .taken) (c₁ .put-class .ensures)
+    (room (start .args .classes .now) (start .args .closure .now) (start .args .at) (start .args .out .now) (c₅ .row-count .ensures) (start .pre .2))
+    (c₄ .loop .inv) (c₃ .loop-test .taken) (rw (c₂ .class-at .ensures) at (c₁ .put-class .ensures))
 
 same-length : tie.Need-same-length Inv-loop μ-loop
 same-length c =
@@ -98,6 +107,7 @@ put-classes-spec =
     μ-loop
     row-count-requires
     loop-holds
+    class-at-requires
     put-class-requires
     add-c
     loop-less

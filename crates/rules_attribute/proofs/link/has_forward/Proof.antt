@@ -25,20 +25,24 @@ row-count-requires c κs = search needs
 loop-holds : tie.Need-loop-holds Inv-loop μ-loop
 loop-holds c = (search needs, any-zero _)
 
+attribute-at-requires : tie.Need-attribute-at-requires Inv-loop μ-loop
+attribute-at-requires c κs = search needs
+
 is-live-forward-requires : tie.Need-is-live-forward-requires Inv-loop μ-loop
 is-live-forward-requires c κs = search needs
 
 returns : tie.Need-returns Inv-loop μ-loop
 returns c =
     let c₁ = c .before in
-    let c₂ = c₁ .before .before in
-    let c₃ = c₂ .before in
-    let start = c₃ .before .before .before in
+    let c₂ = c₁ .before in
+    let c₃ = c₂ .before .before in
+    let c₄ = c₃ .before in
+    let start = c₄ .before .before .before in
     let back = start .args .back .now in
     let attributes = start .args .attributes .now in
     sym
-    (any-here (λ j. isForwardOf back (tableIn Attributes attributes .row j) && live (tableIn Attributes attributes) back j) (c₂ .loop .j) _
-    (omega (arith, c₃ .row-count .ensures)) (sym (c₁ .is-live-forward .ensures) ∙ c .if1 .taken))
+    (any-here (λ j. isForwardOf back (tableIn Attributes attributes .row j) && live (tableIn Attributes attributes) back j) (c₃ .loop .j) _
+    (omega (arith, c₄ .row-count .ensures)) (sym (rw (c₂ .attribute-at .ensures) at (c₁ .is-live-forward .ensures)) ∙ c .if1 .taken))
 
 add-j : tie.Need-add-j Inv-loop μ-loop
 add-j c = search needs
@@ -49,13 +53,14 @@ loop-less c = search needs
 loop-again : tie.Need-loop-again Inv-loop μ-loop
 loop-again c =
     let c₁ = c .before in
-    let c₂ = c₁ .before .before in
-    let start = c₂ .before .before .before .before in
+    let c₂ = c₁ .before in
+    let c₃ = c₂ .before .before in
+    let start = c₃ .before .before .before .before in
     let back = start .args .back .now in
     let attributes = start .args .attributes .now in (
       search needs,
       any-more (λ j. isForwardOf back (tableIn Attributes attributes .row j) && live (tableIn Attributes attributes) back j) _
-          (c₂ .loop .inv .1) (sym (c₁ .is-live-forward .ensures) ∙ c .if1 .left),
+          (c₃ .loop .inv .1) (sym (rw (c₂ .attribute-at .ensures) at (c₁ .is-live-forward .ensures)) ∙ c .if1 .left),
     )
 
 returns-2 : tie.Need-returns-2 Inv-loop μ-loop
@@ -77,6 +82,7 @@ has-forward-spec =
     μ-loop
     row-count-requires
     loop-holds
+    attribute-at-requires
     is-live-forward-requires
     returns
     add-j

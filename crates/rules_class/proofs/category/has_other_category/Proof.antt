@@ -27,8 +27,8 @@ category-requires c κs =
     omega (
       arith,
       ap length (c .class-row .ensures),
-      table-row-length Classes (start .args .classes .now) (start .args .c .0) (start .pre .long)
-          (omega (arith, start .pre .few, c₂ .row-count .ensures, c₁ .if1 .left)),
+      table-row-length Classes (start .args .classes .now) (start .args .c .0) (start .pre .0 .long)
+          (omega (arith, start .pre .0 .few, c₂ .row-count .ensures, c₁ .if1 .left)),
     )
 
 returns-2 : tie.Need-returns-2

@@ -38,29 +38,36 @@ loop-holds c =
           (start .args .at * 8 + i)),
     )
 
-mul-t9 : tie.Need-mul-t9 Inv-loop μ-loop
-mul-t9 c =
+mul-class-at : tie.Need-mul-class-at Inv-loop μ-loop
+mul-class-at c =
     let start = c .before .before .before .before .before .before in
     omega (arith, start .pre .2)
 
-add-t10 : tie.Need-add-t10 Inv-loop μ-loop
-add-t10 c =
+add-class-at : tie.Need-add-class-at Inv-loop μ-loop
+add-class-at c =
+    let start = c .before .before .before .before .before .before in
+    omega (arith, start .pre .2, c .loop-test .taken)
+
+class-at-requires : tie.Need-class-at-requires Inv-loop μ-loop
+class-at-requires c κs =
     let start = c .before .before .before .before .before .before in
     omega (arith, start .pre .2, c .loop-test .taken)
 
 is-wrongly-listed-requires : tie.Need-is-wrongly-listed-requires Inv-loop μ-loop
 is-wrongly-listed-requires c κs =
-    let start = c .before .before .before .before .before .before in
-    (start .pre .0, start .pre .1)
+    let c₁ = c .before in
+    let start = c₁ .before .before .before .before .before .before in
+    (start .pre .0, start .pre .1, omega (arith, c .class-at .ensures, start .pre .2, c₁ .loop-test .taken))
 
 returns-2 : tie.Need-returns-2 Inv-loop μ-loop
 returns-2 c =
     let c₁ = c .before in
     let c₂ = c₁ .before in
     let c₃ = c₂ .before in
-    let start = c₃ .before .before .before .before .before in
+    let c₄ = c₃ .before in
+    let start = c₄ .before .before .before .before .before in
     sym (any-here (λ i. wronglyListed (start .args .kind) (tableIn Classes (start .args .classes .now)) (start .args .row .now) (start .args .at * 8 + i))
-    (c₃ .loop .i) 8 (c₂ .loop-test .taken) (sym (c₁ .is-wrongly-listed .ensures) ∙ c .if2 .taken))
+    (c₄ .loop .i) 8 (c₃ .loop-test .taken) (sym (rw (c₂ .class-at .ensures) at (c₁ .is-wrongly-listed .ensures)) ∙ c .if2 .taken))
 
 add-i : tie.Need-add-i Inv-loop μ-loop
 add-i c = search needs
@@ -73,10 +80,12 @@ loop-again c =
     let c₁ = c .before in
     let c₂ = c₁ .before in
     let c₃ = c₂ .before in
-    let start = c₃ .before .before .before .before .before in (
-      omega (arith, c₂ .loop-test .taken),
+    let c₄ = c₃ .before in
+    let start = c₄ .before .before .before .before .before in (
+      omega (arith, c₃ .loop-test .taken),
       any-more (λ i. wronglyListed (start .args .kind) (tableIn Classes (start .args .classes .now))
-          (start .args .row .now) (start .args .at * 8 + i)) (c₃ .loop .i) (c₃ .loop .inv .1) (sym (c₁ .is-wrongly-listed .ensures) ∙ c .if2 .left),
+          (start .args .row .now) (start .args .at * 8 + i)) (c₄ .loop .i) (c₄ .loop .inv .1)
+          (sym (rw (c₂ .class-at .ensures) at (c₁ .is-wrongly-listed .ensures)) ∙ c .if2 .left),
     )
 
 returns-3 : tie.Need-returns-3 Inv-loop μ-loop
@@ -95,8 +104,9 @@ wrong-in-spec =
     lists-none-requires
     returns
     loop-holds
-    mul-t9
-    add-t10
+    mul-class-at
+    add-class-at
+    class-at-requires
     is-wrongly-listed-requires
     returns-2
     add-i

@@ -33,12 +33,14 @@ returns c =
 superclass-late-requires : tie.Need-superclass-late-requires
 superclass-late-requires c κs =
     let c₁ = c .before .before in
-    let start = c₁ .before .before in
-    omega (
-      arith,
-      ap length (c₁ .class-row .ensures),
-      table-row-length Classes (start .args .classes .now) (start .args .c .0) (start .pre .0 .long)
-          (omega (arith, start .pre .0 .few)),
+    let start = c₁ .before .before in (
+      omega (
+        arith,
+        ap length (c₁ .class-row .ensures),
+        table-row-length Classes (start .args .classes .now) (start .args .c .0) (start .pre .0 .long)
+            (omega (arith, start .pre .0 .few)),
+      ),
+      omega (arith, start .pre .0 .few),
     )
 
 returns-2 : tie.Need-returns-2

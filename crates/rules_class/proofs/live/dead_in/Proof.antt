@@ -55,10 +55,11 @@ row-id-requires c κs =
 
 names-dead-requires : tie.Need-names-dead-requires Inv-loop μ-loop
 names-dead-requires c κs =
-    let c₁ = c .before .before in
-    let start = c₁ .before .before .before .before .before in
-    dead-asked (start .args .table) (start .args .store .now) (start .args .row .now) (start .args .at * 8 + c₁ .loop .i) (c .row-id .ensures)
-    (start .pre .0) (start .pre .1)
+    let c₁ = c .before in
+    let c₂ = c₁ .before in
+    let start = c₂ .before .before .before .before .before in
+    dead-asked (start .args .table) (start .args .store .now) (start .args .row .now) (start .args .at * 8 + c₂ .loop .i) (c .row-id .ensures)
+    (start .pre .0) (start .pre .1) (in-byte (start .args .table) (start .args .at) _ (start .pre .2) (c₁ .loop-test .taken))
 
 returns-2 : tie.Need-returns-2 Inv-loop μ-loop
 returns-2 c =

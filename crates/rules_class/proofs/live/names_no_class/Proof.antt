@@ -89,8 +89,8 @@ returns-2 c =
       sym (c₁ .is-blank2 .ensures) ∙ not-true _ (c .if2 .taken),
     )
 
-superclass-number-requires : tie.Need-superclass-number-requires
-superclass-number-requires c κs = search needs
+superclass-elsewhere-requires : tie.Need-superclass-elsewhere-requires
+superclass-elsewhere-requires c κs = search needs
 
 returns-3 : tie.Need-returns-3
 unfolding namesNone
@@ -111,9 +111,8 @@ returns-3 c =
           (c₄ .fixed-superior .ensures),
       ← (c₃ .open-superior .ensures),
       sym (c₂ .is-blank2 .ensures) ∙ not-false _ (c₁ .if2 .left),
-      ←
-          (c .superclass-number .ensures),
     )
+    (c .superclass-elsewhere .ensures)
 
 pub names-no-class-spec : {M : Type 1} → statement M
 names-no-class-spec =
@@ -127,5 +126,5 @@ names-no-class-spec =
     open-superior-requires
     is-blank-requires-2
     returns-2
-    superclass-number-requires
+    superclass-elsewhere-requires
     returns-3)

@@ -1,4 +1,4 @@
-use Rattle.rules_unique.proofs.Places.{Apart, Marked, apart-more, marked-more, none-taken, one-taken, place-there}
+use Rattle.rules_unique.proofs.Places.{Apart, Marked, apart-more, marked-more, none-taken, one-taken, place-there, places-few}
 use Rattle.rules_unique.specs.Marks.{keyMark, marksWidth, met, placeCount, placeId}
 use Rattle.rules_unique.specs.Unique.{everyRow, taken}
 use Rattle.rules_unique.specs.UniqueLaws.{schema-keyed}
@@ -41,7 +41,22 @@ loop-holds c =
     (search needs, ap length (start .pre .1) ∙ zeros-length marksWidth, (λ j l. absurd (omega (arith, l)), λ i j l b. absurd (omega (arith, b))))
 
 id-at-requires : tie.Need-id-at-requires Inv-loop μ-loop
-id-at-requires c κs = search needs
+id-at-requires c κs =
+    let c₁ = c .before in
+    let c₂ = c₁ .before in
+    let c₃ = c₂ .before in
+    let start = c₃ .before .before .before .before in
+    let m = (schemaIn (start .args .attributes .now) (start .args .classes .now)) in (
+      omega (arith, c₃ .row-count .ensures, start .pre .0 .attributes .few),
+      omega (
+        arith,
+        c .loop-test .taken,
+        c₂ .place-count .ensures,
+        c₃ .row-count .ensures,
+        places-few (start .args .key) m,
+        start .pre .0 .classes .few,
+      ),
+    )
 
 schema-row-requires : tie.Need-schema-row-requires Inv-loop μ-loop
 schema-row-requires c κs =

@@ -12,7 +12,10 @@ enum-known-id-2 : tie.Need-enum-known-id-2
 enum-known-id-2 c = search needs
 
 names-class-requires : tie.Need-names-class-requires
-names-class-requires c κs = search needs
+names-class-requires c κs =
+    let c₁ = c .before in
+    let start = c₁ .before .before .before in
+    (start .pre .0, rw (c₁ .id2 .given .1) at (start .pre .1))
 
 returns : tie.Need-returns
 returns c = rw (c .before .before .id .given .1) (c .names-attribute .ensures)

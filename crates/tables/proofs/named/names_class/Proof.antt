@@ -1,15 +1,15 @@
 use borrow.Author.Needs.{needs}
-use borrow.Author.Tests.{eq-eqb, ne-eqb}
+use mathlib.Core.Path.{sym, _∙_}
 use Rattle.tables.specs.Named.{names}
 use Rattle.tables.proofs.named.names_class.Statement.{statement}
 use Rattle.tables.proofs.named.names_class.Tie as tie
 
-superclass-number-requires : tie.Need-superclass-number-requires
-superclass-number-requires c κs = search needs
+is-superclass-requires : tie.Need-is-superclass-requires
+is-superclass-requires c κs = search needs
 
 returns : tie.Need-returns
 unfolding names
-returns c = rw (← (c .before .before .superclass-number .ensures), eq-eqb _ _ (c .if1 .taken))
+returns c = rw (sym (c .before .is-superclass .ensures) ∙ c .if1 .taken)
 
 is-listed-requires : tie.Need-is-listed-requires
 is-listed-requires c κs = search needs
@@ -19,8 +19,8 @@ unfolding names
 returns-2 c =
     let c₁ = c .before in
     let c₂ = c₁ .before in
-    let c₃ = c₂ .before .before in
-    rw (← (c₃ .superclass-number .ensures), ne-eqb _ _ (c₂ .if1 .left), ← (c₁ .is-listed .ensures), c .if2 .taken)
+    let c₃ = c₂ .before in
+    rw (sym (c₃ .is-superclass .ensures) ∙ c₂ .if1 .left, ← (c₁ .is-listed .ensures), c .if2 .taken)
 
 is-listed-requires-2 : tie.Need-is-listed-requires-2
 is-listed-requires-2 c κs = search needs
@@ -31,14 +31,14 @@ returns-3 c =
     let c₁ = c .before in
     let c₂ = c₁ .before in
     let c₃ = c₂ .before in
-    let c₄ = c₃ .before .before in
-    rw (← (c₄ .superclass-number .ensures), ne-eqb _ _ (c₃ .if1 .left), ← (c₂ .is-listed .ensures), c₁ .if2 .left) (c .is-listed2 .ensures)
+    let c₄ = c₃ .before in
+    rw (sym (c₄ .is-superclass .ensures) ∙ c₃ .if1 .left, ← (c₂ .is-listed .ensures), c₁ .if2 .left) (c .is-listed2 .ensures)
 
 pub names-class-spec : {M : Type 1} → statement M
 names-class-spec =
     tie.close
     (tie.spec
-    superclass-number-requires
+    is-superclass-requires
     returns
     is-listed-requires
     returns-2

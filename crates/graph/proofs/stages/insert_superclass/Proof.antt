@@ -1,0 +1,52 @@
+use mathlib.Core.Path.{sym, _∙_}
+use native.Mathlib.Omega.{arith}
+use borrow.Author.Needs.{needs}
+use Rattle.sets.specs.SetsLaws.{with-beyond}
+use Rattle.schema.specs.ClassRow.{superclassOf}
+use Rattle.schema.specs.NumbersLaws.{class-is, class-beyond}
+use Rattle.graph.proofs.stages.insert_superclass.Statement.{statement}
+use Rattle.graph.proofs.stages.insert_superclass.Tie as tie
+
+superclass-requires : tie.Need-superclass-requires
+superclass-requires c κs = search needs
+
+enum-known-read : tie.Need-enum-known-read
+enum-known-read c = search needs
+
+insert-requires : tie.Need-insert-requires
+insert-requires c κs = search needs
+
+enum-told : tie.Need-enum-told
+enum-told c = search needs
+
+same-length : tie.Need-same-length
+same-length c = search needs
+
+returns : tie.Need-returns
+returns c =
+    let c₁ = c .before .before in
+    let c₂ = c₁ .before .before .before in
+    let c₃ = c₂ .before .before in
+    let start = c₃ .before .before .before in
+    rw (class-is (superclassOf (start .args .row .now)) (c₂ .read .given .0 .0) (sym (c₃ .superclass .ensures) ∙ c₂ .read .given .1) .0) (c₁ .insert .ensures)
+
+returns-2 : tie.Need-returns-2
+returns-2 c =
+    let c₁ = c .before .before in
+    let c₂ = c₁ .before in
+    let start = c₂ .before .before in
+    let above = superclassOf (start .args .row .now) in
+    let beyond = class-beyond above (sym (c₁ .superclass .ensures) ∙ c .enum-told .given .1) in
+    sym (with-beyond (start .args .out .now) above (λ i. c₂ .slice-known .given i .fits) (omega (arith, start .pre .1, beyond)))
+
+pub insert-superclass-spec : {M : Type 1} → statement M
+insert-superclass-spec =
+    tie.close
+    (tie.spec
+    superclass-requires
+    enum-known-read
+    insert-requires
+    enum-told
+    same-length
+    returns
+    returns-2)
