@@ -3,8 +3,11 @@ use mathlib.Core.List.{List}
 use Prim.Native.Nat.{ℕ}
 use Rattle.prelude.specs.Part.{part}
 use Rattle.schema.specs.Layout.{attributeSet, classSet, fixedOptionalAt, openOptionalAt, fixedAuxiliaryAt, openAuxiliaryAt, fixedSuperiorAt, openSuperiorAt}
+use Rattle.schema.specs.Numbers.{numberRead}
+use Rattle.schema.specs.declared.number.NumberRead.{NumberRead}
 use Rattle.schema.specs.declared.number.TableId.{TableId}
 use Rattle.schema.specs.declared.number.TableId.the-variants.{Attributes, Classes}
+use Rattle.change_read.specs.Carried.{listOf, entryOf}
 use Rattle.change_read.specs.declared.carried.OpenList.{OpenList}
 use Rattle.change_read.specs.declared.carried.OpenList.the-variants.{Optional, Auxiliary, Superior}
 
@@ -36,3 +39,7 @@ openOf list row = part (openAt list) (listWidth list) row
 
 abbrev pub fixedOf : OpenList → List ℕ → List ℕ
 fixedOf list row = part (fixedAt list) (listWidth list) row
+
+-- the entry that a list change carries, "any u16", where a row of the list's table is meant
+abbrev pub entryRead : List ℕ → NumberRead
+entryRead r = numberRead (listTable (listOf r)) (entryOf r)

@@ -1,5 +1,7 @@
 // The open lists of a class.
 use change_read::carried::OpenList;
+use change_read::carried::entry_of;
+use change_read::carried::list_of;
 use schema::layout::ATTRIBUTE_SET;
 use schema::layout::CLASS_SET;
 use schema::layout::FIXED_AUXILIARY;
@@ -8,9 +10,14 @@ use schema::layout::FIXED_SUPERIOR;
 use schema::layout::OPEN_AUXILIARY;
 use schema::layout::OPEN_OPTIONAL;
 use schema::layout::OPEN_SUPERIOR;
+use schema::number::NumberRead;
 use schema::number::TableId;
+use schema::number::number_read;
 ghost use mathlib.Core.Path.{_≡_};
-ghost use Rattle.change_rows.specs.Lists.{listTable, openAt, fixedAt, listWidth};
+ghost use Prim.Native.Nat.{_≤_};
+ghost use lib.ListN.{length};
+ghost use Rattle.rows_format.specs.Formats.{entryWidth};
+ghost use Rattle.change_rows.specs.Lists.{listTable, openAt, fixedAt, listWidth, entryRead};
 
 // The table whose rows a list names.
 pub fn list_table(list: OpenList) -> TableId
@@ -54,4 +61,12 @@ pub fn list_width(list: OpenList) -> usize
         OpenList::Auxiliary => CLASS_SET,
         OpenList::Superior => CLASS_SET,
     }
+}
+
+// The entry that a list change names, as a row of the list's table, there or not.
+pub fn entry_read(scratch: &[u8]) -> NumberRead
+    requires { ⌜ entryWidth ≤ length (now scratch) ⌝ }
+    ensures { λ r. ⌜ r ≡ entryRead (now (scratch .entry)) ⌝ }
+{
+    number_read(list_table(list_of(scratch)), entry_of(scratch) as usize)
 }
