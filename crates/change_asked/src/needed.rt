@@ -5,7 +5,6 @@ use schema::number::AttributeNumber;
 use schema::number::ClassNumber;
 use schema::number::RowId;
 use schema::number::TableId;
-use schema::number::row_id;
 use schema::number::same_row;
 use schema::row::is_defunct;
 use schema::store::attribute_row;
