@@ -1,12 +1,12 @@
 // Numbers 5 to 11.
 use crate::needed::is_needed;
 use change_read::carried::added_row;
-use change_read::carried::entry_of;
 use change_read::carried::list_of;
 use change_read::carried::target_of;
 use change_read::read::Change;
 use change_rows::edit::is_addition;
 use change_rows::edit::table_for;
+use change_rows::list::entry_read;
 use change_rows::list::fixed_at;
 use change_rows::list::list_width;
 use change_rows::list::open_at;
@@ -81,11 +81,11 @@ fn in_open(scratch: &[u8], row: &[u8]) -> bool
     requires { ⌜ (length (now scratch) ≡ classWidth) × (length (now row) ≡ classWidth) ⌝ }
     ensures { λ r. ⌜ r ≡ member (openOf (listOf (now (scratch .entry))) (now (row .entry))) (entryOf (now (scratch .entry))) ⌝ }
 {
+    let NumberRead::Row(id) = entry_read(scratch) else {
+        return false;
+    };
     let list = list_of(scratch);
-    has(
-        part_of(row, open_at(list), list_width(list)),
-        entry_of(scratch) as usize,
-    )
+    has(part_of(row, open_at(list), list_width(list)), number_of(id))
 }
 
 // Whether the fixed list does.
@@ -93,10 +93,13 @@ fn in_fixed(scratch: &[u8], row: &[u8]) -> bool
     requires { ⌜ (length (now scratch) ≡ classWidth) × (length (now row) ≡ classWidth) ⌝ }
     ensures { λ r. ⌜ r ≡ member (fixedOf (listOf (now (scratch .entry))) (now (row .entry))) (entryOf (now (scratch .entry))) ⌝ }
 {
+    let NumberRead::Row(id) = entry_read(scratch) else {
+        return false;
+    };
     let list = list_of(scratch);
     has(
         part_of(row, fixed_at(list), list_width(list)),
-        entry_of(scratch) as usize,
+        number_of(id),
     )
 }
 

@@ -4,18 +4,19 @@ use native.Mathlib.Omega.{arith}
 use Prim.Native.Nat.{_*_, _+_, _-_, _≤_, ℕ}
 use mathlib.Core.List.{List, _++_}
 use mathlib.Core.Path.{_∙_, _≡_, ap, ap₂, refl, sym}
-use mathlib.Core.Bool.{false, true, false≢true}
+use mathlib.Core.Bool.{Bool, cond, false, true, false≢true}
 use mathlib.Core.Logic.{inl}
 use Rattle.change_read.specs.declared.read.Change.the-variants.{Add, SetRange, Rename, Deactivate, Reactivate, AddEntry, RemoveEntry}
 use Rattle.change_read.specs.declared.read.Change.{Change}
 use Rattle.change_read.specs.Carried.{addedRow, targetOf}
 use Rattle.schema.specs.declared.number.TableId.{TableId}
 use Rattle.schema.specs.Layout.{rowWidth, rowsAt}
-use Rattle.schema.specs.Numbers.{limit, rowId, tableOf, numberOf}
-use Rattle.schema.specs.NumbersLaws.{id-table, id-number}
+use Rattle.schema.specs.Numbers.{limit, numberRead, tableOf, numberOf}
+use Rattle.schema.specs.NumbersLaws.{id-table, id-number, number-beyond}
+use Rattle.schema.specs.declared.number.NumberRead.the-variants.{Beyond}
 use Rattle.schema.specs.declared.number.RowId.{RowId}
-use Rattle.schema.specs.Store.{tableIn}
-use Rattle.change_rows.specs.Stores.{Applicable, storeAfter}
+use Rattle.schema.specs.Store.{countIn, tableIn}
+use Rattle.change_rows.specs.Stores.{Applicable, rowChanged, storeAfter}
 use Rattle.change_rows.specs.RowsLaws.{edited-wide}
 use Rattle.change_rows.specs.Rows.{editedRow, isAddition, tableFor}
 use Rattle.prelude.specs.LentLaws.{lent-back}
@@ -23,12 +24,25 @@ use Rattle.prelude.specs.Part.{part, splice}
 use Rattle.prelude.specs.PartLaws.{part-cut, part-length, row-fits}
 use Rattle.tables.specs.Filled.{plusIn, putIn}
 
--- where the target's row stands, as its number was made and looked up
-pub target-start : (t u : TableId) (k n at : ℕ) (id : RowId) → at ≡ rowsAt + rowWidth (tableOf id) * numberOf id → id ≡ rowId t k → t ≡ u → k ≡ n
-    → at ≡ rowsAt + rowWidth u * n
-target-start t u k n at id e f g h =
-    e ∙ ap (λ (x : RowId). rowsAt + rowWidth (tableOf x) * numberOf x) f
-    ∙ ap₂ (λ (x : TableId) (y : ℕ). rowsAt + rowWidth x * y) (id-table t k ∙ g) (id-number t k ∙ h)
+-- the row of a change that has a target
+pub row-target : (change : Change) (r s : List ℕ) {id : RowId} → isAddition change ≡ false → id ≡ rowChanged change r s
+    → (tableOf id ≡ tableFor change) × (numberOf id ≡ targetOf r)
+row-target change r s fixed e = (
+  ap tableOf e ∙ id-table (tableFor change) _,
+  ap numberOf e ∙ id-number (tableFor change) _ ∙ ap (λ (b : Bool). cond b (countIn (tableFor change) s) (targetOf r)) fixed,
+)
+
+-- its number is never beyond the limit
+pub target-read : (change : Change) (r s : List ℕ) → Applicable change r s → isAddition change ≡ false → numberRead (tableFor change) (targetOf r) ≡ Beyond
+    → ⊥
+target-read change r s ok fixed e = omega (arith, ok .within fixed, number-beyond (tableFor change) (targetOf r) e)
+
+-- where it stands
+pub target-start : (change : Change) (r s : List ℕ) {at : ℕ} {id : RowId} → isAddition change ≡ false → id ≡ rowChanged change r s
+    → at ≡ rowsAt + rowWidth (tableOf id) * numberOf id → at ≡ rowsAt + rowWidth (tableFor change) * targetOf r
+target-start change r s fixed e f =
+    let is = row-target change r s fixed e in
+    f ∙ ap₂ (λ (t : TableId) (k : ℕ). rowsAt + rowWidth t * k) (is .0) (is .1)
 
 module _ (change : Change) (r s : List ℕ) (ok : Applicable change r s) (fixed : isAddition change ≡ false) (w at : ℕ)
     (wide : w ≡ rowWidth (tableFor change)) (begins : at ≡ rowsAt + rowWidth (tableFor change) * targetOf r) where

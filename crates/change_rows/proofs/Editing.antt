@@ -3,16 +3,16 @@ use native.Mathlib.Omega.{arith}
 use lib.ListN.{length, take, drop}
 use Prim.Native.Nat.{ℕ, _+_, _≤_, _-_, _<_}
 use mathlib.Core.List.{List, _++_}
-use mathlib.Core.Path.{ap₂, _≡_, _∙_, ap, ap₂, refl}
+use mathlib.Core.Path.{_≡_, _∙_, ap, ap₂, refl, sym}
 use Rattle.change_read.specs.declared.read.Change.{Change}
 use Rattle.change_read.specs.declared.carried.OpenList.{OpenList}
-use lib.ListN.{drop}
 use Rattle.change_rows.specs.Lists.{openAt, listWidth, openOf}
 use Rattle.change_rows.specs.Rows.{tableFor}
 use Rattle.change_rows.specs.RowsLaws.{list-inside, common-narrow}
 use Rattle.schema.specs.Layout.{rowWidth, classWidth, commonWidth}
 use Rattle.prelude.specs.Part.{splice, part}
 use Rattle.prelude.specs.PartLaws.{part-cut, part-length}
+use Rattle.prelude.specs.SpliceLaws.{splice-part}
 use Rattle.prelude.specs.LentLaws.{lent-back}
 
 -- an open list that was lent
@@ -27,6 +27,11 @@ module _ (list : OpenList) (at width : ℕ) (row : List ℕ) (is : at ≡ openAt
       lent-back at (at + width) row back (f (part at width row))
       (omega (arith, same (part at width row), part-length at width row inside)) (e ∙ ap f cut)
       ∙ ap₂ (λ (a w : ℕ). splice a (f (part a w row)) row) is wide
+
+-- an open list that a change leaves as it is
+pub list-kept : (list : OpenList) (row : List ℕ) {new : List ℕ} → length row ≡ classWidth → new ≡ openOf list row → row ≡ splice (openAt list) new row
+list-kept list row long e =
+    sym (ap (λ (x : List ℕ). splice (openAt list) x row) e ∙ splice-part (openAt list) (listWidth list) row (omega (arith, list-inside list)))
 
 -- how wide the row is
 pub common-row : (change : Change) (row : List ℕ) → length row ≡ rowWidth (tableFor change) → commonWidth < length row

@@ -8,7 +8,9 @@ use change_read::read::Change;
 use prelude::part::copy_padded;
 use prelude::part::part_of;
 use schema::layout::row_width;
+use schema::number::NumberRead;
 use schema::number::RowId;
+use schema::number::number_read;
 use schema::number::row_id;
 use schema::number::table_of;
 use schema::store::row;
@@ -26,7 +28,7 @@ ghost use Rattle.schema.specs.Layout.{storeLength, classWidth, rowWidth};
 ghost use Rattle.schema.specs.Numbers.{tableOf, numberOf, limit};
 ghost use Rattle.schema.specs.Store.{tableIn};
 
-// The row that a change is about, in the store of its table.
+// The row that a change is about, in the store of its table. The target is never beyond the limit: number 5 has refused such a change.
 pub fn row_changed(change: Change, scratch: &[u8], store: &[u8]) -> RowId
     requires { ⌜ Applicable change (now scratch) (now store) ⌝ }
     ensures { λ r. ⌜ r ≡ rowChanged change (now (scratch .entry)) (now (store .entry)) ⌝ }
@@ -35,19 +37,22 @@ pub fn row_changed(change: Change, scratch: &[u8], store: &[u8]) -> RowId
     if is_addition(change) {
         return row_id(table, row_count(table, store));
     }
-    row_id(table, target_of(scratch) as usize)
+    let NumberRead::Row(id) = number_read(table, target_of(scratch) as usize) else {
+        return row_id(table, 0);
+    };
+    id
 }
 
-// The change is made.
-pub fn apply(change: Change, scratch: &[u8], store: &mut [u8])
-    requires { ⌜ Applicable change (now scratch) (now store) ⌝ }
+// The change is made, of its row.
+pub fn apply(change: Change, scratch: &[u8], id: RowId, store: &mut [u8])
+    requires { ⌜ Applicable change (now scratch) (now store) × (id ≡ rowChanged change (now scratch) (now store)) ⌝ }
     ensures { λ _. ⌜ now (store .exit) ≡ storeAfter change (now (scratch .entry)) (now (store .entry)) ⌝ }
 {
     let table = table_for(change);
     if is_addition(change) {
         push_row(table, store, added_row(table, scratch));
     } else {
-        let at = row_start(row_id(table, target_of(scratch) as usize));
+        let at = row_start(id);
         let end = at + row_width(table);
         edit_row(change, scratch, &mut store[at..end]);
     }

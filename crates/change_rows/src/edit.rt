@@ -1,7 +1,7 @@
 // The row that a change is about, as the change leaves it.
+use crate::list::entry_read;
 use crate::list::list_width;
 use crate::list::open_at;
-use change_read::carried::entry_of;
 use change_read::carried::list_of;
 use change_read::carried::new_name;
 use change_read::carried::new_range;
@@ -10,18 +10,15 @@ use prelude::part::put_bytes;
 use schema::layout::DEFUNCT;
 use schema::layout::NAME;
 use schema::layout::RANGE_LOWER;
+use schema::number::NumberRead;
 use schema::number::TableId;
+use schema::number::number_of;
 use sets::insert;
 use sets::remove;
 ghost use mathlib.Core.Bool.{false};
 ghost use mathlib.Core.Path.{_≡_};
-ghost use Prim.Native.Nat.{_≤_};
 ghost use lib.ListN.{length};
-ghost use Rattle.prelude.specs.Part.{splice};
-ghost use Rattle.sets.specs.Sets.{withMember, withoutMember};
 ghost use Rattle.schema.specs.Layout.{classWidth, rowWidth};
-ghost use Rattle.change_read.specs.Carried.{listOf, entryOf};
-ghost use Rattle.change_rows.specs.Lists.{openAt, openOf};
 ghost use Rattle.change_rows.specs.Rows.{tableFor, isAddition, editedRow};
 
 // The table of the row that a change is about.
@@ -54,15 +51,18 @@ pub fn is_addition(change: Change) -> bool
     }
 }
 
-// An entry more in an open list of a class row.
+// An entry more in an open list of a class row. For one beyond the limit no list has a bit.
 fn add_entry(scratch: &[u8], row: &mut [u8])
     requires { ⌜ (length (now scratch) ≡ classWidth) × (length (now row) ≡ classWidth) ⌝ }
     ensures { λ _. ⌜ now (row .exit) ≡ editedRow Change.AddEntry (now (scratch .entry)) (now (row .entry)) ⌝ }
 {
+    let NumberRead::Row(id) = entry_read(scratch) else {
+        return;
+    };
     let list = list_of(scratch);
     let at = open_at(list);
     let end = at + list_width(list);
-    insert(&mut row[at..end], entry_of(scratch) as usize);
+    insert(&mut row[at..end], number_of(id));
 }
 
 // An entry less.
@@ -70,10 +70,13 @@ fn remove_entry(scratch: &[u8], row: &mut [u8])
     requires { ⌜ (length (now scratch) ≡ classWidth) × (length (now row) ≡ classWidth) ⌝ }
     ensures { λ _. ⌜ now (row .exit) ≡ editedRow Change.RemoveEntry (now (scratch .entry)) (now (row .entry)) ⌝ }
 {
+    let NumberRead::Row(id) = entry_read(scratch) else {
+        return;
+    };
     let list = list_of(scratch);
     let at = open_at(list);
     let end = at + list_width(list);
-    remove(&mut row[at..end], entry_of(scratch) as usize);
+    remove(&mut row[at..end], number_of(id));
 }
 
 // The row of a change that has a target.

@@ -6,7 +6,7 @@ use mathlib.Core.Bool.{cond}
 use mathlib.Core.Path.{_≡_}
 use Rattle.change_read.specs.declared.read.ChangeRead.the-variants.{Read, Bad}
 use Rattle.change_read.specs.declared.read.ChangeRead.{ChangeRead}
-use Rattle.change_read.specs.Reading.{readChange, changeOut}
+use Rattle.change_read.specs.Reading.{readChange}
 use Rattle.change_read.specs.declared.read.Change.{Change}
 use Rattle.schema.specs.declared.answer.Answer.{Answer}
 use Rattle.schema.specs.Store.{Result, Stores, schemaOf, result}
@@ -15,8 +15,6 @@ use Rattle.change_model.specs.Model.{answerTo}
 use Rattle.keeper.specs.Answering.{firstAnswer}
 use Rattle.keeper.specs.Order.{orderAnswers}
 use Rattle.keeper_change.specs.Made.{Allowed, WasRead, rowsMade, refreshed}
-use Rattle.prelude.specs.Part.{Bytes}
-use Rattle.change_asked.specs.Asked.{firstAsked}
 use Rattle.schema.specs.Refusals as refusal
 
 -- "The smallest number whose condition holds", the first in the order of judging: 1, 2, 3, then 4, then those of the model

@@ -1,19 +1,17 @@
 -- How a plain change comes to its end: refused by 5 to 11 with nothing done, judged and taken back, or judged and done.
 use lib.ListN.{length}
-use native.Mathlib.Omega.{arith}
 use Prim.Native.Nat.{_≤_, ℕ, _-_}
 use mathlib.Core.Bool.{Bool, cond, true}
 use mathlib.Core.List.{List, [], _∷_}
 use mathlib.Core.Path.{_∙_, _≡_, ap, ap₂, sym, refl}
-use Rattle.change_read.specs.declared.read.ChangeRead.the-variants.{Read}
 use Rattle.change_read.specs.declared.read.Change.{Change}
 use Rattle.change_read.specs.declared.read.ChangeRead.{ChangeRead}
 use Rattle.change_read.specs.ChangeLaws.{Reads}
 use Rattle.schema.specs.declared.number.TableId.the-variants.{Attributes, Classes}
 use Rattle.schema.specs.declared.answer.Answer.{Answer}
-use Rattle.schema.specs.Store.{Schema, Stores, result, schemaOf, tableStore, countIn, tableIn, withStore}
+use Rattle.schema.specs.Store.{Stores, result, schemaOf, tableStore, countIn, tableIn, withStore}
 use Rattle.schema.specs.Numbers.{classLimit, numberOf}
-use Rattle.schema.specs.Answers.{passed, refused, changed}
+use Rattle.schema.specs.Answers.{passed}
 use Rattle.schema.specs.declared.number.TableId.{TableId}
 use Rattle.schema.specs.Layout.{classWidth, rowWidth}
 use Rattle.schema.specs.StoreLaws.{table-row-length}
@@ -28,8 +26,8 @@ use Rattle.prelude.specs.FirstLaws.{append-cong}
 use Rattle.prelude.specs.SaysLaws.{says-eq, says-false, says-true}
 use Rattle.prelude.specs.PartLaws.{part-between}
 use Rattle.keeper.specs.Answering.{InShape, firstAnswer}
-use Rattle.change_model.specs.Model.{addedBy, answerTo, changeNumber, resultCases}
-use Rattle.change_asked.specs.Asked.{askedCases, firstAsked}
+use Rattle.change_model.specs.Model.{addedBy, answerTo, resultCases}
+use Rattle.change_asked.specs.Asked.{firstAsked}
 use Rattle.graph.specs.Graph.{demandsDiffer, isFresh, mandatoryDiffers}
 use Rattle.graph.specs.SameLaws.{differs-same}
 use Rattle.graph.specs.FreshLaws.{differs-kept}
@@ -39,7 +37,7 @@ use Rattle.keeper_change.specs.Plain.{plainAnswer, plainMade, plainRead}
 use Rattle.keeper_change.specs.Made.{rowsBack, rowsMade, before}
 use Rattle.keeper.specs.OrderLaws.{order-onward, order-refused}
 use Rattle.keeper.specs.Order.{orderAnswers}
-use Rattle.change_rows.specs.Rows.{numberFor, schemaAfter, tableFor}
+use Rattle.change_rows.specs.Rows.{schemaAfter, tableFor}
 use Rattle.change_rows.specs.StoresLaws.{change-restored}
 use Rattle.change_rows.specs.Stores.{rowChanged, storeAfter, restored}
 use Rattle.tables.specs.SameLaws.{same-reflexive}

@@ -15,7 +15,6 @@ use schema::number::RowId;
 use schema::number::TableId;
 use schema::refusal::DONE;
 use schema::refusal::MANDATORY_DIFFERS;
-ghost use mathlib.Core.List.{List};
 ghost use mathlib.Core.Path.{_≡_};
 ghost use Prim.Native.Nat.{_≤_, _<_};
 ghost use lib.ListN.{length};

@@ -32,8 +32,9 @@ fn plain_judged(
         ≡ plainRead (ChangeRead.Read change) (now (scratch .entry)) (stores (now (attributes .entry)) (now (classes .entry)) (now (closure .entry))) ⌝ }
 {
     let before = save(change, scratch, attributes, classes);
+    let id = before.id;
     let present = row_count(TableId::Classes, classes);
-    make(change, scratch, attributes, classes);
+    make(change, scratch, id, attributes, classes);
     let added = added_by(change, scratch, present);
     let number = judged_whole(added, attributes, classes, closure, present);
     if number != DONE {
@@ -41,7 +42,6 @@ fn plain_judged(
         return Answer::refused(number);
     }
     refresh_all(classes, closure);
-    let id = before.id;
     Answer::changed(id)
 }
 

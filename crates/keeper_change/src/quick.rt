@@ -39,7 +39,7 @@ fn quick_judged(
     let present = row_count(TableId::Classes, classes);
     let mut demand = [0u8; ATTRIBUTE_SET];
     demand_before(change, scratch, classes, &mut demand);
-    make(change, scratch, attributes, classes);
+    make(change, scratch, id, attributes, classes);
     let added = added_by(change, scratch, present);
     let number = judged_row(
         added,

@@ -14,9 +14,9 @@ use schema::store::store_of;
 ghost use mathlib.Core.Path.{_≡_};
 ghost use mathlib.Core.List.{List};
 ghost use Prim.Native.Nat.{ℕ};
-ghost use Rattle.schema.specs.Store.{storeOf, stores, withStore};
+ghost use Rattle.schema.specs.Store.{storeOf, stores};
 ghost use Rattle.change_rows.specs.Rows.{tableFor};
-ghost use Rattle.change_rows.specs.Stores.{Applicable};
+ghost use Rattle.change_rows.specs.Stores.{Applicable, rowChanged};
 ghost use Rattle.keeper_change.specs.Made.{rowsMade, before, Restorable, rowsBack};
 
 // The row that a change is about and the count of its table, as they stand before it.
@@ -43,15 +43,16 @@ pub fn save<'a>(change: Change, scratch: &[u8], attributes: &'a [u8], classes: &
     }
 }
 
-// The change is made.
-pub fn make(change: Change, scratch: &[u8], attributes: &mut [u8], classes: &mut [u8])
-    requires { ⌜ Applicable change (now scratch) (storeOf (tableFor change) (now attributes) (now classes)) ⌝ }
+// The change is made, of its row.
+pub fn make(change: Change, scratch: &[u8], id: RowId, attributes: &mut [u8], classes: &mut [u8])
+    requires { ⌜ Applicable change (now scratch) (storeOf (tableFor change) (now attributes) (now classes))
+        × (id ≡ rowChanged change (now scratch) (storeOf (tableFor change) (now attributes) (now classes))) ⌝ }
     ensures { λ _. ⌜ ((k : List ℕ) → stores (now (attributes .exit)) (now (classes .exit)) k
         ≡ rowsMade change (now (scratch .entry)) (stores (now (attributes .entry)) (now (classes .entry)) k)) ⌝ }
 {
     match table_for(change) {
-        TableId::Attributes => apply(change, scratch, attributes),
-        TableId::Classes => apply(change, scratch, classes),
+        TableId::Attributes => apply(change, scratch, id, attributes),
+        TableId::Classes => apply(change, scratch, id, classes),
     }
 }
 

@@ -50,7 +50,6 @@ use schema::store::schema_row;
 use tables::live::is_live;
 use tables::named::ClassList;
 ghost use lib.ListN.{length};
-ghost use mathlib.Core.Bool.{_||_};
 ghost use mathlib.Core.Path.{_≡_};
 ghost use Prim.Native.Nat.{_<_, _≤_};
 ghost use Rattle.prelude.specs.First.{firstOf};
@@ -59,7 +58,6 @@ ghost use Rattle.schema.specs.declared.number.TableId.the-variants.{Attributes,
 ghost use Rattle.schema.specs.Store.{table, tableIn, schemaIn};
 ghost use Rattle.schema.specs.Layout.{commonWidth};
 ghost use Rattle.tables.specs.Shaped.{TableShaped, Shaped};
-ghost use Rattle.rules_class.specs.Live.{classWrong};
 ghost use Rattle.prelude.specs.Unlike.{Unlike};
 ghost use Rattle.rules.specs.Rules.{barred, entryDead, attributeNotLive, classNotLive, commonNumbers, schemaRules, rulesOf, breaks, rowCases};
 

@@ -1,12 +1,30 @@
+use mathlib.Core.Path.{_∙_, ap, ap₂, sym}
+use Rattle.prelude.specs.Part.{part}
+use Rattle.sets.specs.Sets.{member}
+use Rattle.change_read.specs.Carried.{listOf}
+use Rattle.change_rows.specs.Lists.{openAt, openOf}
+use Rattle.change_rows.specs.ListsLaws.{entry-absent, entry-number}
+use Rattle.change_rows.specs.RowsLaws.{list-inside}
 use native.Mathlib.Omega.{arith}
-use mathlib.Core.Path.{_∙_, ap, ap₂}
 use borrow.Author.Needs.{needs}
 use Rattle.change_asked.proofs.asked.in_open.Statement.{statement}
-use Rattle.change_rows.specs.RowsLaws.{list-inside}
-use Rattle.change_rows.specs.Lists.{openOf}
-use Rattle.sets.specs.Sets.{member}
-use Rattle.prelude.specs.Part.{part}
 use Rattle.change_asked.proofs.asked.in_open.Tie as tie
+
+entry-read-requires : tie.Need-entry-read-requires
+entry-read-requires c κs = search needs
+
+enum-known-id : tie.Need-enum-known-id
+enum-known-id c = search needs
+
+enum-told : tie.Need-enum-told
+enum-told c = search needs
+
+returns : tie.Need-returns
+returns c =
+    let c₁ = c .before .before in
+    let start = c₁ .before .before .before in
+    let r = start .args .scratch .now in
+    sym (entry-absent r (sym (c₁ .entry-read .ensures) ∙ c .enum-told .given .1) (openAt (listOf r)) (start .args .row .now))
 
 list-of-requires : tie.Need-list-of-requires
 list-of-requires c κs = search needs
@@ -21,38 +39,42 @@ part-of-requires : tie.Need-part-of-requires
 part-of-requires c κs =
     let c₁ = c .before in
     let c₂ = c₁ .before in
-    let start = c₂ .before .before .before in
+    let start = c₂ .before .before .before .before .before .before .before in
     omega (arith, c₁ .open-at .ensures, c .list-width .ensures, list-inside (c₂ .list-of .result), start .pre .1)
 
-entry-of-requires : tie.Need-entry-of-requires
-entry-of-requires c κs = search needs
-
-cast-has : tie.Need-cast-has
-cast-has c = search needs
+number-of-requires : tie.Need-number-of-requires
+number-of-requires c κs = search needs
 
 has-requires : tie.Need-has-requires
 has-requires c κs = search needs
 
-returns : tie.Need-returns
-returns c =
+returns-2 : tie.Need-returns-2
+returns-2 c =
     let c₁ = c .before in
     let c₂ = c₁ .before in
     let c₃ = c₂ .before in
     let c₄ = c₃ .before in
     let c₅ = c₄ .before in
-    let start = c₅ .before .before .before in
-    c .has .ensures ∙ ap₂ member (c₂ .part-of .ensures ∙ ap₂ (λ a w. part a w (start .args .row .now)) (c₄ .open-at .ensures) (c₃ .list-width .ensures)
-    ∙ ap (λ l. openOf l (start .args .row .now)) (c₅ .list-of .ensures)) (c₁ .entry-of .ensures)
+    let c₆ = c₅ .before .before in
+    let c₇ = c₆ .before .before in
+    let start = c₇ .before .before .before in
+    let row = start .args .row .now in
+    let entry = entry-number (start .args .scratch .now) (sym (c₇ .entry-read .ensures) ∙ c₆ .id .given .1) in
+    c .has .ensures ∙ ap₂ member (c₂ .part-of .ensures ∙ ap₂ (λ a w. part a w row) (c₄ .open-at .ensures) (c₃ .list-width .ensures)
+    ∙ ap (λ l. openOf l row) (c₅ .list-of .ensures)) (c₁ .number-of .ensures ∙ entry)
 
 pub in-open-spec : {M : Type 1} → statement M
 in-open-spec =
     tie.close
     (tie.spec
+    entry-read-requires
+    enum-known-id
+    enum-told
+    returns
     list-of-requires
     open-at-requires
     list-width-requires
     part-of-requires
-    entry-of-requires
-    cast-has
+    number-of-requires
     has-requires
-    returns)
+    returns-2)

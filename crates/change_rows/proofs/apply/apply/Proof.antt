@@ -1,10 +1,9 @@
 use mathlib.Core.Path.{_∙_, ap, sym}
-use Rattle.change_rows.proofs.Applying.{target-start, lent-wide, added-store, edited-back, row-inside}
 use Rattle.prelude.specs.PartLaws.{part-length}
 use Rattle.schema.specs.Layout.{rowWidth}
-use Rattle.schema.specs.NumbersLaws.{id-table, id-number}
 use Rattle.change_rows.specs.Rows.{tableFor}
 use Rattle.change_rows.specs.RowsLaws.{narrow-row}
+use Rattle.change_rows.proofs.Applying.{added-store, edited-back, lent-wide, row-inside, row-target, target-start}
 use native.Mathlib.Omega.{arith}
 use borrow.Author.Needs.{needs}
 use Rattle.change_rows.proofs.apply.apply.Statement.{statement}
@@ -20,7 +19,7 @@ added-row-requires : tie.Need-added-row-requires
 added-row-requires c κs =
     let c₁ = c .before .before .before in
     let start = c₁ .before .before .before in
-    rw (c₁ .table-for .ensures, start .pre .carried) (narrow-row (tableFor (start .args .change)))
+    rw (c₁ .table-for .ensures, start .pre .0 .carried) (narrow-row (tableFor (start .args .change)))
 
 push-row-requires : tie.Need-push-row-requires
 push-row-requires c κs =
@@ -28,39 +27,25 @@ push-row-requires c κs =
     let c₂ = c₁ .before in
     let c₃ = c₂ .before in
     let start = c₃ .before .before .before in
-    let change = start .args .change in
+    let ok = start .pre .0 in
+    let t = tableFor (start .args .change) in
     rw (c .added-row .ensures, c₃ .table-for .ensures) (
-      start .pre .long,
-      start .pre .room (sym (c₂ .is-addition .ensures) ∙ c₁ .if1 .taken),
-      part-length 0
-          (rowWidth (tableFor change)) (start .args .scratch .now) (omega (arith, start .pre .carried, narrow-row (tableFor change))),
+      ok .long,
+      ok .room (sym (c₂ .is-addition .ensures) ∙ c₁ .if1 .taken),
+      part-length 0 (rowWidth t) (start .args .scratch .now) (omega (arith, ok .carried, narrow-row t)),
     )
-
-target-of-requires : tie.Need-target-of-requires
-target-of-requires c κs = search needs
-
-cast-row-id : tie.Need-cast-row-id
-cast-row-id c = search needs
-
-row-id-requires : tie.Need-row-id-requires
-row-id-requires c κs =
-    let c₁ = c .before in
-    let c₂ = c₁ .before in
-    let c₃ = c₂ .before in
-    let start = c₃ .before .before .before in
-    rw (c₃ .table-for .ensures) (omega (arith, c .target-of .ensures, start .pre .within (sym (c₂ .is-addition .ensures) ∙ c₁ .if1 .left)))
 
 row-start-requires : tie.Need-row-start-requires
 row-start-requires c κs =
     let c₁ = c .before in
-    let c₂ = c₁ .before in
-    let c₃ = c₂ .before in
-    let c₄ = c₃ .before in
-    let start = c₄ .before .before .before in
-    let t = c₄ .table-for .result in
-    let k = c₁ .target-of .result in
-    rw (c .row-id .ensures, id-table t k, id-number t k)
-    (rw (c₄ .table-for .ensures) (omega (arith, c₁ .target-of .ensures, start .pre .within (sym (c₃ .is-addition .ensures) ∙ c₂ .if1 .left))))
+    let start = c₁ .before .before .before .before in
+    let change = start .args .change in
+    let r = start .args .scratch .now in
+    let s = start .args .store .now in
+    let ok = start .pre .0 in
+    let fixed = sym (c₁ .is-addition .ensures) ∙ c .if1 .left in
+    let is = row-target change r s fixed (start .pre .1) in
+    rw (is .0) (omega (arith, is .1, ok .within fixed))
 
 row-width-requires : tie.Need-row-width-requires
 row-width-requires c κs = search needs
@@ -71,16 +56,15 @@ add-end c =
     let c₂ = c₁ .before in
     let c₃ = c₂ .before in
     let c₄ = c₃ .before in
-    let c₅ = c₄ .before in
-    let c₆ = c₅ .before in
-    let start = c₆ .before .before .before in
-    omega (
-      arith,
-      row-inside (start .args .change) (start .args .scratch .now) (start .args .store .now) (start .pre) (sym (c₅ .is-addition .ensures) ∙
-          c₄ .if1 .left) (c .row-width .result) (c₁ .row-start .result) (c .row-width .ensures ∙ ap rowWidth (c₆ .table-for .ensures))
-          (target-start _ _ _ _ _ _ (c₁ .row-start .ensures) (c₂ .row-id .ensures) (c₆ .table-for .ensures) (c₃ .target-of .ensures)),
-      start .good,
-    )
+    let start = c₄ .before .before .before in
+    let change = start .args .change in
+    let r = start .args .scratch .now in
+    let s = start .args .store .now in
+    let ok = start .pre .0 in
+    let fixed = sym (c₃ .is-addition .ensures) ∙ c₂ .if1 .left in
+    let wide = c .row-width .ensures ∙ ap rowWidth (c₄ .table-for .ensures) in
+    let begins = target-start change r s fixed (start .pre .1) (c₁ .row-start .ensures) in
+    omega (arith, row-inside change r s ok fixed (c .row-width .result) (c₁ .row-start .result) wide begins, start .good)
 
 sub-edit-row : tie.Need-sub-edit-row
 sub-edit-row c = search needs
@@ -94,12 +78,15 @@ part-edit-row-end c =
     let c₂ = c₁ .before in
     let c₃ = c₂ .before in
     let c₄ = c₃ .before in
-    let c₅ = c₄ .before in
-    let c₆ = c₅ .before in
-    let start = c₆ .before .before .before in
-    row-inside (start .args .change) (start .args .scratch .now) (start .args .store .now) (start .pre) (sym (c₅ .is-addition .ensures) ∙ c₄ .if1 .left)
-    (c .row-width .result) (c₁ .row-start .result) (c .row-width .ensures ∙ ap rowWidth (c₆ .table-for .ensures))
-    (target-start _ _ _ _ _ _ (c₁ .row-start .ensures) (c₂ .row-id .ensures) (c₆ .table-for .ensures) (c₃ .target-of .ensures))
+    let start = c₄ .before .before .before in
+    let change = start .args .change in
+    let r = start .args .scratch .now in
+    let s = start .args .store .now in
+    let ok = start .pre .0 in
+    let fixed = sym (c₃ .is-addition .ensures) ∙ c₂ .if1 .left in
+    let wide = c .row-width .ensures ∙ ap rowWidth (c₄ .table-for .ensures) in
+    let begins = target-start change r s fixed (start .pre .1) (c₁ .row-start .ensures) in
+    row-inside change r s ok fixed (c .row-width .result) (c₁ .row-start .result) wide begins
 
 edit-row-requires : tie.Need-edit-row-requires
 edit-row-requires c κs =
@@ -108,16 +95,15 @@ edit-row-requires c κs =
     let c₃ = c₂ .before in
     let c₄ = c₃ .before in
     let c₅ = c₄ .before in
-    let c₆ = c₅ .before in
-    let c₇ = c₆ .before in
-    let start = c₇ .before .before .before in (
-      (sym (c₆ .is-addition .ensures) ∙ c₅ .if1 .left),
-      start .pre .carried,
-      lent-wide (start .args .change) (start .args .scratch .now)
-          (start .args .store .now) (start .pre) (sym (c₆ .is-addition .ensures) ∙ c₅ .if1 .left) (c₁ .row-width .result) (c₂ .row-start .result)
-          (c₁ .row-width .ensures ∙ ap rowWidth (c₇ .table-for .ensures)) (target-start _ _ _ _ _ _ (c₂ .row-start .ensures) (c₃ .row-id .ensures)
-          (c₇ .table-for .ensures) (c₄ .target-of .ensures)),
-    )
+    let start = c₅ .before .before .before in
+    let change = start .args .change in
+    let r = start .args .scratch .now in
+    let s = start .args .store .now in
+    let ok = start .pre .0 in
+    let fixed = sym (c₄ .is-addition .ensures) ∙ c₃ .if1 .left in
+    let wide = c₁ .row-width .ensures ∙ ap rowWidth (c₅ .table-for .ensures) in
+    let begins = target-start change r s fixed (start .pre .1) (c₂ .row-start .ensures) in
+    (fixed, ok .carried, lent-wide change r s ok fixed (c₁ .row-width .result) (c₂ .row-start .result) wide begins)
 
 same-length : tie.Need-same-length
 same-length c = search needs
@@ -144,13 +130,15 @@ returns-2 c =
     let c₄ = c₃ .before in
     let c₅ = c₄ .before in
     let c₆ = c₅ .before in
-    let c₇ = c₆ .before in
-    let c₈ = c₇ .before in
-    let start = c₈ .before .before .before in
-    edited-back (start .args .change) (start .args .scratch .now) (start .args .store .now) (start .pre) (sym (c₇ .is-addition .ensures) ∙ c₆ .if1 .left)
-    (c₂ .row-width .result) (c₃ .row-start .result) (c₂ .row-width .ensures ∙ ap rowWidth (c₈ .table-for .ensures))
-    (target-start _ _ _ _ _ _ (c₃ .row-start .ensures) (c₄ .row-id .ensures) (c₈ .table-for .ensures) (c₅ .target-of .ensures))
-    (c₁ .edit-row .last .1 .1 .0) (c₁ .edit-row .ensures)
+    let start = c₆ .before .before .before in
+    let change = start .args .change in
+    let r = start .args .scratch .now in
+    let s = start .args .store .now in
+    let ok = start .pre .0 in
+    let fixed = sym (c₅ .is-addition .ensures) ∙ c₄ .if1 .left in
+    let wide = c₂ .row-width .ensures ∙ ap rowWidth (c₆ .table-for .ensures) in
+    let begins = target-start change r s fixed (start .pre .1) (c₃ .row-start .ensures) in
+    edited-back change r s ok fixed (c₂ .row-width .result) (c₃ .row-start .result) wide begins (c₁ .edit-row .last .1 .1 .0) (c₁ .edit-row .ensures)
 
 pub apply-spec : {M : Type 1} → statement M
 apply-spec =
@@ -160,9 +148,6 @@ apply-spec =
     is-addition-requires
     added-row-requires
     push-row-requires
-    target-of-requires
-    cast-row-id
-    row-id-requires
     row-start-requires
     row-width-requires
     add-end

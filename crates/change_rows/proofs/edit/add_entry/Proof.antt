@@ -1,15 +1,40 @@
-use mathlib.Core.Path.{_∙_, ap₂}
+use mathlib.Core.Path.{_∙_, ap₂, sym}
+use Rattle.prelude.specs.Part.{splice}
+use Rattle.prelude.specs.PartLaws.{part-bytes}
+use Rattle.sets.specs.Sets.{withMember}
+use Rattle.sets.specs.SetsLaws.{with-beyond, with-length}
+use Rattle.change_read.specs.Carried.{entryOf, listOf}
+use Rattle.change_rows.specs.Lists.{listWidth, openAt, openOf}
+use Rattle.change_rows.specs.ListsLaws.{entry-beyond, entry-number}
+use Rattle.change_rows.specs.Rows.{editedRow}
+use Rattle.change_rows.specs.RowsLaws.{list-inside}
+use Rattle.change_rows.proofs.Editing.{list-back, list-kept}
 use native.Mathlib.Omega.{arith}
 use borrow.Author.Needs.{needs}
 use Rattle.change_rows.proofs.edit.add_entry.Statement.{statement}
-use Rattle.change_rows.proofs.Editing.{list-back}
-use Rattle.change_rows.specs.Rows.{editedRow}
-use Rattle.change_rows.specs.Lists.{openAt, openOf}
-use Rattle.change_rows.specs.RowsLaws.{list-inside}
-use Rattle.sets.specs.Sets.{withMember}
-use Rattle.sets.specs.SetsLaws.{with-length}
-use Rattle.prelude.specs.Part.{splice}
 use Rattle.change_rows.proofs.edit.add_entry.Tie as tie
+
+entry-read-requires : tie.Need-entry-read-requires
+entry-read-requires c κs = search needs
+
+enum-known-id : tie.Need-enum-known-id
+enum-known-id c = search needs
+
+enum-told : tie.Need-enum-told
+enum-told c = search needs
+
+returns : tie.Need-returns
+unfolding editedRow
+returns c =
+    let c₁ = c .before .before in
+    let c₂ = c₁ .before in
+    let start = c₂ .before .before in
+    let r = start .args .scratch .now in
+    let row = start .args .row .now in
+    let e = sym (c₁ .entry-read .ensures) ∙ c .enum-told .given .1 in
+    let bytes = part-bytes (openAt (listOf r)) (listWidth (listOf r)) row (λ i. c₂ .slice-known .given i .fits) in
+    list-kept (listOf r) row (start .pre .1)
+    (with-beyond (openOf (listOf r) row) (entryOf r) bytes (entry-beyond r e (openAt (listOf r)) row))
 
 list-of-requires : tie.Need-list-of-requires
 list-of-requires c κs = search needs
@@ -38,11 +63,8 @@ part-insert-end c =
     let c₂ = c₁ .before in
     omega (arith, c₁ .open-at .ensures, c .list-width .ensures, list-inside (c₂ .list-of .result))
 
-entry-of-requires : tie.Need-entry-of-requires
-entry-of-requires c κs = search needs
-
-cast-insert : tie.Need-cast-insert
-cast-insert c = search needs
+number-of-requires : tie.Need-number-of-requires
+number-of-requires c κs = search needs
 
 insert-requires : tie.Need-insert-requires
 insert-requires c κs = search needs
@@ -50,26 +72,33 @@ insert-requires c κs = search needs
 same-length : tie.Need-same-length
 same-length c = search needs
 
-returns : tie.Need-returns
+returns-2 : tie.Need-returns-2
 unfolding editedRow
-returns c =
+returns-2 c =
     let c₁ = c .before .before in
     let c₂ = c₁ .before in
     let c₃ = c₂ .before .before in
     let c₄ = c₃ .before in
     let c₅ = c₄ .before in
-    let start = c₅ .before .before .before in
+    let c₆ = c₅ .before .before in
+    let c₇ = c₆ .before .before in
+    let start = c₇ .before .before .before in
     let row = start .args .row .now in
     let r = start .args .scratch .now in
+    let n = c₂ .number-of .result in
+    let is = c₂ .number-of .ensures ∙ entry-number r (sym (c₇ .entry-read .ensures) ∙ c₆ .id .given .1) in
     let back = list-back (c₅ .list-of .result) (c₄ .open-at .result) (c₃ .list-width .result) row (c₄ .open-at .ensures) (c₃ .list-width .ensures)
-    (start .pre .1)
-    (withMember (c₂ .entry-of .result)) (c₁ .insert .last .0) (with-length (c₂ .entry-of .result)) (c₁ .insert .ensures) in
-    back ∙ ap₂ (λ l n. splice (openAt l) (withMember n (openOf l row)) row) (c₅ .list-of .ensures) (c₂ .entry-of .ensures)
+    (start .pre .1) (withMember n) (c₁ .insert .last .0) (with-length n) (c₁ .insert .ensures) in
+    back ∙ ap₂ (λ l k. splice (openAt l) (withMember k (openOf l row)) row) (c₅ .list-of .ensures) is
 
 pub add-entry-spec : {M : Type 1} → statement M
 add-entry-spec =
     tie.close
     (tie.spec
+    entry-read-requires
+    enum-known-id
+    enum-told
+    returns
     list-of-requires
     open-at-requires
     list-width-requires
@@ -77,8 +106,7 @@ add-entry-spec =
     sub-insert
     part-insert-start
     part-insert-end
-    entry-of-requires
-    cast-insert
+    number-of-requires
     insert-requires
     same-length
-    returns)
+    returns-2)

@@ -1,15 +1,40 @@
-use mathlib.Core.Path.{_∙_, ap₂}
+use mathlib.Core.Path.{_∙_, ap₂, sym}
+use Rattle.prelude.specs.Part.{splice}
+use Rattle.prelude.specs.PartLaws.{part-bytes}
+use Rattle.sets.specs.Sets.{withoutMember}
+use Rattle.sets.specs.SetsLaws.{without-beyond, without-length}
+use Rattle.change_read.specs.Carried.{entryOf, listOf}
+use Rattle.change_rows.specs.Lists.{listWidth, openAt, openOf}
+use Rattle.change_rows.specs.ListsLaws.{entry-beyond, entry-number}
+use Rattle.change_rows.specs.Rows.{editedRow}
+use Rattle.change_rows.specs.RowsLaws.{list-inside}
+use Rattle.change_rows.proofs.Editing.{list-back, list-kept}
 use native.Mathlib.Omega.{arith}
 use borrow.Author.Needs.{needs}
 use Rattle.change_rows.proofs.edit.remove_entry.Statement.{statement}
-use Rattle.change_rows.proofs.Editing.{list-back}
-use Rattle.change_rows.specs.Rows.{editedRow}
-use Rattle.change_rows.specs.Lists.{openAt, openOf}
-use Rattle.change_rows.specs.RowsLaws.{list-inside}
-use Rattle.sets.specs.Sets.{withoutMember}
-use Rattle.sets.specs.SetsLaws.{without-length}
-use Rattle.prelude.specs.Part.{splice}
 use Rattle.change_rows.proofs.edit.remove_entry.Tie as tie
+
+entry-read-requires : tie.Need-entry-read-requires
+entry-read-requires c κs = search needs
+
+enum-known-id : tie.Need-enum-known-id
+enum-known-id c = search needs
+
+enum-told : tie.Need-enum-told
+enum-told c = search needs
+
+returns : tie.Need-returns
+unfolding editedRow
+returns c =
+    let c₁ = c .before .before in
+    let c₂ = c₁ .before in
+    let start = c₂ .before .before in
+    let r = start .args .scratch .now in
+    let row = start .args .row .now in
+    let e = sym (c₁ .entry-read .ensures) ∙ c .enum-told .given .1 in
+    let bytes = part-bytes (openAt (listOf r)) (listWidth (listOf r)) row (λ i. c₂ .slice-known .given i .fits) in
+    list-kept (listOf r) row (start .pre .1)
+    (without-beyond (openOf (listOf r) row) (entryOf r) bytes (entry-beyond r e (openAt (listOf r)) row))
 
 list-of-requires : tie.Need-list-of-requires
 list-of-requires c κs = search needs
@@ -38,11 +63,8 @@ part-remove-end c =
     let c₂ = c₁ .before in
     omega (arith, c₁ .open-at .ensures, c .list-width .ensures, list-inside (c₂ .list-of .result))
 
-entry-of-requires : tie.Need-entry-of-requires
-entry-of-requires c κs = search needs
-
-cast-remove : tie.Need-cast-remove
-cast-remove c = search needs
+number-of-requires : tie.Need-number-of-requires
+number-of-requires c κs = search needs
 
 remove-requires : tie.Need-remove-requires
 remove-requires c κs = search needs
@@ -50,26 +72,33 @@ remove-requires c κs = search needs
 same-length : tie.Need-same-length
 same-length c = search needs
 
-returns : tie.Need-returns
+returns-2 : tie.Need-returns-2
 unfolding editedRow
-returns c =
+returns-2 c =
     let c₁ = c .before .before in
     let c₂ = c₁ .before in
     let c₃ = c₂ .before .before in
     let c₄ = c₃ .before in
     let c₅ = c₄ .before in
-    let start = c₅ .before .before .before in
+    let c₆ = c₅ .before .before in
+    let c₇ = c₆ .before .before in
+    let start = c₇ .before .before .before in
     let row = start .args .row .now in
     let r = start .args .scratch .now in
+    let n = c₂ .number-of .result in
+    let is = c₂ .number-of .ensures ∙ entry-number r (sym (c₇ .entry-read .ensures) ∙ c₆ .id .given .1) in
     let back = list-back (c₅ .list-of .result) (c₄ .open-at .result) (c₃ .list-width .result) row (c₄ .open-at .ensures) (c₃ .list-width .ensures)
-    (start .pre .1)
-    (withoutMember (c₂ .entry-of .result)) (c₁ .remove .last .0) (without-length (c₂ .entry-of .result)) (c₁ .remove .ensures) in
-    back ∙ ap₂ (λ l n. splice (openAt l) (withoutMember n (openOf l row)) row) (c₅ .list-of .ensures) (c₂ .entry-of .ensures)
+    (start .pre .1) (withoutMember n) (c₁ .remove .last .0) (without-length n) (c₁ .remove .ensures) in
+    back ∙ ap₂ (λ l k. splice (openAt l) (withoutMember k (openOf l row)) row) (c₅ .list-of .ensures) is
 
 pub remove-entry-spec : {M : Type 1} → statement M
 remove-entry-spec =
     tie.close
     (tie.spec
+    entry-read-requires
+    enum-known-id
+    enum-told
+    returns
     list-of-requires
     open-at-requires
     list-width-requires
@@ -77,8 +106,7 @@ remove-entry-spec =
     sub-remove
     part-remove-start
     part-remove-end
-    entry-of-requires
-    cast-remove
+    number-of-requires
     remove-requires
     same-length
-    returns)
+    returns-2)

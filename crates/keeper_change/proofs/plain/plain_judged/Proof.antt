@@ -32,11 +32,12 @@ row-count-requires c κs =
 
 make-requires : tie.Need-make-requires
 make-requires c κs =
-    let start = c .before .before .before .before .before .before .before .before .before .before .before in
+    let c₁ = c .before .before .before .before in
+    let start = c₁ .before .before .before .before .before .before .before in
     let s = stores (start .args .attributes .now) (start .args .classes .now) (start .args .closure .now) in
     let change = start .args .change in
     let r = start .args .scratch .now in
-    applicable change r s (start .pre .allowed)
+    (applicable change r s (start .pre .allowed), ap (λ b. b .id) (c₁ .save .ensures))
 
 added-by-requires : tie.Need-added-by-requires
 added-by-requires c κs =

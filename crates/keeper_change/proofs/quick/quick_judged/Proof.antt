@@ -1,6 +1,6 @@
 use Rattle.keeper_change.proofs.Making.{addable, applicable, back, restorable, store-bytes, target-within}
 use Rattle.keeper_change.proofs.Alone.{judged-there, judged-refused, judged-done, to-update}
-use mathlib.Core.Path.{_∙_, ap₂, refl, subst₂, sym}
+use mathlib.Core.Path.{_∙_, ap, ap₂, refl, subst₂, sym}
 use Rattle.keeper_change.specs.Made.{Restorable, rowsBack}
 use Rattle.schema.specs.Store.{stores}
 use Rattle.schema.specs.Layout.{attributeSet}
@@ -41,11 +41,12 @@ demand-before-requires c κs =
 
 make-requires : tie.Need-make-requires
 make-requires c κs =
-    let start = c .before .before .before .before .before .before .before .before .before .before .before .before .before .before .before in
+    let c₁ = c .before .before .before .before .before .before .before .before in
+    let start = c₁ .before .before .before .before .before .before .before in
     let s = stores (start .args .attributes .now) (start .args .classes .now) (start .args .closure .now) in
     let change = start .args .change in
     let r = start .args .scratch .now in
-    applicable change r s (start .pre)
+    (applicable change r s (start .pre), ap (λ b. b .id) (c₁ .save .ensures))
 
 added-by-requires : tie.Need-added-by-requires
 added-by-requires c κs =

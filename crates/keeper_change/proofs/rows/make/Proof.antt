@@ -1,7 +1,7 @@
-use mathlib.Core.Path.{_∙_, ap, sym, subst}
+use mathlib.Core.Path.{_∙_, _≡_, ap, sym, subst}
 use borrow.Author.Needs.{needs}
 use Rattle.keeper_change.proofs.rows.make.Statement.{statement}
-use Rattle.change_rows.specs.Stores.{Applicable}
+use Rattle.change_rows.specs.Stores.{Applicable, rowChanged}
 use Rattle.schema.specs.declared.number.TableId.the-variants.{Attributes, Classes}
 use Rattle.schema.specs.Store.{storeOf, stores}
 use Rattle.keeper_change.specs.MadeLaws.{made-in}
@@ -18,7 +18,11 @@ apply-requires c κs =
     let c₁ = c .before in
     let c₂ = c₁ .before .before in
     let start = c₂ .before .before .before .before in
-    subst (λ t. Applicable (start .args .change) (start .args .scratch .now) (storeOf t (start .args .attributes .now) (start .args .classes .now)))
+    let change = start .args .change in
+    let r = start .args .scratch .now in
+    let a = start .args .attributes .now in
+    let k = start .args .classes .now in
+    subst (λ t. Applicable change r (storeOf t a k) × (start .args .id ≡ rowChanged change r (storeOf t a k)))
     (sym (c₂ .table-for .ensures) ∙ c₁ .enum-told .given .1) (start .pre)
 
 enum-told-2 : tie.Need-enum-told-2
@@ -29,7 +33,11 @@ apply-requires-2 c κs =
     let c₁ = c .before in
     let c₂ = c₁ .before .before in
     let start = c₂ .before .before .before .before in
-    subst (λ t. Applicable (start .args .change) (start .args .scratch .now) (storeOf t (start .args .attributes .now) (start .args .classes .now)))
+    let change = start .args .change in
+    let r = start .args .scratch .now in
+    let a = start .args .attributes .now in
+    let k = start .args .classes .now in
+    subst (λ t. Applicable change r (storeOf t a k) × (start .args .id ≡ rowChanged change r (storeOf t a k)))
     (sym (c₂ .table-for .ensures) ∙ c₁ .enum-told2 .given .1) (start .pre)
 
 same-length : tie.Need-same-length
