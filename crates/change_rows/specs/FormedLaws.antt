@@ -16,7 +16,7 @@ use Rattle.change_read.specs.Reading.{formatOf}
 use Rattle.change_read.specs.AdditionLaws.{row-added}
 use Rattle.schema.specs.declared.number.TableId.the-variants.{Attributes, Classes}
 use Rattle.schema.specs.declared.number.TableId.{TableId}
-use Rattle.schema.specs.Layout.{attributeSet, classSet, classWidth, commonWidth, defunctAt, openAuxiliaryAt, openOptionalAt, openSuperiorAt, rowWidth}
+use Rattle.schema.specs.Layout.{classWidth, commonWidth, defunctAt, openAuxiliaryAt, openOptionalAt, openSuperiorAt, rowWidth}
 use Rattle.schema.specs.Layout.{attributeWidth, nameAt, nameLimit, rangeLowerAt, rangeUpperAt}
 use Rattle.rows_format.specs.declared.format.Format.the-variants.{Row}
 use Rattle.rows_format.specs.declared.column.Presence.the-variants as presence
@@ -38,10 +38,10 @@ use Rattle.change_rows.specs.Lists.{listWidth, openAt, openOf}
 use Rattle.change_rows.specs.Rows.{editedRow, isAddition, tableFor}
 
 -- any bytes are a set: none, or some member
-set-formed : (tag n at : ℕ) (cell : List ℕ) → length cell ≡ n → ((i : ℕ) → getD cell i 0 < 256)
-    → wellFormedCell (column presence.Optional tag (Entries n) at) cell ≡ true
+set-formed : (t : TableId) (tag at : ℕ) (cell : List ℕ) → ((i : ℕ) → getD cell i 0 < 256)
+    → wellFormedCell (column presence.Optional tag (Entries t) at) cell ≡ true
 unfolding wellFormedCell hasValue mark holds
-set-formed tag n at cell l b = go (true-or-false (isZero cell))
+set-formed t tag at cell b = go (true-or-false (isZero cell))
   where
     go : (isZero cell ≡ true) ⊎ (isZero cell ≡ false) → cond (not (isZero cell)) (not (isEmpty (drop 0 cell))) (isZero cell) ≡ true
     go (inl q) = rw q
@@ -76,11 +76,11 @@ list-formed : (list : OpenList) (new row : List ℕ) → length new ≡ listWidt
     → wellFormed Classes row ≡ true → wellFormed Classes (splice (openAt list) new row) ≡ true
 unfolding columnsOf commonColumns ownColumns classColumns columnWidth mark room
 list-formed Optional new row wide b long f = row-replaced Classes 10 new row (omega arith) (omega arith) wide
-    (set-formed 21 attributeSet openOptionalAt new wide b) (inr (omega arith)) (omega arith) f
+    (set-formed Attributes 21 openOptionalAt new b) (inr (omega arith)) (omega arith) f
 list-formed Auxiliary new row wide b long f = row-replaced Classes 12 new row (omega arith) (omega arith) wide
-    (set-formed 23 classSet openAuxiliaryAt new wide b) (inr (omega arith)) (omega arith) f
+    (set-formed Classes 23 openAuxiliaryAt new b) (inr (omega arith)) (omega arith) f
 list-formed Superior new row wide b long f = row-replaced Classes 14 new row (omega arith) (omega arith) wide
-    (set-formed 25 classSet openSuperiorAt new wide b) (inr (omega arith)) (omega arith) f
+    (set-formed Classes 25 openSuperiorAt new b) (inr (omega arith)) (omega arith) f
 
 -- a range: both ends at once
 range-both : (r row : List ℕ) → length r ≡ classWidth → length row ≡ attributeWidth

@@ -11,6 +11,8 @@ use Rattle.prelude.specs.Part.{padded, Bytes}
 use Rattle.prelude.specs.BigEndian.{bigEndian}
 use Rattle.sets.specs.SetsLaws.{set-bytes}
 use Rattle.prelude.specs.Unlike.{among}
+use Rattle.schema.specs.NumbersLaws.{limit-most}
+use Rattle.schema.specs.Layout.{setWidth}
 use Rattle.rows_format.specs.Entries.{entries}
 use Rattle.rows_format.specs.Encodings.{image, sound}
 use Rattle.rows_format.specs.EncodingsLaws.{Accepts}
@@ -26,11 +28,11 @@ use Rattle.rows_format.specs.declared.column.Column.{Column}
 pub image-bytes : (encoding : Encoding) (v : List ℕ) → sound encoding ≡ true → Bytes v → Accepts encoding v → Bytes (image encoding v)
 unfolding sound image
 image-bytes (Plain len test) v s b a = b
-image-bytes (Number limit) v s b a = cons-bytes (bigEndian 2 0 v) [] (omega (arith, a .1, says-le limit 256 .holds s)) no-bytes
+image-bytes (Number table) v s b a = cons-bytes (bigEndian 2 0 v) [] (omega (arith, a .1, limit-most table)) no-bytes
 image-bytes (Counted least most) v s b a = cons-bytes (length v) (padded most v) (omega (arith, a .1, says-le most 253 .holds s)) (padded-bytes most v b)
 image-bytes (Arcs most) v s b a = cons-bytes (length v / 4) (padded (most * 4) v) (omega (arith, a .1, says-le most 63 .holds s))
     (padded-bytes (most * 4) v b)
-image-bytes (Entries bytes) v s b a = set-bytes bytes (among (entries v))
+image-bytes (Entries table) v s b a = set-bytes (setWidth table) (among (entries v))
 
 lead-bytes : (p : Presence) → Bytes (lead p)
 unfolding lead

@@ -9,6 +9,8 @@ use Rattle.prelude.specs.Part.{part, padded, isZero}
 use Rattle.prelude.specs.BigEndian.{bigEndian, bigEndianBytes}
 use Rattle.sets.specs.Sets.{setOf, isEmpty, membersFrom}
 use Rattle.prelude.specs.Unlike.{among}
+use Rattle.schema.specs.Numbers.{limit}
+use Rattle.schema.specs.Layout.{setWidth}
 use Rattle.rows_format.specs.Entries.{entries, entryBytes, risesBelow}
 use Rattle.rows_format.specs.declared.column.Test.{Test}
 use Rattle.rows_format.specs.declared.column.Test.the-variants.{Any, Below, NotZero, OpenList}
@@ -23,53 +25,54 @@ passes (Below limit) v = ltb (getD v 0 0) limit
 passes NotZero v = not (isZero v)
 passes OpenList v = eqb (getD v 0 0) 21 || (eqb (getD v 0 0) 23 || eqb (getD v 0 0) 25)
 
--- v is a value that a field of the encoding may have: "a length not the stated one, above its limit or not of whole entries is unreadable"
+-- v is a value that a field of the encoding may have: "a length not the stated one, above its limit or not of whole entries is unreadable"; so is
+-- "a class number of 128 or an attribute number of 256 or more"
 unfoldable pub accepts : Encoding → List ℕ → Bool
 accepts (Plain len test) v = eqb (length v) len && passes test v
-accepts (Number limit) v = eqb (length v) 2 && ltb (bigEndian 2 0 v) limit
+accepts (Number table) v = eqb (length v) 2 && ltb (bigEndian 2 0 v) (limit table)
 accepts (Counted least most) v = leb least (length v) && leb (length v) most
 accepts (Arcs most) v = eqb (length v % 4) 0 && leb (length v / 4) most
-accepts (Entries bytes) v = not (eqb (length v) 0) && (eqb (length v % 2) 0 && risesBelow (bytes * 8) 0 (entries v))
+accepts (Entries table) v = not (eqb (length v) 0) && (eqb (length v % 2) 0 && risesBelow (limit table) 0 (entries v))
 
 -- the bytes that a value is stored as
 unfoldable pub image : Encoding → List ℕ → List ℕ
 image (Plain len test) v = v
-image (Number limit) v = bigEndian 2 0 v ∷ []
+image (Number table) v = bigEndian 2 0 v ∷ []
 image (Counted least most) v = length v ∷ padded most v
 image (Arcs most) v = (length v / 4) ∷ padded (most * 4) v
-image (Entries bytes) v = setOf bytes (among (entries v))
+image (Entries table) v = setOf (setWidth table) (among (entries v))
 
 -- how many bytes these are
 unfoldable pub room : Encoding → ℕ
 room (Plain len test) = len
-room (Number limit) = 1
+room (Number table) = 1
 room (Counted least most) = most + 1
 room (Arcs most) = most * 4 + 1
-room (Entries bytes) = bytes
+room (Entries table) = setWidth table
 
 -- the value that stored bytes stand for
 unfoldable pub stored : Encoding → List ℕ → List ℕ
 stored (Plain len test) cell = cell
-stored (Number limit) cell = bigEndianBytes 2 (getD cell 0 0)
+stored (Number table) cell = bigEndianBytes 2 (getD cell 0 0)
 stored (Counted least most) cell = part 1 (getD cell 0 0) cell
 stored (Arcs most) cell = part 1 (getD cell 0 0 * 4) cell
-stored (Entries bytes) cell = entryBytes (membersFrom 0 cell)
+stored (Entries table) cell = entryBytes (membersFrom 0 cell)
 
 -- the bytes can be stored: a number below its limit, a count within its limits and zeros behind what is counted, a set with some member
 unfoldable pub holds : Encoding → List ℕ → Bool
 holds (Plain len test) cell = passes test cell
-holds (Number limit) cell = ltb (getD cell 0 0) limit
+holds (Number table) cell = ltb (getD cell 0 0) (limit table)
 holds (Counted least most) cell = leb least (getD cell 0 0) && (leb (getD cell 0 0) most && isZero (drop (getD cell 0 0 + 1) cell))
 holds (Arcs most) cell = leb (getD cell 0 0) most && isZero (drop (getD cell 0 0 * 4 + 1) cell)
-holds (Entries bytes) cell = not (isEmpty cell)
+holds (Entries table) cell = not (isEmpty cell)
 
--- the numbers of an encoding are small enough for its cell: a count and a stored number fit a byte, an entry fits two
+-- the numbers of an encoding are small enough for its cell: a count fits a byte. A number of either table does, and an entry fits two
 unfoldable pub sound : Encoding → Bool
 sound (Plain len test) = leb len 254
-sound (Number limit) = leb limit 256
+sound (Number table) = true
 sound (Counted least most) = leb most 253
 sound (Arcs most) = leb most 63
-sound (Entries bytes) = leb bytes 254
+sound (Entries table) = true
 
 -- no value is stored as zeros: a field of such an encoding may be absent with no mark
 unfoldable pub skippable : Encoding → Bool
@@ -77,7 +80,7 @@ skippable (Plain len Any) = false
 skippable (Plain len (Below limit)) = false
 skippable (Plain len NotZero) = true
 skippable (Plain len OpenList) = false
-skippable (Number limit) = false
+skippable (Number table) = false
 skippable (Counted least most) = ltb 0 least
 skippable (Arcs most) = false
-skippable (Entries bytes) = true
+skippable (Entries table) = true

@@ -1,8 +1,7 @@
 -- The tables. Document 01, "Sheet and change". Tags are written in decimal here, with the paper's hex beside them.
 use mathlib.Core.List.{List, [], _∷_, _++_}
 use Prim.Native.Nat.{ℕ, _+_}
-use Rattle.schema.specs.Numbers.{classLimit, attributeLimit}
-use Rattle.schema.specs.Layout.{nameLimit, arcLimit, guidWidth, objectClassLimit, classSet, attributeSet, nameAt, identifierAt, guidAt, flagsAt}
+use Rattle.schema.specs.Layout.{nameLimit, arcLimit, guidWidth, objectClassLimit, nameAt, identifierAt, guidAt, flagsAt}
 use Rattle.schema.specs.Layout.{defunctAt, syntaxAt, omSyntaxAt, objectClassAt, singleValuedAt, rangeLowerAt, rangeUpperAt, linkAt, mapiAt}
 use Rattle.schema.specs.Layout.{categoryAt, superclassAt, namingAt, mandatoryAt, fixedOptionalAt, openOptionalAt, fixedAuxiliaryAt, openAuxiliaryAt}
 use Rattle.schema.specs.Layout.{fixedSuperiorAt, openSuperiorAt, rowWidth}
@@ -66,15 +65,15 @@ attributeColumns =
 unfoldable pub classColumns : List Column
 classColumns =
     column Required 16 (Plain 1 (Below 4)) categoryAt ∷
-    column Required 17 (Number classLimit) superclassAt ∷
-    column Marked 18 (Number attributeLimit) namingAt ∷
-    column Optional 19 (Entries attributeSet) mandatoryAt ∷
-    column Optional 20 (Entries attributeSet) fixedOptionalAt ∷
-    column Optional 21 (Entries attributeSet) openOptionalAt ∷
-    column Optional 22 (Entries classSet) fixedAuxiliaryAt ∷
-    column Optional 23 (Entries classSet) openAuxiliaryAt ∷
-    column Optional 24 (Entries classSet) fixedSuperiorAt ∷
-    column Optional 25 (Entries classSet) openSuperiorAt ∷ []
+    column Required 17 (Number Classes) superclassAt ∷
+    column Marked 18 (Number Attributes) namingAt ∷
+    column Optional 19 (Entries Attributes) mandatoryAt ∷
+    column Optional 20 (Entries Attributes) fixedOptionalAt ∷
+    column Optional 21 (Entries Attributes) openOptionalAt ∷
+    column Optional 22 (Entries Classes) fixedAuxiliaryAt ∷
+    column Optional 23 (Entries Classes) openAuxiliaryAt ∷
+    column Optional 24 (Entries Classes) fixedSuperiorAt ∷
+    column Optional 25 (Entries Classes) openSuperiorAt ∷ []
 
 -- ---- changes: the cells of what 42 to 4A carry, in a scratch row of their own
 

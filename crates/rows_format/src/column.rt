@@ -1,4 +1,6 @@
 // The encodings of fields: which values each takes, and how wide the cell is that stores one.
+use schema::layout::set_width;
+use schema::number::TableId;
 ghost use mathlib.Core.Path.{_≡_};
 ghost use Prim.Native.Nat.{_≤_};
 ghost use Rattle.rows_format.specs.Encodings.{room};
@@ -19,14 +21,14 @@ pub enum Test {
 pub enum Encoding {
     // Exactly len bytes that pass a test, stored as they are.
     Plain { len: usize, test: Test },
-    // A number of two bytes below the limit, stored as one byte.
-    Number { limit: usize },
+    // A number of two bytes that a row of the table can have, stored as one byte.
+    Number { table: TableId },
     // From least to most bytes, stored after their number and zero padded.
     Counted { least: usize, most: usize },
     // At most so many arcs of four bytes, stored after their number and zero padded.
     Arcs { most: usize },
-    // Numbers of two bytes, strictly rising, at least one, stored as a set of so many bytes.
-    Entries { bytes: usize },
+    // Numbers of two bytes, strictly rising, at least one, stored as a set of the table's numbers.
+    Entries { table: TableId },
 }
 
 // Whether a field must be there, and how the row tells that it is not.
@@ -55,10 +57,10 @@ pub fn room_of(encoding: Encoding) -> usize
 {
     match encoding {
         Encoding::Plain { len, test: _ } => len,
-        Encoding::Number { limit: _ } => 1,
+        Encoding::Number { table: _ } => 1,
         Encoding::Counted { least: _, most } => most + 1,
         Encoding::Arcs { most } => most * 4 + 1,
-        Encoding::Entries { bytes } => bytes,
+        Encoding::Entries { table } => set_width(table),
     }
 }
 

@@ -4,9 +4,7 @@ use crate::column::Encoding;
 use crate::column::Presence;
 use crate::column::Test;
 use schema::layout::ARC_LIMIT;
-use schema::layout::ATTRIBUTE_SET;
 use schema::layout::CATEGORY;
-use schema::layout::CLASS_SET;
 use schema::layout::DEFUNCT;
 use schema::layout::FIXED_AUXILIARY;
 use schema::layout::FIXED_OPTIONAL;
@@ -33,13 +31,11 @@ use schema::layout::SINGLE_VALUED;
 use schema::layout::SUPERCLASS;
 use schema::layout::SYNTAX;
 use schema::layout::row_width;
-use schema::number::AttributeNumber;
-use schema::number::ClassNumber;
 use schema::number::TableId;
 ghost use mathlib.Core.Path.{_≡_};
 ghost use mathlib.Core.List.{_++_};
 ghost use lib.ListN.{length, getD};
-ghost use Rattle.schema.specs.Layout.{classSet, attributeSet};
+ghost use Rattle.schema.specs.declared.number.TableId.the-variants.{Attributes, Classes};
 ghost use Rattle.rows_format.specs.Formats.{column, bytes, nonzero, noColumn, commonColumns, mayBeDefunct, neverDefunct, attributeColumns};
 ghost use Rattle.rows_format.specs.Formats.{classColumns, rangeColumns, nameColumns, targetColumns, entryColumns, ownColumns, columnsOf};
 ghost use Rattle.rows_format.specs.Formats.{formatWidth};
@@ -217,21 +213,27 @@ fn attribute_column(i: usize) -> Column
 
 // A set of attributes, and one of classes.
 fn attribute_set(tag: u8, at: usize) -> Column
-    ensures { λ r. ⌜ r ≡ column Presence.Optional tag (Encoding.Entries attributeSet) at ⌝ }
+    ensures { λ r. ⌜ r ≡ column Presence.Optional tag (Encoding.Entries Attributes) at ⌝ }
 {
     optional(
         tag,
         Encoding::Entries {
-            bytes: ATTRIBUTE_SET,
+            table: TableId::Attributes,
         },
         at,
     )
 }
 
 fn class_set(tag: u8, at: usize) -> Column
-    ensures { λ r. ⌜ r ≡ column Presence.Optional tag (Encoding.Entries classSet) at ⌝ }
+    ensures { λ r. ⌜ r ≡ column Presence.Optional tag (Encoding.Entries Classes) at ⌝ }
 {
-    optional(tag, Encoding::Entries { bytes: CLASS_SET }, at)
+    optional(
+        tag,
+        Encoding::Entries {
+            table: TableId::Classes,
+        },
+        at,
+    )
 }
 
 fn class_column(i: usize) -> Column
@@ -249,14 +251,14 @@ fn class_column(i: usize) -> Column
         1 => required(
             17,
             Encoding::Number {
-                limit: ClassNumber::LIMIT,
+                table: TableId::Classes,
             },
             SUPERCLASS,
         ),
         2 => marked(
             18,
             Encoding::Number {
-                limit: AttributeNumber::LIMIT,
+                table: TableId::Attributes,
             },
             NAMING,
         ),

@@ -6,9 +6,9 @@ use Prim.Native.Nat.{ℕ, _+_, _*_, _≤_, _<_, max}
 use native.Mathlib.Decide.{ℕ-discrete}
 use native.Mathlib.Numerals.{add-one}
 use native.Mathlib.Omega.{arith}
-use lib.Dec.{eqb}
+use lib.Dec.{eqb, ltb}
 use lib.ListN.{length, getD, drop}
-use borrow.Author.Tests.{le-leb, lt-leb, lt-ltb, le-ltb}
+use borrow.Author.Tests.{le-leb, lt-leb}
 use Rattle.prelude.specs.SaysLaws.{says-eq, says-true, says-false}
 use Rattle.prelude.specs.Part.{zeros}
 use Rattle.prelude.specs.PartLaws.{zeros-length, zeros-at}
@@ -26,13 +26,13 @@ module _ (limit low i n : ℕ) (v : List ℕ) (h : i + 2 ≤ length v) (e : n �
   unfolding risesBelow
   rises-low l = rw (entries-cons v i h, ← e, lt-leb low n l)
 
-  pub rises-over : low ≤ n → limit ≤ n → risesBelow limit low (entries (drop i v)) ≡ false
+  pub rises-over : low ≤ n → ltb n limit ≡ false → risesBelow limit low (entries (drop i v)) ≡ false
   unfolding risesBelow
-  rises-over l m = rw (entries-cons v i h, ← e, le-leb low n l, le-ltb n limit m)
+  rises-over l m = rw (entries-cons v i h, ← e, le-leb low n l, m)
 
-  pub rises-more : low ≤ n → n < limit → risesBelow limit low (entries (drop i v)) ≡ risesBelow limit (n + 1) (entries (drop (i + 2) v))
+  pub rises-more : low ≤ n → ltb n limit ≡ true → risesBelow limit low (entries (drop i v)) ≡ risesBelow limit (n + 1) (entries (drop (i + 2) v))
   unfolding risesBelow
-  rises-more l m = rw (entries-cons v i h, ← e, le-leb low n l, lt-ltb n limit m, add-one n)
+  rises-more l m = rw (entries-cons v i h, ← e, le-leb low n l, m, add-one n)
 
 pub rises-done : (limit low i : ℕ) (v : List ℕ) → length v ≤ i → risesBelow limit low (entries (drop i v)) ≡ true
 unfolding risesBelow

@@ -11,6 +11,11 @@ use Rattle.prelude.specs.SaysLaws.{says-le}
 use Rattle.prelude.specs.BigEndian.{bigEndian}
 use Rattle.prelude.specs.LentLaws.{lent-back, lent-cleared}
 use Rattle.sets.specs.Sets.{setOf}
+use Rattle.schema.specs.Numbers.{limit}
+use Rattle.schema.specs.NumbersLaws.{limit-most}
+use Rattle.schema.specs.Layout.{setWidth}
+use Rattle.schema.specs.LayoutLaws.{set-bits}
+use Rattle.schema.specs.declared.number.TableId.{TableId}
 use Rattle.rows_format.specs.declared.column.Presence.{Presence}
 use Rattle.rows_format.specs.declared.column.Presence.the-variants.{Required, Optional, Marked, Never}
 use Rattle.rows_format.specs.declared.column.Column.{Column}
@@ -101,9 +106,9 @@ module _ {v : List ℕ} {n : ℕ} where
   unfolding room
   plain-long s = omega (arith, s .accepted .0, s .long)
 
-  pub number-fits : {limit : ℕ} → Storable (Number limit) v n → (length v ≡ 2) × (n ≡ 1) × (bigEndian 2 0 v < 256)
-  unfolding room sound
-  number-fits {limit} s = (s .accepted .0, s .long, omega (arith, s .accepted .1, says-le limit 256 .holds (s .sound)))
+  pub number-fits : {table : TableId} → Storable (Number table) v n → (length v ≡ 2) × (n ≡ 1) × (bigEndian 2 0 v < 256)
+  unfolding room
+  number-fits {table} s = (s .accepted .0, s .long, omega (arith, s .accepted .1, limit-most table))
 
   pub counted-fits : {least most : ℕ} → Storable (Counted least most) v n → (length v + 1 ≤ n) × (length v < 256) × (n - 1 ≡ most)
   unfolding room sound
@@ -118,16 +123,19 @@ module _ {v : List ℕ} {n : ℕ} where
       let b : length v / 4 ≤ most = s .accepted .1 in
       (omega (arith, s .long), omega arith, omega (arith, s .long))
 
-  pub entries-fit : {bytes : ℕ} → Storable (Entries bytes) v n → (length v % 2 ≡ 0) × (risesBelow (n * 8) 0 (entries v) ≡ true) × (n ≡ bytes)
+  pub entries-fit : {table : TableId} → Storable (Entries table) v n
+      → (length v % 2 ≡ 0) × (risesBelow (n * 8) 0 (entries v) ≡ true) × (n ≡ setWidth table)
   unfolding room
-  entries-fit {bytes} s = (s .accepted .1 .0, rw (s .long) (says-rises (bytes * 8) 0 (entries v) .passes (s .accepted .1 .1)), s .long)
+  entries-fit {table} s =
+      let bits : n * 8 ≡ limit table = omega (arith, s .long, set-bits table) in
+      (s .accepted .1 .0, rw bits (says-rises (limit table) 0 (entries v) .passes (s .accepted .1 .1)), s .long)
 
   module _ {encoding : Encoding} {new : List ℕ} where
     pub plain-image : {len : ℕ} {test : Test} → encoding ≡ Plain len test → Storable (Plain len test) v n → new ≡ v → new ≡ image encoding v
     unfolding image
     plain-image e s q = rw e q
 
-    pub number-image : {limit : ℕ} → encoding ≡ Number limit → Storable (Number limit) v n → new ≡ bigEndian 2 0 v ∷ [] → new ≡ image encoding v
+    pub number-image : {table : TableId} → encoding ≡ Number table → Storable (Number table) v n → new ≡ bigEndian 2 0 v ∷ [] → new ≡ image encoding v
     unfolding image
     number-image e s q = rw e q
 
@@ -140,7 +148,7 @@ module _ {v : List ℕ} {n : ℕ} where
     unfolding image
     arcs-image e s q = rw e (q ∙ ap (λ (m : ℕ). (length v / 4) ∷ padded m v) (arcs-fit s .2))
 
-    pub entries-image : {bytes : ℕ} → encoding ≡ Entries bytes → Storable (Entries bytes) v n → new ≡ setOf n (among (entries v)) → new ≡ image encoding v
+    pub entries-image : {table : TableId} → encoding ≡ Entries table → Storable (Entries table) v n → new ≡ setOf n (among (entries v)) → new ≡ image encoding v
     unfolding image
     entries-image e s q = rw e (q ∙ ap (λ (m : ℕ). setOf m (among (entries v))) (entries-fit s .2))
 

@@ -5,6 +5,8 @@ use mathlib.Core.Path.{_≡_}
 use Prim.Native.Nat.{ℕ, suc, _*_, _≤_, _<_}
 use lib.ListN.{getD, length}
 use Rattle.prelude.specs.BigEndian.{bigEndian}
+use Rattle.schema.specs.Numbers.{limit}
+use Rattle.schema.specs.declared.number.TableId.{TableId}
 use Rattle.rows_format.specs.declared.column.Column.{Column}
 use Rattle.rows_format.specs.declared.column.Test.{Test}
 use Rattle.rows_format.specs.declared.column.Test.the-variants.{Below, NotZero, OpenList}
@@ -30,9 +32,9 @@ pub data Unfit : Encoding → List ℕ → Type 0 where
   -- "21 (one byte: 15, 17, 19)", in hex
   no-list : {len : ℕ} {v : List ℕ} → ¬ (getD v 0 0 ≡ 0x15) → ¬ (getD v 0 0 ≡ 0x17) → ¬ (getD v 0 0 ≡ 0x19) → Unfit (Plain len OpenList) v
   -- "11 superclass; optional 12 rDNAttID", two bytes: "a length not the stated one"
-  not-two-bytes : {limit : ℕ} {v : List ℕ} → ¬ (length v ≡ 2) → Unfit (Number limit) v
+  not-two-bytes : {table : TableId} {v : List ℕ} → ¬ (length v ≡ 2) → Unfit (Number table) v
   -- "a class number of 128 or an attribute number of 256 or more"
-  number-over : {limit : ℕ} {v : List ℕ} → limit ≤ bigEndian 2 0 v → Unfit (Number limit) v
+  number-over : {table : TableId} {v : List ℕ} → limit table ≤ bigEndian 2 0 v → Unfit (Number table) v
   -- "08 oMObjectClass (not empty)"
   too-short : {least most : ℕ} {v : List ℕ} → length v < least → Unfit (Counted least most) v
   -- "a length .. above its limit": "display name (up to 64 bytes)", "oMObjectClass (up to 16 bytes)"
@@ -42,13 +44,13 @@ pub data Unfit : Encoding → List ℕ → Type 0 where
   -- "object identifier (up to 16 arcs ..)": "a length .. above its limit"
   too-many-arcs : {most : ℕ} {v : List ℕ} → most * 4 < length v → Unfit (Arcs most) v
   -- "the seven sets .., two bytes an entry, strictly rising, not empty"
-  no-entry : {bytes : ℕ} {v : List ℕ} → length v ≡ 0 → Unfit (Entries bytes) v
+  no-entry : {table : TableId} {v : List ℕ} → length v ≡ 0 → Unfit (Entries table) v
   -- "a length .. not of whole entries"
-  part-of-entry : {bytes : ℕ} {v : List ℕ} → ((n : ℕ) → ¬ (length v ≡ n * 2)) → Unfit (Entries bytes) v
+  part-of-entry : {table : TableId} {v : List ℕ} → ((n : ℕ) → ¬ (length v ≡ n * 2)) → Unfit (Entries table) v
   -- "a class number of 128 or an attribute number of 256 or more"
-  entry-over : {bytes : ℕ} {v : List ℕ} (i : ℕ) → HasEntry v i → bytes * 8 ≤ entryOf v i → Unfit (Entries bytes) v
+  entry-over : {table : TableId} {v : List ℕ} (i : ℕ) → HasEntry v i → limit table ≤ entryOf v i → Unfit (Entries table) v
   -- "strictly rising"
-  not-rising : {bytes : ℕ} {v : List ℕ} (i : ℕ) → HasEntry v (suc i) → entryOf v (suc i) ≤ entryOf v i → Unfit (Entries bytes) v
+  not-rising : {table : TableId} {v : List ℕ} (i : ℕ) → HasEntry v (suc i) → entryOf v (suc i) ≤ entryOf v i → Unfit (Entries table) v
 
 -- a value that cannot be that of a column's field
 pub data UnfitField (r : Column) (v : List ℕ) : Type 0 where

@@ -14,6 +14,7 @@ use Rattle.prelude.specs.BelowLaws.{says-all}
 use Rattle.prelude.specs.Part.{isZero}
 use Rattle.prelude.specs.BigEndian.{bigEndian}
 use Rattle.prelude.specs.BigEndianLaws.{two-bytes}
+use Rattle.schema.specs.Numbers.{limit}
 use Rattle.rows_format.specs.Encodings.{passes, accepts}
 use Rattle.rows_format.specs.Columns.{possible, takes}
 use Rattle.rows_format.specs.Entries.{entries, risesBelow}
@@ -146,9 +147,10 @@ module _ (v : List ℕ) where
       apart : Unfit (Plain len OpenList) v → ¬ (length v ≡ len) ⊎ ¬ ((x ≡ 21) ⊎ ((x ≡ 23) ⊎ (x ≡ 25)))
       apart (not-as-long d) = inl d
       apart (no-list a b c) = inr (⊎-elim a (⊎-elim b c))
-  fails-accepts (Number limit) = fails-iff (fails-and (fails-eq (length v) 2) (fails-lt (bigEndian 2 0 v) limit)) (⊎-elim not-two-bytes number-over, apart)
+  fails-accepts (Number table) =
+      fails-iff (fails-and (fails-eq (length v) 2) (fails-lt (bigEndian 2 0 v) (limit table))) (⊎-elim not-two-bytes number-over, apart)
     where
-      apart : Unfit (Number limit) v → ¬ (length v ≡ 2) ⊎ (limit ≤ bigEndian 2 0 v)
+      apart : Unfit (Number table) v → ¬ (length v ≡ 2) ⊎ (limit table ≤ bigEndian 2 0 v)
       apart (not-two-bytes d) = inl d
       apart (number-over l) = inr l
   fails-accepts (Counted least most) = fails-iff (fails-and (fails-le least (length v)) (fails-le (length v) most)) (⊎-elim too-short too-long, apart)
@@ -169,17 +171,17 @@ module _ (v : List ℕ) where
       apart : Unfit (Arcs most) v → ¬ (length v % 4 ≡ 0) ⊎ (most < length v / 4)
       apart (part-of-arc h) = inl (λ e. h (length v / 4) (omega arith))
       apart (too-many-arcs l) = many l (ℕ-discrete (length v % 4) 0)
-  fails-accepts (Entries bytes) =
-      fails-iff (fails-and (fails-not (says-eq (length v) 0)) (fails-and (fails-eq (length v % 2) 0) (fails-rises (bytes * 8) 0 v))) (made, apart)
+  fails-accepts (Entries table) =
+      fails-iff (fails-and (fails-not (says-eq (length v) 0)) (fails-and (fails-eq (length v % 2) 0) (fails-rises (limit table) 0 v))) (made, apart)
     where
-      made : (length v ≡ 0) ⊎ (¬ (length v % 2 ≡ 0) ⊎ Fault (bytes * 8) 0 v) → Unfit (Entries bytes) v
+      made : (length v ≡ 0) ⊎ (¬ (length v % 2 ≡ 0) ⊎ Fault (limit table) 0 v) → Unfit (Entries table) v
       made (inl e) = no-entry e
       made (inr (inl d)) = part-of-entry {v = v} (λ n e. d (omega arith))
       made (inr (inr (low-first h l))) = absurd (omega arith)
       made (inr (inr (over i h l))) = entry-over i h l
       made (inr (inr (falling i h l))) = not-rising i h l
 
-      apart : Unfit (Entries bytes) v → (length v ≡ 0) ⊎ (¬ (length v % 2 ≡ 0) ⊎ Fault (bytes * 8) 0 v)
+      apart : Unfit (Entries table) v → (length v ≡ 0) ⊎ (¬ (length v % 2 ≡ 0) ⊎ Fault (limit table) 0 v)
       apart (no-entry e) = inl e
       apart (part-of-entry h) = inr (inl (λ e. h (length v / 2) (omega arith)))
       apart (entry-over i h l) = inr (inr (over i h l))

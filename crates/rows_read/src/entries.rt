@@ -1,19 +1,22 @@
 // Set entries: numbers of two bytes each, strictly rising.
 use prelude::number::read_u16;
 use prelude::part::clear;
+use schema::number::TableId;
+use schema::number::is_number;
 use sets::insert;
 ghost use mathlib.Core.Bool.{true};
 ghost use mathlib.Core.Path.{_≡_};
 ghost use Prim.Native.Nat.{_*_, _%_};
 ghost use lib.ListN.{length};
+ghost use Rattle.schema.specs.Numbers.{limit};
 ghost use Rattle.sets.specs.Sets.{setOf};
 ghost use Rattle.prelude.specs.Unlike.{among};
 ghost use Rattle.rows_format.specs.Entries.{entries, risesBelow};
 
-// Whether whole entries rise strictly and are below a limit.
-pub fn rises(v: &[u8], limit: usize) -> bool
+// Whether whole entries rise strictly and are numbers that rows of a table can have.
+pub fn rises(v: &[u8], table: TableId) -> bool
     requires { ⌜ length (now v) % 2 ≡ 0 ⌝ }
-    ensures { λ r. ⌜ r ≡ risesBelow limit 0 (entries (now (v .entry))) ⌝ }
+    ensures { λ r. ⌜ r ≡ risesBelow (limit table) 0 (entries (now (v .entry))) ⌝ }
 {
     let mut low = 0;
     let mut i = 0;
@@ -22,11 +25,12 @@ pub fn rises(v: &[u8], limit: usize) -> bool
         if n < low {
             return false;
         }
-        if limit <= n {
+        if is_number(table, n) {
+            low = n + 1;
+            i += 2;
+        } else {
             return false;
         }
-        low = n + 1;
-        i += 2;
     }
     true
 }

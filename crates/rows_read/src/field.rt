@@ -38,7 +38,6 @@ pub enum Took {
 
 // Whether the column's field may have the value v.
 fn takes(column: Column, v: &[u8]) -> bool
-    requires { ⌜ Sound column ⌝ }
     ensures { λ r. ⌜ r ≡ takes column (now (v .entry)) ⌝ }
 {
     let presence = column.presence;
@@ -52,7 +51,7 @@ fn takes(column: Column, v: &[u8]) -> bool
 
 // What the column makes of the field at a place of the fields that end at end.
 pub fn turn_of(s: &[u8], at: usize, end: usize, column: Column) -> Turn
-    requires { ⌜ (at ≤ end) × (end ≤ length (now s)) × Sound column ⌝ }
+    requires { ⌜ (at ≤ end) × (end ≤ length (now s)) ⌝ }
     ensures { λ r. ⌜ r ≡ turnOf (now (s .entry)) column (fieldAt (now (s .entry)) at end) ⌝ }
 {
     if at == end {

@@ -6,6 +6,7 @@ use prelude::part::copy_padded;
 use prelude::part::is_zero;
 use rows_format::column::Encoding;
 use rows_format::column::Test;
+use schema::number::is_number;
 ghost use mathlib.Core.Bool.{true, _||_};
 ghost use mathlib.Core.List.{_∷_};
 ghost use mathlib.Core.Path.{_≡_};
@@ -49,30 +50,25 @@ pub fn passes(test: Test, v: &[u8]) -> bool
 
 // Whether a field of the encoding may have the value v.
 pub fn accepts(encoding: Encoding, v: &[u8]) -> bool
-    requires { ⌜ sound encoding ≡ true ⌝ }
     ensures { λ r. ⌜ r ≡ accepts encoding (now (v .entry)) ⌝ }
 {
     let n = v.len();
     match encoding {
         Encoding::Plain { len, test } => { if n == len { passes(test, v) } else { false } }
-        Encoding::Number { limit } => {
+        Encoding::Number { table } => {
             if n == 2 {
-                (read_u16(v, 0) as usize) < limit
+                is_number(table, read_u16(v, 0) as usize)
             } else {
                 false
             }
         }
         Encoding::Counted { least, most } => { if n < least { false } else { n <= most } }
         Encoding::Arcs { most } => { if n % 4 == 0 { n / 4 <= most } else { false } }
-        Encoding::Entries { bytes } => {
+        Encoding::Entries { table } => {
             if n == 0 {
                 return false;
             }
-            if n % 2 == 0 {
-                rises(v, bytes * 8)
-            } else {
-                false
-            }
+            if n % 2 == 0 { rises(v, table) } else { false }
         }
     }
 }
@@ -95,7 +91,7 @@ pub fn store_value(encoding: Encoding, v: &[u8], cell: &mut [u8])
         Encoding::Plain { len: _, test: _ } => {
             bytes::copy(v, cell);
         }
-        Encoding::Number { limit: _ } => {
+        Encoding::Number { table: _ } => {
             cell[0] = read_u16(v, 0) as u8;
         }
         Encoding::Counted { least: _, most: _ } => {
@@ -104,7 +100,7 @@ pub fn store_value(encoding: Encoding, v: &[u8], cell: &mut [u8])
         Encoding::Arcs { most: _ } => {
             store_counted((v.len() / 4) as u8, v, cell);
         }
-        Encoding::Entries { bytes: _ } => {
+        Encoding::Entries { table: _ } => {
             store_entries(v, cell);
         }
     }

@@ -13,6 +13,7 @@ use rows_format::format::Format;
 use rows_format::format::column_count;
 use rows_format::format::column_of;
 use schema::number::TableId;
+use schema::number::is_number;
 use sets::is_empty;
 ghost use mathlib.Core.Bool.{true};
 ghost use mathlib.Core.Path.{_≡_};
@@ -40,7 +41,7 @@ fn holds(encoding: Encoding, cell: &[u8]) -> bool
 {
     match encoding {
         Encoding::Plain { len: _, test } => passes(test, cell),
-        Encoding::Number { limit } => (first_byte(cell) as usize) < limit,
+        Encoding::Number { table } => is_number(table, first_byte(cell) as usize),
         Encoding::Counted { least, most } => {
             let n = first_byte(cell) as usize;
             if n < least {
@@ -60,7 +61,7 @@ fn holds(encoding: Encoding, cell: &[u8]) -> bool
                 false
             }
         }
-        Encoding::Entries { bytes: _ } => !is_empty(cell),
+        Encoding::Entries { table: _ } => !is_empty(cell),
     }
 }
 

@@ -8,12 +8,12 @@ use lib.ListN.{length, getD, take, drop, length-drop}
 use Rattle.prelude.specs.Part.{part, splice}
 use Rattle.prelude.specs.PartLaws.{part-length}
 use Rattle.prelude.specs.SpliceLaws.{splice-append}
-use Rattle.prelude.specs.SaysLaws.{says-le}
 use Rattle.prelude.specs.BigEndian.{bigEndianBytes}
 use Rattle.prelude.specs.BigEndianLaws.{bytes-length}
 use Rattle.sets.specs.Sets.{membersFrom, memberCount}
 use Rattle.wire.specs.Wire.{headerBytes, fieldBytes}
 use Rattle.wire.specs.WireLaws.{header-length}
+use Rattle.schema.specs.declared.number.TableId.{TableId}
 use Rattle.rows_format.specs.ShortLaws.{field-bound}
 use Rattle.rows_format.specs.declared.column.Test.{Test}
 use Rattle.rows_format.specs.declared.column.Encoding.{Encoding}
@@ -22,7 +22,7 @@ use Rattle.rows_format.specs.declared.column.Column.{Column}
 use Rattle.rows_format.specs.Entries.{entryBytes}
 use Rattle.rows_format.specs.EntriesLaws.{entry-length, members-count}
 use Rattle.rows_format.specs.Encodings.{stored, room, holds, sound}
-use Rattle.rows_format.specs.EncodingsLaws.{Holds, says-holds, stored-short}
+use Rattle.rows_format.specs.EncodingsLaws.{room-small, Holds, says-holds, stored-short}
 use Rattle.rows_format.specs.Columns.{mark, columnWidth, cellAt, hasValue, valueOf, wellFormedCell, wellFormedBy, fieldOf, Sound, Fits}
 use Rattle.rows_format.specs.ColumnsLaws.{formed-at, field-none, field-some, width-small}
 use Rattle.rows_read.proofs.Checking.{rest-of, cell-cut}
@@ -37,7 +37,7 @@ module _ {encoding : Encoding} (cell : List ℕ) where
   unfolding stored
   stored-plain e = rw e
 
-  pub stored-number : {limit b : ℕ} → encoding ≡ Number limit → b ≡ getD cell 0 0 → stored encoding cell ≡ bigEndianBytes 2 b
+  pub stored-number : {table : TableId} {b : ℕ} → encoding ≡ Number table → b ≡ getD cell 0 0 → stored encoding cell ≡ bigEndianBytes 2 b
   unfolding stored
   stored-number e q = rw (e, q)
 
@@ -49,7 +49,7 @@ module _ {encoding : Encoding} (cell : List ℕ) where
   unfolding stored
   stored-arcs e q = rw (e, q)
 
-  pub stored-entries : {bytes : ℕ} → encoding ≡ Entries bytes → stored encoding cell ≡ entryBytes (membersFrom 0 cell)
+  pub stored-entries : {table : TableId} → encoding ≡ Entries table → stored encoding cell ≡ entryBytes (membersFrom 0 cell)
   unfolding stored
   stored-entries e = rw e
 
@@ -65,15 +65,11 @@ module _ {encoding : Encoding} (cell : List ℕ) where
       let t : Holds (Arcs most) cell = says-holds (Arcs most) cell .holds (rw e at (h .2)) in
       omega (arith, t .0, h .1 ∙ ap room e)
 
-  pub entries-small : {bytes : ℕ} → encoding ≡ Entries bytes → Holding encoding cell → length cell ≤ 254
-  unfolding room sound
-  entries-small {bytes} e h = omega (arith, h .1 ∙ ap room e, says-le bytes 254 .holds (rw e at (h .0)))
-
   -- the length of the value
   pub plain-count : {len : ℕ} {test : Test} → encoding ≡ Plain len test → length cell ≡ length (stored encoding cell)
   plain-count e = sym (ap length (stored-plain e))
 
-  pub number-count : {limit : ℕ} → encoding ≡ Number limit → 2 ≡ length (stored encoding cell)
+  pub number-count : {table : TableId} → encoding ≡ Number table → 2 ≡ length (stored encoding cell)
   number-count e = sym (ap length (stored-number e refl) ∙ bytes-length 2 (getD cell 0 0))
 
   pub counted-count : {least most b : ℕ} → encoding ≡ Counted least most → Holding encoding cell → b ≡ getD cell 0 0 → b ≡ length (stored encoding cell)
@@ -82,8 +78,11 @@ module _ {encoding : Encoding} (cell : List ℕ) where
   pub arcs-count : {most b : ℕ} → encoding ≡ Arcs most → Holding encoding cell → b ≡ getD cell 0 0 → b * 4 ≡ length (stored encoding cell)
   arcs-count {b = b} e h q = sym (ap length (stored-arcs e q) ∙ part-length 1 (b * 4) cell (arcs-inside e h q))
 
-  pub entries-count : {bytes n : ℕ} → encoding ≡ Entries bytes → n ≡ memberCount cell → n * 2 ≡ length (stored encoding cell)
+  pub entries-count : {table : TableId} {n : ℕ} → encoding ≡ Entries table → n ≡ memberCount cell → n * 2 ≡ length (stored encoding cell)
   entries-count e q = sym (ap length (stored-entries e) ∙ entry-length (membersFrom 0 cell) ∙ ap (λ (k : ℕ). k * 2) (members-count cell ∙ sym q))
+
+pub holding-small : (encoding : Encoding) (cell : List ℕ) → Holding encoding cell → length cell ≤ 254
+holding-small encoding cell h = omega (arith, h .1, room-small encoding (h .0))
 
 pub holding-short : (encoding : Encoding) (cell : List ℕ) → Holding encoding cell → length (stored encoding cell) < 65536
 holding-short encoding cell h = stored-short encoding cell (h .0) (h .1)

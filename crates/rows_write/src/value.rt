@@ -20,10 +20,10 @@ pub fn value_length(encoding: Encoding, cell: &[u8]) -> usize
 {
     match encoding {
         Encoding::Plain { len: _, test: _ } => cell.len(),
-        Encoding::Number { limit: _ } => 2,
+        Encoding::Number { table: _ } => 2,
         Encoding::Counted { least: _, most: _ } => first_byte(cell) as usize,
         Encoding::Arcs { most: _ } => (first_byte(cell) as usize) * 4,
-        Encoding::Entries { bytes: _ } => count(cell) * 2,
+        Encoding::Entries { table: _ } => count(cell) * 2,
     }
 }
 
@@ -37,7 +37,7 @@ pub fn write_value(encoding: Encoding, cell: &[u8], out: &mut [u8], at: usize)
         Encoding::Plain { len: _, test: _ } => {
             put_bytes(cell, out, at);
         }
-        Encoding::Number { limit: _ } => write_u16(out, at, first_byte(cell) as u16),
+        Encoding::Number { table: _ } => write_u16(out, at, first_byte(cell) as u16),
         Encoding::Counted { least: _, most: _ } => {
             let n = first_byte(cell) as usize;
             put_bytes(part_of(cell, 1, n), out, at);
@@ -46,6 +46,6 @@ pub fn write_value(encoding: Encoding, cell: &[u8], out: &mut [u8], at: usize)
             let n = (first_byte(cell) as usize) * 4;
             put_bytes(part_of(cell, 1, n), out, at);
         }
-        Encoding::Entries { bytes: _ } => write_entries(cell, out, at),
+        Encoding::Entries { table: _ } => write_entries(cell, out, at),
     }
 }

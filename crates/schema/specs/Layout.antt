@@ -33,6 +33,11 @@ classSet = classLimit / 8
 abbrev pub attributeSet : ℕ
 attributeSet = attributeLimit / 8
 
+-- a set of a table's numbers
+abbrev pub setWidth : TableId → ℕ
+setWidth Attributes = attributeSet
+setWidth Classes = classSet
+
 -- ---- what every row begins with
 
 abbrev pub nameAt : ℕ

@@ -5,6 +5,7 @@ pub mod Order
 pub mod OrderLaws
 pub mod Answers
 pub mod Layout
+pub mod LayoutLaws
 pub mod Row
 pub mod RowLaws
 pub mod AttributeRow

@@ -3,7 +3,7 @@ use crate::number::AttributeNumber;
 use crate::number::ClassNumber;
 use crate::number::TableId;
 ghost use mathlib.Core.Path.{_≡_};
-ghost use Rattle.schema.specs.Layout.{rowWidth, storeLength};
+ghost use Rattle.schema.specs.Layout.{setWidth, rowWidth, storeLength};
 
 // Limits of fields.
 pub const NAME_LIMIT: usize = 64;
@@ -94,6 +94,16 @@ pub const ATTRIBUTES_LENGTH: usize = ROWS + ATTRIBUTE_WIDTH * AttributeNumber::L
 pub const CLASSES_LENGTH: usize = ROWS + CLASS_WIDTH * ClassNumber::LIMIT;
 
 pub const CLOSURE_LENGTH: usize = CLOSURE_WIDTH * ClassNumber::LIMIT;
+
+// How wide a set of a table's numbers is.
+pub fn set_width(table: TableId) -> usize
+    ensures { λ r. ⌜ r ≡ setWidth table ⌝ }
+{
+    match table {
+        TableId::Attributes => ATTRIBUTE_SET,
+        TableId::Classes => CLASS_SET,
+    }
+}
 
 // How wide a row of a table is, and how long its store.
 pub fn row_width(table: TableId) -> usize

@@ -3,6 +3,7 @@
 // it is of.
 ghost use mathlib.Core.Path.{_≡_};
 ghost use Prim.Native.Nat.{_<_};
+ghost use lib.Dec.{ltb};
 ghost use Rattle.schema.specs.Numbers.{classLimit, attributeLimit, limit, classRead, attributeRead, numberRead};
 ghost use Rattle.schema.specs.Numbers.{rowId, tableOf, numberOf, sameTable, sameRow};
 
@@ -98,6 +99,16 @@ pub fn number_read(table: TableId, n: usize) -> NumberRead
             NumberRead::Row(RowId::Class(c))
         }
     }
+}
+
+// Whether a number from outside is one that a row of a table can have.
+pub fn is_number(table: TableId, n: usize) -> bool
+    ensures { λ r. ⌜ r ≡ ltb n (limit table) ⌝ }
+{
+    let NumberRead::Row(_) = number_read(table, n) else {
+        return false;
+    };
+    true
 }
 
 // The number k of a class, and of an attribute, where something has checked k. What comes from outside passes through `new`.

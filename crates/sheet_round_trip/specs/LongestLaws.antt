@@ -18,6 +18,7 @@ use Rattle.schema.specs.declared.number.TableId.{TableId}
 use Rattle.schema.specs.declared.number.TableId.the-variants.{Attributes, Classes}
 use Rattle.schema.specs.Numbers.{limit}
 use Rattle.schema.specs.Layout.{rowWidth}
+use Rattle.schema.specs.LayoutLaws.{set-bits}
 use Rattle.schema.specs.Store.{Schema, Table}
 use Rattle.rows_format.specs.declared.column.Column.{Column}
 use Rattle.rows_format.specs.declared.column.Encoding.{Encoding}
@@ -45,10 +46,10 @@ use Rattle.rows_read.specs.declared.read.RowRead.the-variants as row
 -- the longest value of an encoding
 unfoldable longestValue : Encoding → ℕ
 longestValue (Plain len test) = len
-longestValue (Number limit) = 2
+longestValue (Number table) = 2
 longestValue (Counted least most) = most
 longestValue (Arcs most) = most * 4
-longestValue (Entries bytes) = bytes * 16
+longestValue (Entries table) = limit table * 2
 
 -- a field of each column, all of them as long as can be
 unfoldable longestFields : List Column → ℕ
@@ -66,10 +67,10 @@ behind-first n cell = simp (length-take, length-drop) (omega arith)
 stored-longest : (encoding : Encoding) (cell : List ℕ) → length cell ≤ room encoding → length (stored encoding cell) ≤ longestValue encoding
 unfolding stored room longestValue
 stored-longest (Plain len test) cell l = l
-stored-longest (Number limit) cell l = omega (arith, bytes-length 2 (getD cell 0 0))
+stored-longest (Number table) cell l = omega (arith, bytes-length 2 (getD cell 0 0))
 stored-longest (Counted least most) cell l = omega (arith, behind-first (getD cell 0 0) cell)
 stored-longest (Arcs most) cell l = omega (arith, behind-first (getD cell 0 0 * 4) cell)
-stored-longest (Entries bytes) cell l = omega (arith, entry-length (membersFrom 0 cell), members-few cell)
+stored-longest (Entries table) cell l = omega (arith, entry-length (membersFrom 0 cell), members-few cell, set-bits table)
 
 value-longest : (r : Column) (row : List ℕ) → length (valueOf r (cellAt r row)) ≤ longestValue (r .encoding)
 unfolding valueOf cellAt columnWidth

@@ -32,6 +32,9 @@ add-result-2 c = omega (arith, ap room (c .before .encoding3 .given .1))
 enum-known-encoding-4 : tie.Need-enum-known-encoding-4
 enum-known-encoding-4 c = search needs
 
+set-width-requires : tie.Need-set-width-requires
+set-width-requires c κs = search needs
+
 returns : tie.Need-returns
 unfolding room
 returns c = rw (c .before .encoding .given .1)
@@ -50,7 +53,7 @@ returns-4 c = rw (c .before .encoding3 .given .1)
 
 returns-5 : tie.Need-returns-5
 unfolding room
-returns-5 c = rw (c .before .encoding4 .given .1)
+returns-5 c = rw (c .before .before .encoding4 .given .1) (c .set-width .ensures)
 
 pub room-of-spec : {M : Type 1} → statement M
 room-of-spec =
@@ -64,6 +67,7 @@ room-of-spec =
     mul-result
     add-result-2
     enum-known-encoding-4
+    set-width-requires
     returns
     returns-2
     returns-3

@@ -1,7 +1,6 @@
-use native.Mathlib.Omega.{arith}
 use borrow.Author.Needs.{needs}
-use borrow.Author.Tests.{eq-eqb, ne-eqb, lt-leb, le-leb, leb-true}
-use Rattle.rows_format.specs.Encodings.{accepts, sound}
+use borrow.Author.Tests.{eq-eqb, ne-eqb, lt-leb, le-leb}
+use Rattle.rows_format.specs.Encodings.{accepts}
 use Rattle.rows_read.proofs.value.accepts.Statement.{statement}
 use Rattle.rows_read.proofs.value.accepts.Tie as tie
 
@@ -17,8 +16,11 @@ enum-known-encoding-2 c = search needs
 read-u16-requires : tie.Need-read-u16-requires
 read-u16-requires c κs = search needs
 
-cast-result : tie.Need-cast-result
-cast-result c = search needs
+cast-is-number : tie.Need-cast-is-number
+cast-is-number c = search needs
+
+is-number-requires : tie.Need-is-number-requires
+is-number-requires c κs = search needs
 
 enum-known-encoding-3 : tie.Need-enum-known-encoding-3
 enum-known-encoding-3 c = search needs
@@ -32,13 +34,6 @@ enum-known-encoding-5 c = search needs
 returns : tie.Need-returns
 unfolding accepts
 returns c = rw (c .before .before .encoding5 .given .1, eq-eqb _ _ (c .if5 .taken))
-
-mul-rises : tie.Need-mul-rises
-unfolding sound
-mul-rises c =
-    let c₁ = c .before .before .before in
-    let start = c₁ .before .before .before in
-    omega (arith, leb-true (c₁ .encoding5 .given .0 .0) 254 (rw (c₁ .encoding5 .given .1) at (start .pre)))
 
 rises-requires : tie.Need-rises-requires
 rises-requires c κs = search needs
@@ -58,8 +53,9 @@ returns-4 : tie.Need-returns-4
 unfolding accepts
 returns-4 c =
     let c₁ = c .before in
-    let c₂ = c₁ .before .before in
-    rw (c₂ .encoding2 .given .1, eq-eqb _ _ (c₁ .if2 .taken), c .read-u16 .ensures)
+    let c₂ = c₁ .before in
+    let c₃ = c₂ .before .before in
+    rw (c₃ .encoding2 .given .1, eq-eqb _ _ (c₂ .if2 .taken), ← (c₁ .read-u16 .ensures)) (c .is-number .ensures)
 
 returns-5 : tie.Need-returns-5
 unfolding accepts
@@ -104,12 +100,12 @@ accepts-spec =
     passes-requires
     enum-known-encoding-2
     read-u16-requires
-    cast-result
+    cast-is-number
+    is-number-requires
     enum-known-encoding-3
     enum-known-encoding-4
     enum-known-encoding-5
     returns
-    mul-rises
     rises-requires
     returns-2
     returns-3

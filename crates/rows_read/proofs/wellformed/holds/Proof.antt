@@ -18,8 +18,11 @@ enum-known-encoding-2 c = search needs
 first-byte-requires : tie.Need-first-byte-requires
 first-byte-requires c κs = search needs
 
-cast-result : tie.Need-cast-result
-cast-result c = search needs
+cast-is-number : tie.Need-cast-is-number
+cast-is-number c = search needs
+
+is-number-requires : tie.Need-is-number-requires
+is-number-requires c κs = search needs
 
 enum-known-encoding-3 : tie.Need-enum-known-encoding-3
 enum-known-encoding-3 c = search needs
@@ -81,7 +84,9 @@ returns-2 c = rw (c .before .before .encoding .given .1) (c .passes .ensures)
 
 returns-3 : tie.Need-returns-3
 unfolding holds
-returns-3 c = rw (c .before .before .encoding2 .given .1, c .first-byte .ensures)
+returns-3 c =
+    let c₁ = c .before in
+    rw (c₁ .before .before .encoding2 .given .1, ← (c₁ .first-byte .ensures)) (c .is-number .ensures)
 
 returns-4 : tie.Need-returns-4
 unfolding holds
@@ -127,7 +132,8 @@ holds-spec =
     passes-requires
     enum-known-encoding-2
     first-byte-requires
-    cast-result
+    cast-is-number
+    is-number-requires
     enum-known-encoding-3
     first-byte-requires-2
     cast-n

@@ -1,7 +1,7 @@
 use native.Mathlib.Omega.{arith}
 use borrow.Author.Needs.{needs}
 use Rattle.rows_format.specs.EntriesLaws.{members-few, members-count}
-use Rattle.rows_write.proofs.Writing.{entries-small, plain-count, number-count, counted-count, arcs-count, entries-count}
+use Rattle.rows_write.proofs.Writing.{holding-small, plain-count, number-count, counted-count, arcs-count, entries-count}
 use Rattle.rows_write.proofs.value.value_length.Statement.{statement}
 use Rattle.rows_write.proofs.value.value_length.Tie as tie
 
@@ -38,14 +38,14 @@ enum-told-5 c = search needs
 count-requires : tie.Need-count-requires
 count-requires c κs =
     let start = c .before .before .before in
-    let s = entries-small (start .args .cell .now) (c .enum-told5 .given .1) (start .pre) in omega arith
+    let s = holding-small (start .args .encoding) (start .args .cell .now) (start .pre) in omega arith
 
 mul-result-2 : tie.Need-mul-result-2
 mul-result-2 c =
     let c₁ = c .before in
     let start = c₁ .before .before .before in
     let cell = start .args .cell .now in
-    let s = entries-small cell (c₁ .enum-told5 .given .1) (start .pre) in omega (arith, c .count .ensures, members-few cell, members-count cell)
+    let s = holding-small (start .args .encoding) cell (start .pre) in omega (arith, c .count .ensures, members-few cell, members-count cell)
 
 returns : tie.Need-returns
 returns c = plain-count (c .before .before .before .args .cell .now) (c .enum-told .given .1)

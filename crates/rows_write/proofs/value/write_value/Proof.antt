@@ -7,7 +7,7 @@ use borrow.Author.Needs.{needs}
 use Rattle.prelude.specs.Part.{splice}
 use Rattle.prelude.specs.BigEndianLaws.{bytes-length}
 use Rattle.rows_write.proofs.Writing.{stored-plain, stored-number, stored-counted, stored-arcs, stored-entries, counted-inside, arcs-inside}
-use Rattle.rows_write.proofs.Writing.{entries-small}
+use Rattle.rows_write.proofs.Writing.{holding-small}
 use Rattle.rows_write.proofs.value.write_value.Statement.{statement}
 use Rattle.rows_write.proofs.value.write_value.Tie as tie
 
@@ -96,7 +96,7 @@ write-entries-requires c κs =
     let start = c₁ .before .before .before .before in
     let cell = start .args .cell .now in
     let e = ap length (stored-entries cell (c₁ .enum-told5 .given .1)) in
-    (entries-small cell (c₁ .enum-told5 .given .1) (start .pre .0, start .pre .1, start .pre .2), omega (arith, e, start .pre .3))
+    (holding-small (start .args .encoding) cell (start .pre .0, start .pre .1, start .pre .2), omega (arith, e, start .pre .3))
 
 same-length : tie.Need-same-length
 same-length c = search needs
