@@ -2,7 +2,7 @@
 use mathlib.Core.List.{List}
 use Prim.Native.Nat.{ℕ}
 use lib.Dec.{eqb}
-use lib.ListN.{length}
+use lib.ListN.{getD, length}
 use Rattle.wire.specs.Wire.{fieldAt}
 use Rattle.wire.specs.declared.FieldRead.{FieldRead}
 use Rattle.wire.specs.declared.FieldRead.the-variants.{Field, End, Bad}
@@ -18,6 +18,12 @@ pastRead at (Field tag start stop) = stop
 unfoldable pub pastField : List ℕ → ℕ → ℕ
 pastField s at = pastRead at (fieldAt s at (length s))
 
--- the field that stands next, and whether the bytes end behind it
+-- what a reader at a place of the bytes meets
 unfoldable pub stepAt : List ℕ → ℕ → Step
-stepAt s at = record { field = fieldAt s at (length s); last = eqb (pastField s at) (length s) }
+stepAt s at = record {
+  ended = eqb at (length s);
+  tag = getD s at 0;
+  field = fieldAt s at (length s);
+  next = pastField s at;
+  last = eqb (pastField s at) (length s);
+}

@@ -1,13 +1,13 @@
 // A reader. Document 01: "One reader carries the lent sheet and its place."
 // It holds the lent bytes and a place in them. Its functions are thin: each takes it apart and calls a covered function on slice and number. The borrow
-// checker covers no function over such a struct, so each of these is proved by a walk by hand; `step_at`, `ends_at` and `tag_at` have plain parameters and
-// serve every other caller, `field_within` those whose fields end before the bytes do.
+// checker covers no function over such a struct, so each of these is proved by a walk by hand. `step_at` alone makes a reader: it has plain parameters and
+// serves every other caller. `ends_at` and `field_within` are parts of what it gives, and need no walk.
 use prelude::number::byte_at;
 use wire::FieldRead;
 use wire::field_at;
 use wire::value_of;
 ghost use mathlib.Core.Path.{_≡_};
-ghost use Prim.Native.Nat.{_≤_, _<_};
+ghost use Prim.Native.Nat.{_≤_};
 ghost use lib.Dec.{eqb};
 ghost use lib.ListN.{getD, length};
 ghost use Rattle.wire.specs.Wire.{fieldAt};
@@ -18,9 +18,13 @@ pub struct Reader<'a> {
     pub at: usize,
 }
 
-// What a reader meets at its place: the field that stands next, and whether the bytes end behind it.
+// What a reader meets at its place: whether it has come to the end, the tag and the field that stand next, the place past the field, and whether the bytes
+// end there.
 pub struct Step {
+    pub ended: bool,
+    pub tag: u8,
     pub field: FieldRead,
+    pub next: usize,
     pub last: bool,
 }
 
@@ -55,12 +59,14 @@ fn past_field(s: &[u8], at: usize) -> usize
     end
 }
 
-// The byte that stands there: a field's tag, whether the field is whole or not.
+// The byte that stands there: a field's tag, whether the field is whole or not. Behind the bytes it is 0.
 fn tag_here(s: &[u8], at: usize) -> u8
-    requires { ⌜ at < length (now s) ⌝ }
     ensures { λ r. ⌜ r ≡ getD (now (s .entry)) at 0 ⌝ }
 {
-    byte_at(s, at)
+    if at < s.len() {
+        return byte_at(s, at);
+    }
+    0
 }
 
 // A reader at a place of the lent bytes.
@@ -87,7 +93,6 @@ fn next_field<'a>(r: Reader<'a>) -> FieldRead
 
 // The tag that stands next.
 fn next_tag<'a>(r: Reader<'a>) -> u8
-    requires { ⌜ r .at < length (now (r .bytes)) ⌝ }
     ensures { λ b. ⌜ b ≡ getD (now (r .entry .bytes)) (r .entry .at) 0 ⌝ }
 {
     tag_here(r.bytes, r.at)
@@ -104,38 +109,34 @@ fn past<'a>(r: Reader<'a>) -> Reader<'a>
     }
 }
 
-// What a reader at a place of a sheet meets.
+// What a reader at a place of the bytes meets.
 pub fn step_at(s: &[u8], at: usize) -> Step
     requires { ⌜ at ≤ length (now s) ⌝ }
     ensures { λ r. ⌜ r ≡ stepAt (now (s .entry)) at ⌝ }
 {
     let r = reader_at(s, at);
+    let ended = at_end(r);
+    let tag = next_tag(r);
     let field = next_field(r);
-    let last = at_end(past(r));
-    Step { field, last }
+    let q = past(r);
+    let next = q.at;
+    let last = at_end(q);
+    Step {
+        ended,
+        tag,
+        field,
+        next,
+        last,
+    }
 }
 
-// Whether a reader at a place of a sheet has come to the end.
+// Whether a reader at a place has come to the end.
 pub fn ends_at(s: &[u8], at: usize) -> bool
+    requires { ⌜ at ≤ length (now s) ⌝ }
     ensures { λ r. ⌜ r ≡ eqb at (length (now (s .entry))) ⌝ }
 {
-    at_end(reader_at(s, at))
-}
-
-// The tag that a reader at a place of a sheet meets.
-pub fn tag_at(s: &[u8], at: usize) -> u8
-    requires { ⌜ at < length (now s) ⌝ }
-    ensures { λ r. ⌜ r ≡ getD (now (s .entry)) at 0 ⌝ }
-{
-    next_tag(reader_at(s, at))
-}
-
-// The field that a reader at a place meets, where nobody asks what comes behind it.
-fn next_at(s: &[u8], at: usize) -> FieldRead
-    requires { ⌜ at ≤ length (now s) ⌝ }
-    ensures { λ r. ⌜ r ≡ fieldAt (now (s .entry)) at (length (now (s .entry))) ⌝ }
-{
-    next_field(reader_at(s, at))
+    let step = step_at(s, at);
+    step.ended
 }
 
 // The field that a reader of the bytes up to end meets at a place.
@@ -143,5 +144,6 @@ pub fn field_within(s: &[u8], at: usize, end: usize) -> FieldRead
     requires { ⌜ (at ≤ end) × (end ≤ length (now s)) ⌝ }
     ensures { λ r. ⌜ r ≡ fieldAt (now (s .entry)) at end ⌝ }
 {
-    next_at(value_of(s, 0, end), at)
+    let step = step_at(value_of(s, 0, end), at);
+    step.field
 }

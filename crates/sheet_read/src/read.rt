@@ -2,7 +2,6 @@
 use prelude::number::byte_at;
 use reader::ends_at;
 use reader::step_at;
-use reader::tag_at;
 use rows_format::format::Format;
 use rows_read::read::RowRead;
 use rows_read::read::place_of;
@@ -284,7 +283,7 @@ fn take_tagged(
     }
 }
 
-// The field at a place of the sheet.
+// The field at a place of the sheet: 6 looks at its tag alone, and reading goes on where the reader stands past it.
 fn take_field(
     s: &[u8],
     at: usize,
@@ -297,16 +296,17 @@ fn take_field(
     ensures { λ r. ⌜ Steps (takeField (now (s .entry)) at phase missing) (now (attributes .entry)) (now (classes .entry)) r (now (attributes .exit))
         (now (classes .exit)) ⌝ }
 {
-    let room = room_in(sheet_tag(tag_at(s, at)), attributes, classes);
+    let step = step_at(s, at);
+    let tag = sheet_tag(step.tag);
+    let room = room_in(tag, attributes, classes);
     let Room::Free = room else {
         return room_turn(room);
     };
-    let step = step_at(s, at);
     let field = step.field;
     let FieldRead::Field {
-        tag,
+        tag: _,
         start,
-        end: stop,
+        end: _,
     } = field
     else {
         return Turn::Stop {
@@ -314,13 +314,13 @@ fn take_field(
         };
     };
     take_tagged(
-        sheet_tag(tag),
+        tag,
         s,
         at,
         phase,
         missing,
         start,
-        stop,
+        step.next,
         attributes,
         classes,
     )
