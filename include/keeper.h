@@ -176,8 +176,8 @@ uint64_t keeper_audit(const uint8_t *attributes, size_t attributes_length,
  *   12..29, 38..40, 45
  *           some row of the result breaks a rule: the first in the order of judging
  *   30      some class would demand other attributes than before
- * The first number that holds is given, in this order, the rules before 30. Refused, no byte of any store is altered, and
- * table and place are 0 but for the place of 4.
+ * The first number that holds, in the order of judging, is given: the rules before 30. Refused, no byte of any store is
+ * altered, and table and place are 0 but for the place of 4.
  */
 uint64_t keeper_plain_change(const uint8_t *change, size_t change_length,
                              uint8_t *attributes, size_t attributes_length,

@@ -47,7 +47,7 @@ module _ (change : Change) (r : List ℕ) (m : Schema) (closure : List ℕ) wher
   abbrev plainThirty : List Case
   plainThirty = (refusal.mandatoryDiffers when mandatoryDiffers before after) ∷ []
 
-  -- rules 12 to 30, where numbers 5 to 11 say nothing
+  -- the rules and 30, where numbers 5 to 11 say nothing
   result-agrees : Sound r m closure → firstAsked change r m ≡ 0
       → firstOf (changedCases change r m ++ quickThirty)
       ≡ firstOf (brokenCases (schemaRules (addedBy change r (before .count))) (schemaAfter change r m) ++ plainThirty)

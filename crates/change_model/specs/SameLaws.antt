@@ -132,7 +132,7 @@ module _ (change : Change) (r : List ℕ) {m n : Schema} (s : SameRows m n) wher
           let q = s of .rows (targetOf r) (asked-there change r m z e) in
           rw (e, q) (with-rows-same (s of) (targetOf r) (editedRow change r (table of n .row (targetOf r))))
 
-  -- numbers 12 to 30
+  -- the rules and 30
   result-same : firstAsked change r m ≡ 0 → firstOf (resultCases change r m) ≡ firstOf (resultCases change r n)
   result-same z =
       let after = after-same z in

@@ -1,5 +1,6 @@
 // Lists the samples of the repository, as `list` lists its standard input: a forest owners' schema, a sheet that is refused, and one that is too long; then
-// the longest that is listed, one of no rows, and two whose refusals have a table and a place that differ.
+// the longest that is listed, one of no rows, and three that are refused: by a rule, in a table and a row whose numbers differ; by the first of three rules in
+// the order of judging, which is neither the smallest number nor broken by the lowest row; and where reading stops.
 use libc::STDOUT_FILENO;
 use list_text::list::SHEET_LIMIT;
 use list_text::list::TEXT_LENGTH;
@@ -27,5 +28,6 @@ fn main() {
     show(b"edge.sheet");
     show(b"none.sheet");
     show(b"range.sheet");
+    show(b"kind.sheet");
     show(b"unreadable.sheet");
 }

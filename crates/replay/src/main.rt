@@ -255,7 +255,7 @@ fn play_named(path: &[u8]) {
     libc::close(file);
 }
 
-// A script made at random, then those made by hand from document 01.
+// A script made at random, then those made by hand from documents 01 and 02.
 fn main() {
     play_from(libc::STDIN_FILENO);
     play_named(b"places.script");

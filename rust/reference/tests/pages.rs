@@ -20,10 +20,12 @@ fn text(path: &str) -> String {
 fn pages() -> Vec<(String, String, String)> {
     let mut paths = vec!["README.md".to_owned(), "CONTRIBUTING.md".to_owned()];
     paths.push("rust/README.md".to_owned());
-    let docs = fs::read_dir(top().join("docs")).into_iter().flatten();
-    let names = docs.filter_map(|entry| Some(entry.ok()?.file_name().to_string_lossy().into()));
-    let names = names.filter(|name: &String| name.ends_with(".md"));
-    paths.extend(names.map(|name| format!("docs/{name}")));
+    for folder in ["docs", "docs/requests"] {
+        let entries = fs::read_dir(top().join(folder)).into_iter().flatten();
+        let names = entries.filter_map(|entry| entry.ok()?.file_name().into_string().ok());
+        let names = names.filter(|name| name.ends_with(".md"));
+        paths.extend(names.map(|name| format!("{folder}/{name}")));
+    }
     let page = |path: String| {
         let folder = path.rsplit_once('/').map_or("", |(folder, _)| folder);
         let words: Vec<_> = text(&path).split_whitespace().map(str::to_owned).collect();
@@ -111,6 +113,63 @@ fn a_name_cited_in_a_file_stands_in_it() {
         }
     }
     assert!(count > 200, "{count} names");
+}
+
+/// All files of a folder, their paths and texts one after the other.
+fn texts(folder: &Path) -> String {
+    let entries = fs::read_dir(folder).into_iter().flatten();
+    let texts = entries.filter_map(|entry| {
+        let path = entry.ok()?.path();
+        let text = match path.is_dir() {
+            true => texts(&path),
+            false => fs::read_to_string(&path).unwrap_or_default(),
+        };
+        Some(format!("{}\n{text}", path.display()))
+    });
+    texts.collect()
+}
+
+/// What a note means by CRATE/FILE, definitions, laws or code, or by CRATE alone,
+/// up to the end of its bracket; none where no crate has this name.
+fn noted(text: &str) -> Option<String> {
+    let end = text.find([')', ',', ';']).unwrap_or(text.len());
+    let (name, file) = text[..end].split_once('/').unwrap_or((&text[..end], ""));
+    let folder = top().join("crates").join(name);
+    if name.is_empty() || !folder.is_dir() {
+        return None;
+    }
+    let paths = [format!("specs/{file}.antt"), format!("src/{file}.rt")];
+    let mut files = paths.iter().map(|path| folder.join(path));
+    let file = match file {
+        "" => Some(texts(&folder)),
+        _ => files.find_map(|path| fs::read_to_string(path).ok()),
+    };
+    Some(file.unwrap_or_default())
+}
+
+/// The notes on the requests: a name with its crate or file in brackets behind it
+/// stands there, unless its part of the sentence says that it is gone.
+#[test]
+fn a_name_in_a_note_stands_where_the_note_says() {
+    let mut count = 0;
+    let notes = pages().into_iter();
+    for (page, _, words) in notes.filter(|(_, folder, _)| folder == "docs/requests") {
+        for (at, _) in words.match_indices(" (") {
+            let Some(file) = noted(&words[at + 2..]) else {
+                continue;
+            };
+            let from = [". ", "; "].map(|end| words[..at].rfind(end).unwrap_or(0));
+            let part = &words[from[0].max(from[1])..at];
+            if ["gone", "went"].iter().any(|word| has_name(part, word)) {
+                continue;
+            }
+            for name in cited(&words[..at]) {
+                assert!(has_name(&file, name), "{page}: {name}");
+                count += 1;
+            }
+        }
+    }
+    assert!(count > 30, "{count} names");
 }
 
 /// Number and name of each `pub const NAME: u8 = NUMBER;`.

@@ -38,6 +38,20 @@ pub fn range() -> Vec<u8> {
     sheet(&[attribute(0), attribute(1), attribute(2).range(6, 5)])
 }
 
+/// A sheet that breaks three rules: class 4 the first of them in the order of
+/// judging, 38, a lower class 40, and an attribute 25.
+pub fn kind() -> Vec<u8> {
+    let class = Row::class;
+    sheet(&[
+        Row::attribute(0).range(6, 5),
+        class(0),
+        class(1).category(3),
+        class(2).under(1),
+        class(3),
+        class(4).category(2).under(3),
+    ])
+}
+
 /// A sheet that cannot be read at its end: nothing but a heading and a tag.
 pub fn unreadable() -> Vec<u8> {
     [sheet(&[]), vec![0x20]].concat()

@@ -32,13 +32,14 @@ pub const NAMES: [&str; 7] = [
 
 /// The names of the sheets for the program that lists, and what it
 /// prints.
-pub const SHEETS: [(&str, &str); 4] = [
+pub const SHEETS: [(&str, &str); 5] = [
     (
         "edge",
         "no name oid must may\n0 c0 2.48.0 2 2\n1 c1 2.4294967295.0 2 4\n",
     ),
     ("none", "no name oid must may\n"),
     ("range", "refused 25 1 2\n"),
+    ("kind", "refused 38 2 4\n"),
     ("unreadable", "refused 4 0 4\n"),
 ];
 
@@ -48,6 +49,7 @@ pub fn listed(name: &str) -> Option<Vec<u8>> {
         "edge" => Some(listing::edge()),
         "none" => Some(rows::sheet(&[])),
         "range" => Some(listing::range()),
+        "kind" => Some(listing::kind()),
         "unreadable" => Some(listing::unreadable()),
         _ => None,
     }
