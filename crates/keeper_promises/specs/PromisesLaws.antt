@@ -1,6 +1,7 @@
 -- The promises, kept: each demand, with no assumption left.
 use Rattle.schema.specs.OrderLaws.{rank-apart}
 use Rattle.sheet_read.specs.StoppingLaws.{sheet-stops}
+use Rattle.rules.specs.MeetsLaws.{kept-met}
 use Rattle.change_read.specs.StoppingLaws.{change-stops}
 use Rattle.keeper_promises.specs.Demand3.{Demand3}
 use Rattle.keeper_promises.specs.Demand3Laws.{agreement}
@@ -48,6 +49,7 @@ demand2 = record {
   sheet-stops = sheet-stops;
   change-stops = change-stops;
   ranks-apart = rank-apart;
+  rule-met = kept-met;
   load-zero = loads.load-zero;
   load-done = loads.load-done;
   load-order = loads.load-order;
