@@ -170,6 +170,13 @@ pub record Demand2 : Type 0 where
   pub change-stops : (x : List ℕ) (answer : ChangeRead) → (readChange x .answer ≡ answer) ↔ ChangeStops x answer
   -- "Demand 2's smallest is the first in this order": a number of the order shares its rank with no other, so that the first is one number
   pub ranks-apart : (m n : ℕ) → rank m < length order → rank m ≡ rank n → m ≡ n
+  -- every number that a call gives, on any input, has a place in the order. 22 has none (`unused` in PaperTables), and "is not used again"
+  pub load-placed : (sheet : List ℕ) (s : Stores) → rank (load sheet s .answer .number) < length order
+  pub audit-placed : (s : Stores) → rank (audit s .number) < length order
+  pub write-placed : (s : Stores) (out : List ℕ) → rank (write s out .answer .number) < length order
+  pub depth-placed : (s : Stores) (c : ℕ) → rank (depth s c .number) < length order
+  pub plain-placed : (x : List ℕ) (s : Stores) → rank (plainChange x s .answer .number) < length order
+  pub quick-placed : (x : List ℕ) (s : Stores) → rank (quickChange x s .answer .number) < length order
   -- a rule is met exactly if no row, active or defunct, breaks the rule of its number in the list: what `PaperTables` says of a number binds every call
   pub rule-met : (added : Added) (m : Schema) (rule : RuleName)
       → ((t : TableId) (k : ℕ) → k < table t m .count → breaks added m (ruleNumber rule) t k ≡ false) ↔ Met added rule m
