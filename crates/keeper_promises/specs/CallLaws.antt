@@ -26,7 +26,7 @@ use Rattle.keeper.specs.AnsweringLaws.{broken-stores, formed-stores, not-short,
 use Rattle.keeper.specs.CheckedLaws.{readable-classes}
 use Rattle.keeper.specs.Depth.{depth}
 use Rattle.keeper.specs.Write.{sheetOf, write, writeAnswer, written}
-use Rattle.keeper_promises.specs.Promises.{InOrder, Shape, SomeShort}
+use Rattle.keeper_promises.specs.Promises.{Shape, SomeShort}
 use Rattle.keeper_promises.specs.OrderLaws.{has-shape}
 use Rattle.schema.specs.Refusals as refusal
 use Rattle.schema.specs.declared.number.ClassRead.the-variants as class
@@ -89,13 +89,13 @@ module _ (s : Stores) (c : ℕ) where
     pub depth-late : c < schemaOf s .classes .count → ((k : ℕ) → ¬ EarlierChain (schemaOf s .classes) c k) → depth s c ≡ refused refusal.classNotLive
     depth-late l none = sym (ends.depth-present s c (shaped s h f) refl l) ∙ ap depthAnswer (late-no-chain (schemaOf s .classes) c .1 none)
 
--- ---- depth on stores in order
+-- ---- depth where rule 18 is met
 
 pub chain-ends : (added : Added) (m : Schema) → Met added classNotLive m → (c : ℕ) → c < m .classes .count → ChainEnds (m .classes) c
 chain-ends added m h = superclass-chain (m .classes) (h .1)
 
-pub depth-order : (s : Stores) (c : ℕ) → InOrder s → c < schemaOf s .classes .count
+pub depth-order : (s : Stores) (c : ℕ) → LongEnough s → Shape s → Met Nothing classNotLive (schemaOf s) → c < schemaOf s .classes .count
     → (ends : ChainEnds (schemaOf s .classes) c) × (depth s c ≡ done (ends .steps))
-depth-order s c h l =
-    let e = chain-ends Nothing (schemaOf s) (h .rules classNotLive) c l in
-    (e, depth-steps s c (h .long) (h .shape) (e .steps) l (chain-map (λ x p. p .1) (e .chain)))
+depth-order s c long shape met l =
+    let e = chain-ends Nothing (schemaOf s) met c l in
+    (e, depth-steps s c long shape (e .steps) l (chain-map (λ x p. p .1) (e .chain)))

@@ -34,6 +34,7 @@ pub mod OrderLaws
 pub mod LoadLaws
 pub mod StoppingLaws
 pub mod CallLaws
+pub mod PlacedLaws
 pub mod AlikeLaws
 pub mod FrontLaws
 pub mod BytesLaws

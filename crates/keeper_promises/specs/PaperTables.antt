@@ -1,7 +1,7 @@
 -- The small tables of documents 01 and 02, each value typed from the paper, as statements about the definitions that the calls are proved against;
 -- `paper-tables` (PaperTablesLaws) is a member of the record. A definition that says something else contradicts a line here, whatever its own laws say.
 use mathlib.Core.Bool.{true, false, cond}
-use mathlib.Core.List.{List, [], _∷_, _++_}
+use mathlib.Core.List.{List, [], _∷_, _++_, map}
 use mathlib.Core.Logic.{_⊎_, _↔_}
 use mathlib.Core.Path.{_≡_}
 use Prim.Native.Char.{code}
@@ -16,10 +16,10 @@ use Rattle.schema.specs.ClassRow.{categoryOf, fixedAuxiliaryOf, fixedOptionalOf
 use Rattle.schema.specs.ClassRow.{openOptionalOf, openSuperiorOf, superclassOf}
 use Rattle.schema.specs.Layout.{rowWidth}
 use Rattle.schema.specs.ObjectClasses.{objectClassFits}
-use Rattle.schema.specs.Order.{order}
+use Rattle.schema.specs.Order.{order, rank}
 use Rattle.schema.specs.Row.{arcCount, arcOf, guidOf, isBase, isDefunct, nameOf, systemFlags}
 use Rattle.schema.specs.Store.{Schema}
-use Rattle.schema.specs.declared.attribute.Bound.the-variants.{Given}
+use Rattle.schema.specs.declared.attribute.Bound.the-variants.{Absent, Given}
 use Rattle.schema.specs.declared.class.Naming.the-variants.{By}
 use Rattle.schema.specs.declared.number.TableId.{TableId}
 use Rattle.schema.specs.declared.number.TableId.the-variants.{Attributes, Classes}
@@ -31,9 +31,9 @@ use Rattle.change_read.specs.Reading.{readChange}
 use Rattle.change_read.specs.declared.read.ChangeRead.{ChangeRead}
 use Rattle.change_rows.specs.Rows.{schemaAfter}
 use Rattle.rules_names.specs.Name.{sameName, validName}
-use Rattle.rules_attribute.specs.Links.{linkSyntaxWrong}
-use Rattle.rules_attribute.specs.Range.{endsCrossed}
 use Rattle.rules_attribute.specs.Syntax.{syntaxFits}
+use Rattle.rules.specs.Rules.{breaks}
+use Rattle.rules.specs.declared.row.Added.{Added}
 use Rattle.keeper_promises.specs.Pieces.{classRow, classes, judgedRows, sample}
 use Rattle.change_read.specs.declared.read.ChangeRead.the-variants as changes
 use Prim.Native.String as string
@@ -206,6 +206,36 @@ pub record CategoryTable : Type 0 where
   pub under-auxiliary : under 3 ≡ 0 ∷ 40 ∷ 38 ∷ 0 ∷ []
   pub row-zero : (alone 0 ∷ alone 1 ∷ alone 2 ∷ alone 3 ∷ []) ≡ 21 ∷ 21 ∷ 0 ∷ 21 ∷ []
 
+-- class k is not row 0, its superclass has a row, and the categories of the two are so
+abbrev pub UnderClass : Schema → ℕ → (ℕ → ℕ → Type 0) → Type 0
+UnderClass m k Are =
+    ¬ (k ≡ 0)
+    × ((superclassOf (m .classes .row k) < m .classes .count)
+    × Are (categoryOf (m .classes .row k)) (categoryOf (m .classes .row (superclassOf (m .classes .row k)))))
+
+-- the same four of any class k, active or defunct, whatever a change has added: `breaks` is the rule of that number in the list. No attribute breaks them
+pub record InheritanceRules (added : Added) (m : Schema) (k : ℕ) : Type 0 where
+  pub root : (breaks added m 21 Classes k ≡ true) ↔ ((k ≡ 0) × ¬ (categoryOf (m .classes .row k) ≡ 2))
+  pub abstract : (breaks added m 38 Classes k ≡ true) ↔ UnderClass m k (λ own above. (own ≡ 2) × ¬ (above ≡ 2))
+  pub auxiliary : (breaks added m 39 Classes k ≡ true) ↔ UnderClass m k (λ own above. (own ≡ 3) × (above ≡ 1))
+  pub structural : (breaks added m 40 Classes k ≡ true) ↔ UnderClass m k (λ own above. (own ≡ 1) × (above ≡ 3))
+  pub noAttribute : map (λ n. breaks added m n Attributes k) (21 ∷ 38 ∷ 39 ∷ 40 ∷ []) ≡ false ∷ false ∷ false ∷ false ∷ []
+
+-- "Rule 25 shall hold only where rangeLower is greater than rangeUpper": of any attribute k, active or defunct, and ends of 32 bits. No class breaks it
+pub record RangeRule (added : Added) (m : Schema) (k : ℕ) : Type 0 where
+  pub ends : (l u : ℕ) → l < 0x100000000 → u < 0x100000000 → rangeLower (m .attributes .row k) ≡ Given l → rangeUpper (m .attributes .row k) ≡ Given u
+      → (breaks added m 25 Attributes k ≡ false) ↔ SignedAtMost l u
+  pub noLower : rangeLower (m .attributes .row k) ≡ Absent → breaks added m 25 Attributes k ≡ false
+  pub noUpper : rangeUpper (m .attributes .row k) ≡ Absent → breaks added m 25 Attributes k ≡ false
+  pub noClass : breaks added m 25 Classes k ≡ false
+
+-- 45: exactly these syntaxes, of any present linkID; where it is absent, any. "It binds all rows": any attribute k, active or defunct. No class breaks it
+pub record LinkRule (added : Added) (m : Schema) (k : ℕ) : Type 0 where
+  pub present : ¬ (linkOf (m .attributes .row k) ≡ 0)
+      → (breaks added m 45 Attributes k ≡ false) ↔ LinkSyntax (linkOf (m .attributes .row k) % 2) (syntaxOf (m .attributes .row k))
+  pub absent : linkOf (m .attributes .row k) ≡ 0 → breaks added m 45 Attributes k ≡ false
+  pub noClass : breaks added m 45 Classes k ≡ false
+
 -- "Absent, the first is stored. With any other oMSyntax it is read and dropped."
 pub record DefaultTable : Type 0 where
   pub absent : (storedClass 1 127 [] ∷ storedClass 7 127 [] ∷ storedClass 13 127 [] ∷ storedClass 14 127 [] ∷ [])
@@ -250,21 +280,25 @@ pub record ChangeLists : Type 0 where
   pub superior-back : removed 0x19 1 ≡ (0 ∷ []) ∷ [] ∷ [] ∷ [] ∷ [] ∷ [] ∷ [] ∷ []
 
 pub record PaperTables : Type 0 where
-  -- "The smallest number whose condition holds."; 38, 39, 40 "stand at 21's place in the order"; 22 "is not used again"; "45, a schema rule after 29"
+  -- "The smallest number whose condition holds."; 38, 39, 40 "stand at 21's place in the order, in the order given here, though their numbers are higher.
+  -- Demand 2's smallest is the first in this order"; "45, a schema rule after 29"
   pub judging : order
       ≡ 0 ∷ 1 ∷ 2 ∷ 3 ∷ 4 ∷ 5 ∷ 6 ∷ 7 ∷ 8 ∷ 9 ∷ 10 ∷ 11 ∷ 12 ∷ 13 ∷ 14 ∷ 15 ∷ 16 ∷ 17 ∷ 18 ∷ 19 ∷ 20 ∷ 21 ∷ 38 ∷ 39 ∷ 40 ∷ 23 ∷ 24 ∷ 25 ∷ 26 ∷ 27 ∷ 28 ∷ 29 ∷ 45
       ∷ 30 ∷ 31 ∷ []
+  -- and this is the rank by which every promise compares two numbers; 22 has none, since "The number is not used again."
+  pub ranks : map rank order
+      ≡ 0 ∷ 1 ∷ 2 ∷ 3 ∷ 4 ∷ 5 ∷ 6 ∷ 7 ∷ 8 ∷ 9 ∷ 10 ∷ 11 ∷ 12 ∷ 13 ∷ 14 ∷ 15 ∷ 16 ∷ 17 ∷ 18 ∷ 19 ∷ 20 ∷ 21 ∷ 22 ∷ 23 ∷ 24 ∷ 25 ∷ 26 ∷ 27 ∷ 28 ∷ 29 ∷ 30 ∷ 31 ∷ 32
+      ∷ 33 ∷ 34 ∷ []
+  pub unused : rank 22 ≡ length order
   pub names : NameTables
   pub categories : CategoryTable
+  pub inheritance-rules : (added : Added) (m : Schema) (k : ℕ) → InheritanceRules added m k
   -- 26: exactly these pairs, of any two numbers; 27: exactly these values, of any bytes
   pub syntax-pairs : (syntax omSyntax : ℕ) → (syntaxFits syntax omSyntax ≡ true) ↔ SyntaxPair syntax omSyntax
   pub object-classes : (syntax : ℕ) (value : List ℕ) → (objectClassFits syntax value ≡ true) ↔ RightObjectClass syntax value
   pub defaults : DefaultTable
-  -- 25: "only where rangeLower is greater than rangeUpper", of any two numbers of 32 bits
-  pub range-ends : (l u : ℕ) → l < 0x100000000 → u < 0x100000000 → (endsCrossed (Given l) (Given u) ≡ false) ↔ SignedAtMost l u
-  -- 45: exactly these syntaxes, of any present linkID; where it is absent, any
-  pub link-syntaxes : (row : List ℕ) → ¬ (linkOf row ≡ 0) → (linkSyntaxWrong row ≡ false) ↔ LinkSyntax (linkOf row % 2) (syntaxOf row)
-  pub link-absent : (row : List ℕ) → linkOf row ≡ 0 → linkSyntaxWrong row ≡ false
+  pub range-rule : (added : Added) (m : Schema) (k : ℕ) → RangeRule added m k
+  pub link-rule : (added : Added) (m : Schema) (k : ℕ) → LinkRule added m k
   -- "A row is a *base row* if systemFlags has 0x10"
   pub base-bit : (row : List ℕ) (high bit low : ℕ) → low < 0x10 → bit < 2 → systemFlags row ≡ high * 0x20 + bit * 0x10 + low
       → (isBase row ≡ true) ↔ (bit ≡ 1)

@@ -13,24 +13,36 @@ use Rattle.prelude.specs.BelowLaws.{last-or-less}
 use Rattle.prelude.specs.Part.{part, sameBytes, padded, zeros}
 use Rattle.prelude.specs.SaysLaws.{says-eq, says-lt, says-split, says-false}
 use Rattle.sets.specs.Sets.{listBelow}
-use Rattle.schema.specs.AttributeRow.{syntaxOf, linkOf}
+use Rattle.schema.specs.AttributeRow.{linkOf, rangeLower, syntaxOf}
+use Rattle.schema.specs.ClassRow.{categoryOf}
 use Rattle.schema.specs.ObjectClasses.{objectClasses, objectClassFits, entryCount, entrySyntax, entryValue}
 use Rattle.schema.specs.ObjectClassesLaws.{says-object-class-fits}
+use Rattle.schema.specs.Order.{position, rank}
 use Rattle.schema.specs.Row.{isBase, systemFlags}
-use Rattle.schema.specs.declared.attribute.Bound.the-variants.{Given}
+use Rattle.schema.specs.Store.{Schema}
+use Rattle.schema.specs.declared.attribute.Bound.{Bound}
+use Rattle.schema.specs.declared.attribute.Bound.the-variants.{Absent, Given}
 use Rattle.rules_names.specs.Name.{folded, sameName, between, validName, isLetter, isNameByte}
 use Rattle.rules_names.specs.NameLaws.{folded-upper, says-same-name, folded-other, says-between}
 use Rattle.rules_attribute.specs.Links.{linkSyntaxFits, linkSyntaxWrong, LinkSyntaxFits}
 use Rattle.rules_attribute.specs.LinksLaws.{says-link-syntax-fits, says-link-syntax-wrong}
-use Rattle.rules_attribute.specs.Range.{biased, endsCrossed}
+use Rattle.rules_attribute.specs.Range.{biased, endsCrossed, rangeWrong}
 use Rattle.rules_attribute.specs.RangeLaws.{biased-high, biased-low, less-biased}
 use Rattle.rules_attribute.specs.Syntax.{syntaxFits, syntaxPairs, pairCount}
 use Rattle.rules_attribute.specs.SyntaxLaws.{says-syntax-fits}
+use Rattle.rules_class.specs.Category.{Illegal, RootIllegal, inheritanceNumber, inheritanceWrong}
+use Rattle.rules_class.specs.CategoryLaws.{says-inheritance-wrong}
+use Rattle.rules_class.specs.declared.category.Inheritance.{Inheritance}
+use Rattle.rules_class.specs.declared.category.Inheritance.the-variants.{AbstractUnderOther, AuxiliaryUnderStructural, RootNotAbstract}
+use Rattle.rules_class.specs.declared.category.Inheritance.the-variants.{StructuralUnderAuxiliary}
+use Rattle.rules.specs.Rules.{numbered}
+use Rattle.rules.specs.declared.row.Added.{Added}
 use Rattle.keeper_promises.specs.PaperTables.{SyntaxPair, name, identifier, exactString, teletex, printable, ia5, numeric, nameWithBinary}
 use Rattle.keeper_promises.specs.PaperTables.{boolean, integer, enumeration, octets, universalTime, generalTime, unicode, presentation}
 use Rattle.keeper_promises.specs.PaperTables.{nameWithString, descriptor, largeInteger, sid, RightObjectClass, one, seven, sevenToo, thirteen}
 use Rattle.keeper_promises.specs.PaperTables.{SignedAtMost, LinkSyntax, evenName, evenNameWithBinary, evenNameWithString, oddName}
 use Rattle.keeper_promises.specs.PaperTables.{fourteen, fourteenToo, PaperTables, NameTables, SmallOf, hexBytes, hexDigit, text}
+use Rattle.keeper_promises.specs.PaperTables.{InheritanceRules, LinkRule, RangeRule, UnderClass}
 use Rattle.keeper_promises.specs.ComputedLaws as computed
 
 -- a proof for each number below n, in their order
@@ -70,6 +82,19 @@ range-ends l u hl hu = (
     back (inl h) b = omega (arith, b, h .0, h .1, biased-high l (h .0), biased-low u (h .1))
     back (inr (h, inl q)) b = let p : l < 2147483648 = omega arith in omega (arith, b, h, biased-low l p, biased-low u q)
     back (inr (h, inr q)) b = let p : 2147483648 ≤ u = omega arith in omega (arith, b, h, biased-high l q, biased-high u p)
+
+range-rule : (added : Added) (m : Schema) (k : ℕ) → RangeRule added m k
+unfolding numbered rangeWrong endsCrossed
+range-rule added m k = record {
+  ends = λ l u hl hu p q. rw (p, q) (range-ends l u hl hu);
+  noLower = λ e. rw e;
+  noUpper = λ e. rw e (no-upper (rangeLower (m .attributes .row k)));
+  noClass = refl;
+}
+  where
+    no-upper : (l : Bound) → endsCrossed l Absent ≡ false
+    no-upper (Given l) = refl
+    no-upper Absent = refl
 
 -- ---- syntaxes
 
@@ -164,6 +189,35 @@ link-absent : (row : List ℕ) → linkOf row ≡ 0 → linkSyntaxWrong row ≡ 
 link-absent row e =
     says-false (says-link-syntax-wrong row) (λ bad. bad (record { even = λ present z. absurd (present e); odd = λ odd. absurd (omega arith) }))
 
+link-rule : (added : Added) (m : Schema) (k : ℕ) → LinkRule added m k
+unfolding numbered
+link-rule added m k = record { present = link-syntaxes (m .attributes .row k); absent = link-absent (m .attributes .row k); noClass = refl }
+
+-- ---- inheritance
+
+module _ (m : Schema) (k : ℕ) where
+  -- one of 38, 39 and 40: row 0 never breaks it
+  under-class : (x : Inheritance) → 0 < inheritanceNumber x → ¬ (RootIllegal x (categoryOf (m .classes .row k)))
+      → (inheritanceWrong (inheritanceNumber x) (m .classes) k ≡ true) ↔ UnderClass m k (Illegal x)
+  under-class x some never =
+      let says = says-inheritance-wrong (m .classes) k x some in
+      (λ e. ⊎-elim (λ q. absurd (never (q .1))) (λ q. q) (says .holds e), λ h. says .passes (inr h))
+
+  root-class : (inheritanceWrong 21 (m .classes) k ≡ true) ↔ ((k ≡ 0) × ¬ (categoryOf (m .classes .row k) ≡ 2))
+  root-class =
+      let says = says-inheritance-wrong (m .classes) k RootNotAbstract (omega arith) in
+      (λ e. ⊎-elim (λ q. q) (λ q. absurd (q .1 .1)) (says .holds e), λ h. says .passes (inl h))
+
+inheritance-rules : (added : Added) (m : Schema) (k : ℕ) → InheritanceRules added m k
+unfolding numbered
+inheritance-rules added m k = record {
+  root = root-class m k;
+  abstract = under-class m k AbstractUnderOther (omega arith) (λ f. f);
+  auxiliary = under-class m k AuxiliaryUnderStructural (omega arith) (λ f. f);
+  structural = under-class m k StructuralUnderAuxiliary (omega arith) (λ f. f);
+  noAttribute = refl;
+}
+
 -- ---- names
 
 -- two bytes are folded to one exactly if they are one, or one is the other's small letter
@@ -194,16 +248,19 @@ unfolding listBelow validName sameName isLetter isNameByte folded between allBel
 names = record { begins = refl; goes-on = refl; alphabets = refl; letters-same = letters-same }
 
 pub paper-tables : PaperTables
+unfolding rank position
 paper-tables = record {
   judging = refl;
+  ranks = refl;
+  unused = refl;
   names = names;
   categories = computed.categories;
+  inheritance-rules = inheritance-rules;
   syntax-pairs = syntax-pairs;
   object-classes = object-classes;
   defaults = computed.defaults;
-  range-ends = range-ends;
-  link-syntaxes = link-syntaxes;
-  link-absent = link-absent;
+  range-rule = range-rule;
+  link-rule = link-rule;
   base-bit = base-bit;
   attribute-read = computed.attribute-read;
   attribute-cells = computed.attribute-cells;

@@ -16,7 +16,7 @@ use Rattle.schema.specs.Answers.{answer, passed, done, refused, shortOutput, ch
 use Rattle.schema.specs.Layout.{storeLength, closureLength}
 use Rattle.schema.specs.Numbers.{classLimit, classRead, numberRead}
 use Rattle.schema.specs.Order.{order, rank}
-use Rattle.schema.specs.Store.{LongEnough, Stores, stores, result, schemaOf, closureAt, Schema}
+use Rattle.schema.specs.Store.{LongEnough, Stores, stores, result, schemaOf, closureAt, Schema, table}
 use Rattle.tables.specs.Filled.{emptyStores}
 use Rattle.graph.specs.Graph.{closureRow}
 use Rattle.graph.specs.declared.depth.Depth.the-variants.{Steps, NotEarlier}
@@ -28,7 +28,7 @@ use Rattle.sheet_read.specs.Reading.{readSheet, schemaFrom, sheetAnswer}
 use Rattle.rules_class.specs.Chain.{ChainEnds}
 use Rattle.rules.specs.declared.row.Added.{Added}
 use Rattle.rules.specs.declared.row.Added.the-variants.{Nothing}
-use Rattle.rules.specs.Rules.{schemaRules}
+use Rattle.rules.specs.Rules.{breaks, schemaRules}
 use Rattle.rules.specs.Judge.{FirstBroken}
 use Rattle.rules.specs.Meets.{Meets, Met, RuleName, ruleNumber, classNotLive}
 use Rattle.tables_shape.specs.Shape.{StoresFormed}
@@ -170,6 +170,16 @@ pub record Demand2 : Type 0 where
   pub change-stops : (x : List ℕ) (answer : ChangeRead) → (readChange x .answer ≡ answer) ↔ ChangeStops x answer
   -- "Demand 2's smallest is the first in this order": a number of the order shares its rank with no other, so that the first is one number
   pub ranks-apart : (m n : ℕ) → rank m < length order → rank m ≡ rank n → m ≡ n
+  -- every number that a call gives, on any input, has a place in the order. 22 has none (`unused` in PaperTables), and "is not used again"
+  pub load-placed : (sheet : List ℕ) (s : Stores) → rank (load sheet s .answer .number) < length order
+  pub audit-placed : (s : Stores) → rank (audit s .number) < length order
+  pub write-placed : (s : Stores) (out : List ℕ) → rank (write s out .answer .number) < length order
+  pub depth-placed : (s : Stores) (c : ℕ) → rank (depth s c .number) < length order
+  pub plain-placed : (x : List ℕ) (s : Stores) → rank (plainChange x s .answer .number) < length order
+  pub quick-placed : (x : List ℕ) (s : Stores) → rank (quickChange x s .answer .number) < length order
+  -- a rule is met exactly if no row, active or defunct, breaks the rule of its number in the list: what `PaperTables` says of a number binds every call
+  pub rule-met : (added : Added) (m : Schema) (rule : RuleName)
+      → ((t : TableId) (k : ℕ) → k < table t m .count → breaks added m (ruleNumber rule) t k ≡ false) ↔ Met added rule m
   -- load: 0 exactly if the stores are long enough, the sheet reads and its rows meet every rule
   pub load-zero : (sheet : List ℕ) (s : Stores) → (load sheet s .answer .number ≡ 0) ↔ (LongEnough s × Acceptable sheet)
   -- then the stores hold exactly the rows of the sheet, and the closure that these give
@@ -268,8 +278,8 @@ pub record Demand2 : Type 0 where
       → depth s c ≡ depthAnswer NotEarlier
   -- where rule 18 is met every chain of superclasses comes to row 0, in at most as many steps as the number of its class says
   pub chain-ends : (added : Added) (m : Schema) → Met added classNotLive m → (c : ℕ) → c < m .classes .count → ChainEnds (m .classes) c
-  -- so on stores in order depth never refuses by 18: it tells the steps of that chain
-  pub depth-order : (s : Stores) (c : ℕ) → InOrder s → c < schemaOf s .classes .count
+  -- so on stores that meet it, in order or not, depth never refuses by 18: it tells the steps of that chain
+  pub depth-order : (s : Stores) (c : ℕ) → LongEnough s → Shape s → Met Nothing classNotLive (schemaOf s) → c < schemaOf s .classes .count
       → (ends : ChainEnds (schemaOf s .classes) c) × (depth s c ≡ depthAnswer (Steps (ends .steps)))
   -- "Tables, sheet, tables gives the same bytes if in order": written into any output with room, and loaded into any stores
   pub write-load : (s t : Stores) (out : List ℕ) → InOrder s → OfBytes s → LongEnough t → length (sheetOf s) ≤ length out

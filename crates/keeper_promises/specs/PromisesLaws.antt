@@ -1,6 +1,7 @@
 -- The promises, kept: each demand, with no assumption left.
 use Rattle.schema.specs.OrderLaws.{rank-apart}
 use Rattle.sheet_read.specs.StoppingLaws.{sheet-stops}
+use Rattle.rules.specs.MeetsLaws.{kept-met}
 use Rattle.change_read.specs.StoppingLaws.{change-stops}
 use Rattle.keeper_promises.specs.Demand3.{Demand3}
 use Rattle.keeper_promises.specs.Demand3Laws.{agreement}
@@ -13,6 +14,7 @@ use Rattle.keeper_promises.specs.CallLaws as calls
 use Rattle.keeper_promises.specs.FrontLaws as front
 use Rattle.keeper_promises.specs.LoadLaws as loads
 use Rattle.keeper_promises.specs.OrderLaws as order
+use Rattle.keeper_promises.specs.PlacedLaws as placed
 use Rattle.keeper_promises.specs.PlainFrontLaws as plainly
 use Rattle.keeper_promises.specs.PlainLaws as plain
 use Rattle.keeper_promises.specs.QuickAlikeLaws as both
@@ -48,6 +50,13 @@ demand2 = record {
   sheet-stops = sheet-stops;
   change-stops = change-stops;
   ranks-apart = rank-apart;
+  load-placed = placed.load-placed;
+  audit-placed = placed.audit-placed;
+  write-placed = placed.write-placed;
+  depth-placed = placed.depth-placed;
+  plain-placed = placed.plain-placed;
+  quick-placed = placed.quick-placed;
+  rule-met = kept-met;
   load-zero = loads.load-zero;
   load-done = loads.load-done;
   load-order = loads.load-order;

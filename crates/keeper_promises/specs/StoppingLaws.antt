@@ -48,20 +48,20 @@ use Rattle.keeper_promises.specs.ThirtyLaws as thirty
 use Rattle.schema.specs.Refusals as refusal
 
 -- an answer's number
-number-of : {x y : Result} → x ≡ y → x .answer .number ≡ y .answer .number
+pub number-of : {x y : Result} → x ≡ y → x .answer .number ≡ y .answer .number
 number-of e = ap (λ (x : Result). x .answer .number) e
 
 -- stores are too short, or long enough
-short-or-long : (s : Stores) → SomeShort s ⊎ LongEnough s
+pub short-or-long : (s : Stores) → SomeShort s ⊎ LongEnough s
 short-or-long s = ⊎-elim (λ e. inl (e .1)) (λ e. inr (long-enough s (e .0))) (says-split (says-short s))
 
 -- and then in shape or not
-shape-or-not : (s : Stores) → LongEnough s → Shape s ⊎ (¬ Shape s)
+pub shape-or-not : (s : Stores) → LongEnough s → Shape s ⊎ (¬ Shape s)
 shape-or-not s long =
     ⊎-elim (λ e. inl (e .1)) (λ e. inr (e .1)) (says-split (says-formed (s .attributes) (s .classes) (long .attributes) (long .classes)))
 
 -- in order or not
-order-or-not : (s : Stores) → InOrder s ⊎ (¬ InOrder s)
+pub order-or-not : (s : Stores) → InOrder s ⊎ (¬ InOrder s)
 order-or-not s = go (ℕ-discrete (firstAnswer (orderAnswers s) passed .number) 0)
   where
     go : Dec (firstAnswer (orderAnswers s) passed .number ≡ 0) → InOrder s ⊎ (¬ InOrder s)

@@ -2,7 +2,7 @@
 use mathlib.Core.Bool.{Bool, true, false, cond, true≢false}
 use mathlib.Core.List.{List, []}
 use mathlib.Core.Logic.{_⊎_, inl, inr, ⊎-elim}
-use mathlib.Core.Path.{_≡_, refl, sym, ap, ap₂, _∙_}
+use mathlib.Core.Path.{_≡_, refl, sym, ap, _∙_}
 use Prim.Native.Nat.{ℕ, _+_, _*_, _/_, _≤_, _<_}
 use native.Mathlib.Decide.{decLt, ℕ-discrete}
 use native.Mathlib.Omega.{arith}
@@ -14,7 +14,7 @@ use Rattle.prelude.specs.PartLaws.{part-bytes, part-none, part-short}
 use Rattle.prelude.specs.SaysLaws.{says-eq, says-false, true-or-false}
 use Rattle.sets.specs.Sets.{bit}
 use Rattle.sets.specs.SetsLaws.{bit-past}
-use Rattle.schema.specs.AttributeRow.{boundAt, isSingleValued, objectClassLength, objectClassOf, omSyntaxOf, rangeLower, rangeUpper, syntaxOf}
+use Rattle.schema.specs.AttributeRow.{boundAt, isSingleValued, objectClassLength, objectClassOf, omSyntaxOf, syntaxOf}
 use Rattle.schema.specs.ClassRow.{categoryOf, namingOf, superclassOf}
 use Rattle.schema.specs.Layout.{fixedAuxiliaryAt, fixedOptionalAt, fixedSuperiorAt, mandatoryAt, namingAt, objectClassAt, openAuxiliaryAt}
 use Rattle.schema.specs.Layout.{openOptionalAt, openSuperiorAt, rangeLowerAt, rangeUpperAt, rowWidth, rowsAt}
@@ -38,9 +38,6 @@ use Rattle.rows_read.specs.WellFormed.{isFinished, wellFormed}
 use Rattle.rows_read.specs.WellFormedLaws.{formed-parts}
 use Rattle.rules_names.specs.Name.{SameName, folded}
 use Rattle.rules_unique.specs.IdentifierLaws.{row-arcs}
-use Rattle.rules_attribute.specs.Range.{endsCrossed}
-use Rattle.rules_attribute.specs.RangeLaws.{says-crossed}
-use Rattle.rules_attribute.specs.LinksLaws.{says-link-syntax-wrong}
 use Rattle.rules_attribute.specs.SyntaxLaws.{says-syntax-fits}
 use Rattle.rules_class.specs.Category.{listCategory}
 use Rattle.rules_class.specs.Live.{SuperclassEarly}
@@ -49,6 +46,7 @@ use Rattle.rules.specs.Meets.{notAnAuxiliary, notASuperior, rootNotAbstract, ab
 use Rattle.rules.specs.Meets.{namingUnfit, mapiTaken, rangeCrossed, syntaxMisfit, objectClassWrong}
 use Rattle.rules.specs.Meets.{linkTaken, linkAlone, linkSyntaxUnfit}
 use Rattle.rules.specs.declared.row.Added.the-variants.{Nothing}
+use Rattle.rules.specs.MeetsLaws.{kept-met}
 use Rattle.tables_shape.specs.ShapeLaws.{table-shaped}
 use Rattle.keeper_promises.specs.PaperTablesLaws.{paper-tables, small-folds}
 use Rattle.keeper_promises.specs.Promises.{InOrder, OfBytes}
@@ -168,14 +166,15 @@ module _ (m : Schema) (met : Meets Nothing m) where
         object = λ e. paper-tables .object-classes (syntaxOf row) (objectClassOf row) .0
             (says-object-class-fits (syntaxOf row) (objectClassOf row) .passes (met objectClassWrong k l e));
         noObject = no-object row formed;
-        range = λ a b p q. paper-tables .range-ends a b (end-below row rangeLowerAt a bytes p) (end-below row rangeUpperAt b bytes q) .0
-            (sym (ap₂ endsCrossed p q) ∙ says-false (says-crossed (rangeLower row) (rangeUpper row)) (met rangeCrossed k l));
+        range = λ a b p q. paper-tables .range-rule Nothing m k .ends a b (end-below row rangeLowerAt a bytes p) (end-below row rangeUpperAt b bytes q) p q .0
+            (kept-met Nothing m rangeCrossed .1 (met rangeCrossed) Attributes k l);
         forward = λ e. (let f = met linkAlone k l e in record {
           at = f .at;
           below = f .below;
           is = (live-usable (m .attributes) row (f .at) (f .is .1), (f .is .0 .1, f .is .0 .0));
         });
-        linked = λ present. paper-tables .link-syntaxes row present .0 (says-false (says-link-syntax-wrong row) (λ bad. bad (met linkSyntaxUnfit k l)));
+        linked = λ present. paper-tables .link-rule Nothing m k .present present .0
+            (kept-met Nothing m linkSyntaxUnfit .1 (met linkSyntaxUnfit) Attributes k l);
       }
 
   -- ---- classes
