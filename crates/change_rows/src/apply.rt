@@ -43,7 +43,7 @@ pub fn row_changed(change: Change, scratch: &[u8], store: &[u8]) -> RowId
     id
 }
 
-// The change is made, of its row.
+// The change is made: its row added last, or edited where it stands.
 pub fn apply(change: Change, scratch: &[u8], id: RowId, store: &mut [u8])
     requires { ⌜ Applicable change (now scratch) (now store) × (id ≡ rowChanged change (now scratch) (now store)) ⌝ }
     ensures { λ _. ⌜ now (store .exit) ≡ storeAfter change (now (scratch .entry)) (now (store .entry)) ⌝ }

@@ -43,7 +43,7 @@ pub fn save<'a>(change: Change, scratch: &[u8], attributes: &'a [u8], classes: &
     }
 }
 
-// The change is made, of its row.
+// The change is made in the store of its table.
 pub fn make(change: Change, scratch: &[u8], id: RowId, attributes: &mut [u8], classes: &mut [u8])
     requires { ⌜ Applicable change (now scratch) (storeOf (tableFor change) (now attributes) (now classes))
         × (id ≡ rowChanged change (now scratch) (storeOf (tableFor change) (now attributes) (now classes))) ⌝ }
