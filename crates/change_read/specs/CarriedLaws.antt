@@ -41,7 +41,7 @@ use Rattle.change_read.specs.ChangeLaws.{change-whole, change-written, f
 use Rattle.change_read.specs.AdditionLaws.{row-added}
 use Rattle.change_read.specs.TagLaws.{known-named}
 use Rattle.change_read.specs.Written.{WellFormedChange, changeBytes}
-use Rattle.change_read.specs.WrittenLaws.{change-back, zeros-behind}
+use Rattle.change_read.specs.WrittenLaws.{zeros-behind}
 
 -- ---- reading leaves what stands behind the cells
 
@@ -188,12 +188,7 @@ module _ (s new : List ℕ) (bytes : Bytes s) where
       bare = behind;
     }
 
-    -- what was read, written again, is read as the same: readChange gives exactly the well-formed changes, each for the bytes that it is written as
-    pub change-again : Reads (changeBytes change new) change new
-    change-again = change-back change new change-carried
-
-  -- and these are the bytes that were read, but where an added attribute's oMObjectClass was dropped or its default stored
-  module _ (change : Change) (e : Reads s change new) where
+    -- it is written as the bytes that were read, but where an added attribute's oMObjectClass was dropped or its default stored
     same-bytes : ((x : List ℕ) → finished (formatOf change) x ≡ x) → s ≡ changeBytes change new
     unfolding changeBytes
     same-bytes same =

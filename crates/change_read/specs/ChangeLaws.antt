@@ -23,7 +23,6 @@ use Rattle.rows_format.specs.declared.column.Encoding.the-variants.{Counted}
 use Rattle.rows_format.specs.declared.format.Format.{Format}
 use Rattle.rows_format.specs.declared.format.Format.the-variants.{Row, NewRow, Range, Name, Target, Entry}
 use Rattle.rows_format.specs.Encodings.{passes, room, holds}
-use Rattle.rows_format.specs.EncodingsLaws.{says-holds}
 use Rattle.rows_format.specs.Columns.{mark, columnWidth, cellAt, hasValue, wellFormedCell, wellFormedBy, writeBy}
 use Rattle.rows_format.specs.ColumnsLaws.{formed-at}
 use Rattle.rows_format.specs.Formats.{listAt, newLowerAt, newUpperAt, ownColumns, commonColumns, attributeColumns, rangeColumns, nameColumns}
@@ -199,9 +198,6 @@ module _ (s : List ℕ) (change : Change) (new : List ℕ) (bytes : Bytes s) (e 
   pub name-formed : formatOf change ≡ Name → (t : TableId) → wellFormedCell (columnAt (Row t) 0) (newName new) ≡ true
   unfolding columnsOf commonColumns wellFormedCell hasValue mark
   name-formed is t = name-held is
-
-  pub name-short : formatOf change ≡ Name → getD (newName new) 0 0 ≤ nameLimit
-  name-short is = says-holds (Counted 0 nameLimit) (newName new) .holds (name-held is) .1 .0
 
   -- ---- a range: two cells that the attribute table takes
 

@@ -10,7 +10,6 @@ use lib.Dec.{eqb}
 use Rattle.prelude.specs.SaysLaws.{says-eq, says-false, true-or-false, neither}
 use Rattle.prelude.specs.Below.{anyBelow}
 use Rattle.prelude.specs.BelowLaws.{any-one, any-false}
-use Rattle.prelude.specs.First.{firstOf}
 use Rattle.schema.specs.declared.number.TableId.{TableId}
 use Rattle.schema.specs.declared.number.TableId.the-variants.{Attributes, Classes}
 use Rattle.schema.specs.Numbers.{SameRow, sameTable}
@@ -40,8 +39,7 @@ use Rattle.rules.specs.declared.row.Added.the-variants.{Nothing, Class, 
 use Rattle.rules.specs.Rules.{ofRows, ofAttributes, ofClasses, barred, entryDead, attributeNotLive}
 use Rattle.rules.specs.Rules.{classNotLive, inheritanceRule, schemaRules, numbered, breaks, rowCases, Each, _&_}
 use Rattle.rules.specs.RulesLaws.{each-numbered, cases-agree, attribute-nothing, class-nothing}
-use Rattle.rules.specs.Judge.{judged, broken, brokenCases, Kept, AllKept}
-use Rattle.rules.specs.JudgeLaws.{judge-number}
+use Rattle.rules.specs.Judge.{broken, brokenCases, Kept, AllKept}
 use Rattle.rules.specs.RowChange.{RowChange}
 use Rattle.schema.specs.Refusals as refusal
 
@@ -268,8 +266,3 @@ module _ (k : ℕ) (m n : Schema) where
 pub changed-alone : (added : Added) (t : TableId) (k : ℕ) (m n : Schema) → RowChange t k m n → AddedAt added t k → AllKept Nothing m
     → brokenCases (schemaRules added) n ≡ rowCases (schemaRules added) n t k
 changed-alone added t k m n h at kept = cases-agree (broken n) (λ r. r .breaks n t k) (schemaRules added) (each-alone k m n kept t h added at)
-
-pub changed-number : (added : Added) (t : TableId) (k : ℕ) (m n : Schema) → RowChange t k m n → AddedAt added t k → AllKept Nothing m
-    → judged added n .number ≡ firstOf (rowCases (schemaRules added) n t k)
-unfolding judged
-changed-number added t k m n h at kept = judge-number (schemaRules added) n ∙ ap firstOf (changed-alone added t k m n h at kept)

@@ -173,12 +173,6 @@ store-plus t rows row s wide e l =
         (joined (rows ++ (row ∷ [])) ++ (zeros (rowWidth t * limit t - rowWidth t * length rows - rowWidth t) ++ drop (storeLength t) s))
     put = unfold filledStore in (filled-put (header t (length rows)) (rowWidth t) (limit t) rows (two-bytes t (length rows)) wide (omega arith) s row e l)
 
--- one row more is counted, whatever the store held
-pub plus-in-count : (t : TableId) (row s : List ℕ) → countIn t s < limit t → countIn t (plusIn t row s) ≡ countIn t s + 1
-unfolding plusIn splice
-plus-in-count Attributes row s l = number-of-bytes 2 (countIn Attributes s + 1) [] _ (omega arith)
-plus-in-count Classes row s l = refl
-
 -- an empty store is zero
 two-zeros : zeros 2 ≡ 0 ∷ 0 ∷ []
 unfolding zeros
