@@ -10,6 +10,7 @@ use lib.Dec.{eqb}
 use Rattle.prelude.specs.SaysLaws.{says-eq, says-false, true-or-false, neither}
 use Rattle.prelude.specs.Below.{anyBelow}
 use Rattle.prelude.specs.BelowLaws.{any-one, any-false}
+use Rattle.sets.specs.SetsLaws.{or-false}
 use Rattle.schema.specs.declared.number.TableId.{TableId}
 use Rattle.schema.specs.declared.number.TableId.the-variants.{Attributes, Classes}
 use Rattle.schema.specs.Numbers.{SameRow, sameTable}
@@ -80,11 +81,7 @@ module _ (k : ℕ) (m n : Schema) where
   stays-alone Attributes here breaks h =
       ap₂ (λ (p q : Bool). p || q) (any-one (n .attributes .count) k (breaks n Attributes) here (λ j l d. h Attributes j l (λ q. d (sym (q .1)))))
       (any-false (breaks n Classes) (n .classes .count) (λ j l. h Classes j l (λ q. apart (q .0))))
-      ∙ or-none (breaks n Attributes k)
-    where
-      or-none : (b : Bool) → (b || false) ≡ b
-      or-none true = refl
-      or-none false = refl
+      ∙ or-false (breaks n Attributes k) false refl
   stays-alone Classes here breaks h =
       ap₂ (λ (p q : Bool). p || q) (any-false (breaks n Attributes) (n .attributes .count) (λ j l. h Attributes j l (λ q. apart (sym (q .0)))))
       (any-one (n .classes .count) k (breaks n Classes) here (λ j l d. h Classes j l (λ q. d (sym (q .1)))))
