@@ -2,7 +2,7 @@
 use mathlib.Core.Bool.{Bool, true, false, cond, _&&_}
 use mathlib.Core.List.{List, [], _∷_}
 use mathlib.Core.Path.{_≡_, refl, sym, ap, ap₂, _∙_}
-use Prim.Native.Nat.{ℕ, _+_, _≤_}
+use Prim.Native.Nat.{ℕ, _+_, _≤_, _<_}
 use native.Mathlib.Omega.{arith}
 use lib.Dec.{eqb}
 use lib.ListN.{length, getD}
@@ -104,7 +104,9 @@ pub record Added (t : TableId) (row : List ℕ) : Type 0 where
 
 -- active, as its front tells
 front-active : (t : TableId) (row : List ℕ) → getD row defunctAt 0 ≡ 0 → isDefunct (addedRow t row) ≡ false
-front-active t row z = says-false (says-eq (getD (addedRow t row) defunctAt 0) 1) (λ q. omega (arith, z, q, part-at 0 (rowWidth t) row defunctAt (omega (arith, common-narrow t))))
+front-active t row z =
+    let within : defunctAt < rowWidth t = omega (arith, common-narrow t) in
+    says-false (says-eq (getD (addedRow t row) defunctAt 0) 1) (λ q. omega (arith, z, q, part-at 0 (rowWidth t) row defunctAt within))
 
 pub row-added : (t : TableId) (s new : List ℕ) → Bytes s → Reads s (Add t) new → Added t (addedRow t new)
 unfolding formatOf finished

@@ -52,8 +52,9 @@ set-formed t tag at cell b = go (true-or-false (isZero cell))
         (λ i. (rw (zeros-at (length cell) i) (omega arith))) (λ k. e k ∙ sym (bit-zeros (length cell) k))))))
 
 -- a cell of what every row begins with becomes another
-common-formed : (t : TableId) (i at : ℕ) (new row : List ℕ) → i < 5 → columnAt (columnsOf (Row t)) i .at ≡ at → length new ≡ columnWidth (columnAt (columnsOf (Row t)) i)
-    → at + length new ≤ commonWidth → wellFormedCell (columnAt (columnsOf (Row t)) i) new ≡ true → length row ≡ rowWidth t → wellFormed t row ≡ true
+common-formed : (t : TableId) (i at : ℕ) (new row : List ℕ) → i < 5 → columnAt (columnsOf (Row t)) i .at ≡ at
+    → length new ≡ columnWidth (columnAt (columnsOf (Row t)) i) → at + length new ≤ commonWidth
+    → wellFormedCell (columnAt (columnsOf (Row t)) i) new ≡ true → length row ≡ rowWidth t → wellFormed t row ≡ true
     → wellFormed t (splice at new row) ≡ true
 common-formed t i at new row l is wide inside cell long f =
     let narrow = common-narrow t in

@@ -127,10 +127,11 @@ module _ (change : Change) (x r : List ℕ) (s : Stores) (bytes : Bytes x) (read
   made-formed = go (true-or-false (isAddition change))
     where
       go : (isAddition change ≡ true) ⊎ (isAddition change ≡ false) → TableFormed of (storeAfter change r store)
-      go (inl e) = rw e (plus-formed of store long formed (editedRow change r []) (plus-wide change r store made-applicable e) (edited-formed change x r [] bytes reads
-          (inl e)) (room e))
+      go (inl e) = rw e (plus-formed of store long formed (editedRow change r []) (plus-wide change r store made-applicable e)
+          (edited-formed change x r [] bytes reads (inl e)) (room e))
       go (inr e) = rw e (put-formed of store long formed (editedRow change r (tableIn of store .row (targetOf r))) (put-wide change r store made-applicable e)
-          (edited-formed change x r _ bytes reads (inr (old-wide change r store made-applicable e, formed .rows (targetOf r) (there e)))) (targetOf r) (there e))
+          (edited-formed change x r _ bytes reads (inr (old-wide change r store made-applicable e, formed .rows (targetOf r) (there e))))
+          (targetOf r) (there e))
 
   pub made-length : length (storeAfter change r store) ≡ length store
   unfolding storeAfter

@@ -151,7 +151,8 @@ module _ (x : List ℕ) (s t : Stores) (h : AlikeFor x s t) where
           let j : InShape t = record { long = q; formed = sym (same-formed s t (h .attributes) (h .classes)) ∙ f .0 } in
           quick-shaped x s i ∙ to-same i (readChange x .answer) refl ∙ sym (quick-shaped x t j)
       go (inr f) =
-          let d : ¬ Shape t = says-fails (says-formed (t .attributes) (t .classes) (q .attributes) (q .classes)) (sym (same-formed s t (h .attributes) (h .classes)) ∙ f .0) in
+          let same = sym (same-formed s t (h .attributes) (h .classes)) in
+          let d : ¬ Shape t = says-fails (says-formed (t .attributes) (t .classes) (q .attributes) (q .classes)) (same ∙ f .0) in
           answer-of (quick-two x s p (f .1)) ∙ sym (answer-of (quick-two x t q d))
 
   pub quick-alone : quickChange x s .answer ≡ quickChange x t .answer

@@ -20,7 +20,7 @@ use Rattle.tables.specs.Shaped.{Bounded}
 use Rattle.rows_format.specs.declared.column.Column.{Column}
 use Rattle.rows_format.specs.declared.column.Encoding.the-variants.{Counted, Arcs}
 use Rattle.rows_format.specs.declared.column.Presence.the-variants.{Optional}
-use Rattle.rows_format.specs.Encodings.{room, holds}
+use Rattle.rows_format.specs.Encodings.{room}
 use Rattle.rows_format.specs.EncodingsLaws.{says-holds}
 use Rattle.rows_format.specs.Columns.{mark, columnWidth, cellAt, hasValue, wellFormedCell, wellFormedBy}
 use Rattle.rows_format.specs.ColumnsLaws.{formed-cons, formed-both, formed-at}

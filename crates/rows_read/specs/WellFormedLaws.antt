@@ -80,7 +80,8 @@ finished-elsewhere Classes at new row h d = refl
 -- the same for whole rows
 pub row-replaced : (t : TableId) (i : ℕ) (new row : List ℕ) → rowWidth t ≤ length row → i < length (columnsOf (Row t)) → length new
     ≡ columnWidth (columnAt (columnsOf (Row t)) i)
-    → wellFormedCell (columnAt (columnsOf (Row t)) i) new ≡ true → (columnAt (columnsOf (Row t)) i .at + length new ≤ syntaxAt) ⊎ (singleValuedAt ≤ columnAt (columnsOf (Row t)) i .at)
+    → wellFormedCell (columnAt (columnsOf (Row t)) i) new ≡ true
+    → (columnAt (columnsOf (Row t)) i .at + length new ≤ syntaxAt) ⊎ (singleValuedAt ≤ columnAt (columnsOf (Row t)) i .at)
     → columnAt (columnsOf (Row t)) i .at + length new ≤ length row
     → wellFormed t row ≡ true → wellFormed t (splice (columnAt (columnsOf (Row t)) i .at) new row) ≡ true
 unfolding formatWidth

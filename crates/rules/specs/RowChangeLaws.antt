@@ -38,7 +38,7 @@ use Rattle.rules_class.specs.StayLaws.{named-there, not-live-stays, naming-stay
 use Rattle.rules.specs.declared.row.Added.{Added}
 use Rattle.rules.specs.declared.row.Added.the-variants.{Nothing, Class, Entry}
 use Rattle.rules.specs.Rules.{ofRows, ofAttributes, ofClasses, barred, entryDead, attributeNotLive}
-use Rattle.rules.specs.Rules.{classNotLive, inheritanceRule, schemaRules, numbered, breaks, rowCases, Each, _&_}
+use Rattle.rules.specs.Rules.{classNotLive, inheritanceRule, schemaRules, numbered, rowCases, Each, _&_}
 use Rattle.rules.specs.RulesLaws.{each-numbered, cases-agree, attribute-nothing, class-nothing}
 use Rattle.rules.specs.Judge.{broken, brokenCases, Kept, AllKept}
 use Rattle.rules.specs.RowChange.{RowChange}

@@ -22,7 +22,6 @@ use Rattle.sheet_read.specs.declared.read.SheetTag.the-variants.{Heading
 use Rattle.sheet_read.specs.Reading.{Rows, headingOpen, isHeading, noRows, plus, position, rowOut, rowsIn, rowsOpen, sheetTag}
 use Rattle.sheet_read.specs.Stopping.{AcceptedTo, HeadingValue, RowStands, RowStops, Stands, rowTag, rowsGiven, rowsOf}
 use Rattle.sheet_read.specs.TurnLaws.{heading-turn, row-turn, stands-on, stands-start}
-use Rattle.wire.specs.declared.FieldRead.the-variants as fields
 use Rattle.rows_read.specs.declared.read.RowRead.the-variants as row
 use Rattle.sheet_read.specs.TurnLaws as turns
 

@@ -16,7 +16,6 @@ use Rattle.schema.specs.Layout.{rowsAt, rowWidth, storeLength}
 use Rattle.schema.specs.Store.{countIn, tableIn}
 use Rattle.schema.specs.declared.number.TableId.{TableId}
 use Rattle.schema.specs.declared.number.TableId.the-variants.{Attributes, Classes}
-use Rattle.schema.specs.NumbersLaws.{apart}
 use Rattle.tables.specs.Filled.{joined, AllWide, countBytes, header, filledStore, putIn, plusIn}
 
 -- ---- rows one after the other
