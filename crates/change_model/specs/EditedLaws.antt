@@ -2,6 +2,7 @@
 use Rattle.schema.specs.ClassRow.{openAuxiliaryOf, openOptionalOf}
 use Rattle.graph.specs.Changes.{AuxiliaryMore, OptionalMore, SameLists, SameNames}
 use Rattle.schema.specs.Layout.{classSet, fixedAuxiliaryAt, fixedOptionalAt, openAuxiliaryAt, openOptionalAt, openSuperiorAt}
+use Rattle.schema.specs.LayoutLaws.{common-narrow}
 use Rattle.change_read.specs.declared.read.Change.the-variants.{Add, SetRange, Rename, Deactivate, Reactivate, AddEntry, RemoveEntry}
 use Rattle.change_read.specs.declared.carried.OpenList.the-variants.{Optional, Auxiliary, Superior}
 use Rattle.prelude.specs.SpliceLaws.{splice-at-before, part-splice-before, splice-at-after, part-splice-after, splice-at-same, part-splice-same}
@@ -9,7 +10,7 @@ use Rattle.prelude.specs.BigEndianLaws.{number-in-part}
 use Rattle.rows_format.specs.Formats.{newNameAt, newLowerAt}
 use Rattle.sets.specs.SetsLaws.{with-length, without-length}
 use Rattle.prelude.specs.PartLaws.{part-length}
-use Rattle.change_rows.specs.RowsLaws.{list-inside, common-narrow}
+use Rattle.change_rows.specs.RowsLaws.{list-inside}
 use Rattle.schema.specs.declared.number.TableId.the-variants.{Attributes, Classes}
 use Rattle.sets.specs.Sets.{withMember, withoutMember}
 use Rattle.change_read.specs.Carried.{newName, newRange, listOf, entryOf}

@@ -5,33 +5,28 @@ use native.Mathlib.Omega.{arith}
 use Prim.Native.Nat.{_*_, _<_, _≤_, ℕ, _+_}
 use mathlib.Core.Bool.{false, not, true}
 use mathlib.Core.List.{List, [], _∷_}
-use mathlib.Core.Logic.{_⊎_, inl, inr}
 use mathlib.Core.Path.{_∙_, _≡_, ap, ap₂, refl, sym}
 use Rattle.schema.specs.declared.number.TableId.the-variants.{Attributes, Classes}
 use Rattle.schema.specs.Numbers.{classLimit, limit}
-use Rattle.schema.specs.NumbersLaws.{apart}
 use Rattle.schema.specs.Layout.{attributeSet, classSet, classWidth, demandedAt, nameAt, defunctAt, rowWidth, commonWidth}
 use Rattle.schema.specs.ClassRow.{openAuxiliaryOf, openOptionalOf, openSuperiorOf}
 use Rattle.schema.specs.Store.{Schema, Table, closureAt, demandedIn, table, withRow}
-use Rattle.schema.specs.StoreLaws.{plus-count}
 use Rattle.change_read.specs.declared.read.Change.{Change}
 use Rattle.change_read.specs.declared.carried.OpenList.{OpenList}
 use Rattle.change_read.specs.declared.read.Change.the-variants.{Add, SetRange, Rename, Deactivate, Reactivate, AddEntry, RemoveEntry}
 use Rattle.change_read.specs.declared.carried.OpenList.the-variants.{Optional, Auxiliary, Superior}
 use Rattle.change_read.specs.Carried.{addedRow, entryOf, listOf, newName, targetOf}
 use Rattle.change_rows.specs.Lists.{listTable, openAt, openOf}
-use Rattle.change_rows.specs.Rows.{editedRow, isAddition, numberFor, schemaAfter, tableAfter, tableFor}
+use Rattle.change_rows.specs.Rows.{editedRow, isAddition, schemaAfter, tableAfter, tableFor}
 use Rattle.change_asked.specs.AskedLaws.{asked-room, asked-there}
 use Rattle.prelude.specs.Part.{part, sameBytes, splice}
 use Rattle.prelude.specs.PartLaws.{part-length, says-same-bytes}
 use Rattle.prelude.specs.BelowLaws.{any-false}
-use Rattle.prelude.specs.SaysLaws.{says-false, says-true}
+use Rattle.prelude.specs.SaysLaws.{says-true}
 use Rattle.sets.specs.Sets.{subset, withMember}
-use Rattle.graph.specs.Graph.{Reaches, closureRow, demandedSet, inherits, mandatoryDiffers}
-use Rattle.graph.specs.GraphLaws.{says-reaches}
-use Rattle.graph.specs.Walk.{here}
+use Rattle.graph.specs.Graph.{closureRow, demandedSet, inherits, mandatoryDiffers}
 use Rattle.graph.specs.FreshLaws.{demanded-part}
-use Rattle.graph.specs.ClosureLaws.{closure-before, closure-kept, closure-untouched, reaches-target, rule30-class, rule30-joined, rule30-target}
+use Rattle.graph.specs.ClosureLaws.{closure-untouched, rule30-class, rule30-joined, rule30-target}
 use Rattle.graph.specs.ClosureLaws.{rule30-untouched}
 use Rattle.closure_change.specs.After.{closureAfter, demandChanges, entryDemands, entryJoined}
 use Rattle.closure_change.specs.FreshLaws.{auxiliary-fresh, class-fresh, optional-fresh, refreshed-fresh}
@@ -182,38 +177,3 @@ module _ (r : List ℕ) (m : Schema) (closure : List ℕ) where
       (listOf r) (entryOf r) (entry-there r m (s .passed))
   demand-agrees RemoveEntry s =
       sym (rule30-target before (targetOf r) (editedRow RemoveEntry r (before .row (targetOf r))) (there s refl))
-
-  -- ---- a class that does not then reach the changed class keeps its sets, and every class does where the change is about an attribute
-
-  -- c reaches the changed class
-  abbrev pub ReachesChanged : Change → ℕ → Type 0
-  ReachesChanged change c = Reaches (after change .count) (inherits (after change)) c (numberFor change r m)
-
-  edit-kept : (k : ℕ) (new : List ℕ) (c : ℕ) → ¬ (Reaches (withRow before k new .count) (inherits (withRow before k new)) c k) ⊎ (Classes ≡ Attributes)
-      → closureRow (withRow before k new) c ≡ closureRow before c
-  edit-kept k new c (inl d) =
-      closure-kept before k new c (sym (reaches-target before k new c)
-      ∙ says-false (says-reaches (withRow before k new .count) (inherits (withRow before k new)) c k) d)
-  edit-kept k new c (inr q) = absurd (apart (sym q))
-
-  rows-kept : (change : Change) → Passed change r m closure → (c : ℕ) → ¬ (ReachesChanged change c) ⊎ (tableFor change ≡ Attributes)
-      → closureRow (after change) c ≡ closureRow before c
-  unfolding schemaAfter tableAfter numberFor
-  rows-kept (Add Attributes) s c d = refl
-  rows-kept (Add Classes) s c (inl d) = closure-before before (editedRow (Add Classes) r []) (new-unnamed s) c
-      (λ e. d (rw e (record { present = omega (arith, plus-count before (editedRow (Add Classes) r [])); walk = here })))
-  rows-kept (Add Classes) s c (inr q) = absurd (apart (sym q))
-  rows-kept SetRange s c d = refl
-  rows-kept (Rename Attributes) s c d = refl
-  rows-kept (Rename Classes) s c d = edit-kept (targetOf r) (editedRow (Rename Classes) r (before .row (targetOf r))) c d
-  rows-kept (Deactivate Attributes) s c d = refl
-  rows-kept (Deactivate Classes) s c d = edit-kept (targetOf r) (editedRow (Deactivate Classes) r (before .row (targetOf r))) c d
-  rows-kept (Reactivate Attributes) s c d = refl
-  rows-kept (Reactivate Classes) s c d = edit-kept (targetOf r) (editedRow (Reactivate Classes) r (before .row (targetOf r))) c d
-  rows-kept AddEntry s c d = edit-kept (targetOf r) (editedRow AddEntry r (before .row (targetOf r))) c d
-  rows-kept RemoveEntry s c d = edit-kept (targetOf r) (editedRow RemoveEntry r (before .row (targetOf r))) c d
-
-  pub kept-untouched : (change : Change) → Passed change r m closure → (c : ℕ) → c < classLimit
-      → ¬ (ReachesChanged change c) ⊎ (tableFor change ≡ Attributes)
-      → closureAt (closureAfter change r (after change) (before .count) closure) c ≡ closureAt closure c
-  kept-untouched change s c l d = closure-agrees change s c l ∙ rows-kept change s c d ∙ sym (s .sound .fresh c l)

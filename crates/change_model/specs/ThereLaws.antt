@@ -18,7 +18,7 @@ use Rattle.change_read.specs.declared.read.Change.the-variants.{Add, AddEntry}
 use Rattle.change_read.specs.Carried.{entryOf, listOf, targetOf}
 use Rattle.change_read.specs.declared.read.Change.{Change}
 use Rattle.change_read.specs.declared.carried.OpenList.{OpenList}
-use Rattle.change_read.specs.declared.carried.OpenList.the-variants.{Auxiliary, Optional}
+use Rattle.change_read.specs.declared.carried.OpenList.the-variants.{Auxiliary}
 use Rattle.change_asked.specs.Asked.{firstAsked}
 use Rattle.change_asked.specs.AskedLaws.{asked-room}
 use Rattle.change_rows.specs.Lists.{listTable}
@@ -83,12 +83,9 @@ entry-there r m z =
     let of = listTable (listOf r) in
     omega (arith, entry-has-row (record { 0 = targetOf r }) of (entryOf r) (schemaAfter AddEntry r m) z, entry-count of r m)
 
--- of an open list of classes it is a class, and of the open list of attributes an attribute
+-- of the open list of auxiliary classes it is a class
 pub entry-class : (r : List ℕ) (m : Schema) → rowNumber AddEntry r m ≡ 0 → listOf r ≡ Auxiliary → entryOf r < m .classes .count
 entry-class r m z e = subst (λ (list : OpenList). entryOf r < table (listTable list) m .count) e (entry-there r m z)
-
-pub entry-attribute : (r : List ℕ) (m : Schema) → rowNumber AddEntry r m ≡ 0 → listOf r ≡ Optional → entryOf r < m .attributes .count
-entry-attribute r m z e = subst (λ (list : OpenList). entryOf r < table (listTable list) m .count) e (entry-there r m z)
 
 -- ---- the number of an added class
 

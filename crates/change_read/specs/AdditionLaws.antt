@@ -13,6 +13,7 @@ use Rattle.prelude.specs.SpliceLaws.{splice-at-before}
 use Rattle.schema.specs.declared.number.TableId.{TableId}
 use Rattle.schema.specs.declared.number.TableId.the-variants.{Attributes, Classes}
 use Rattle.schema.specs.Layout.{rowWidth, defunctAt, omSyntaxAt, syntaxAt, objectClassAt, objectClassLimit, attributeWidth, classWidth}
+use Rattle.schema.specs.LayoutLaws.{common-narrow, narrow-row}
 use Rattle.schema.specs.ObjectClasses.{firstObjectClass}
 use Rattle.schema.specs.ObjectClassesLaws.{first-short}
 use Rattle.schema.specs.Row.{isDefunct}
@@ -101,17 +102,11 @@ pub record Added (t : TableId) (row : List ℕ) : Type 0 where
   pub formed : wellFormed t row ≡ true
   pub active : isDefunct row ≡ false
 
-width-fits : (t : TableId) → rowWidth t ≤ classWidth
-width-fits Attributes = omega arith
-width-fits Classes = omega arith
-
 -- active, as its front tells
 front-active : (t : TableId) (row : List ℕ) → getD row defunctAt 0 ≡ 0 → isDefunct (addedRow t row) ≡ false
-front-active t row z = says-false (says-eq (getD (addedRow t row) defunctAt 0) 1) (λ q. omega (arith, z, q, part-at 0 (rowWidth t) row defunctAt (common t)))
-  where
-    common : (t : TableId) → defunctAt < rowWidth t
-    common Attributes = omega arith
-    common Classes = omega arith
+front-active t row z =
+    let within : defunctAt < rowWidth t = omega (arith, common-narrow t) in
+    says-false (says-eq (getD (addedRow t row) defunctAt 0) 1) (λ q. omega (arith, z, q, part-at 0 (rowWidth t) row defunctAt within))
 
 pub row-added : (t : TableId) (s new : List ℕ) → Bytes s → Reads s (Add t) new → Added t (addedRow t new)
 unfolding formatOf finished
@@ -119,7 +114,7 @@ row-added t s new bytes e =
     let p = change-parts s (Add t) new e in
     let f : Fields (NewRow t) s new = change-fields s (Add t) new bytes e in
     let long : length new ≡ classWidth = change-length s (Add t) new bytes e in
-    let fits = width-fits t in
+    let fits = narrow-row t in
     let byte : getD new defunctAt 0 ≡ 0 =
     ap (λ (x : List ℕ). getD x defunctAt 0) (f .is) ∙ finished-defunct t (f .raw) (omega (arith, f .long)) ∙ never-defunct t (f .raw) (f .formed) in
     record {

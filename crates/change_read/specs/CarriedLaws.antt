@@ -2,7 +2,7 @@
 use mathlib.Core.Bool.{Bool, true, false, cond}
 use mathlib.Core.List.{List, [], _∷_, _++_}
 use mathlib.Core.Path.{_≡_, refl, sym, ap, _∙_}
-use Prim.Native.Nat.{ℕ, _+_, _-_, _≤_, _<_}
+use Prim.Native.Nat.{ℕ, _+_, _-_, _≤_}
 use native.Mathlib.Omega.{arith}
 use lib.Dec.{eqb}
 use lib.ListN.{length, getD, drop}
@@ -13,6 +13,7 @@ use Rattle.wire.specs.Wire.{fieldAt, fieldBytes}
 use Rattle.schema.specs.declared.number.TableId.{TableId}
 use Rattle.schema.specs.declared.number.TableId.the-variants.{Attributes, Classes}
 use Rattle.schema.specs.Layout.{attributeWidth, classWidth, defunctAt, objectClassAt, objectClassLimit, rowWidth}
+use Rattle.schema.specs.LayoutLaws.{common-narrow}
 use Rattle.schema.specs.AttributeRow.{objectClassLength, syntaxOf}
 use Rattle.schema.specs.ObjectClasses.{firstObjectClass}
 use Rattle.schema.specs.ObjectClassesLaws.{first-short}
@@ -41,7 +42,7 @@ use Rattle.change_read.specs.ChangeLaws.{change-whole, change-written, f
 use Rattle.change_read.specs.AdditionLaws.{row-added}
 use Rattle.change_read.specs.TagLaws.{known-named}
 use Rattle.change_read.specs.Written.{WellFormedChange, changeBytes}
-use Rattle.change_read.specs.WrittenLaws.{change-back, zeros-behind}
+use Rattle.change_read.specs.WrittenLaws.{zeros-behind}
 
 -- ---- reading leaves what stands behind the cells
 
@@ -145,12 +146,8 @@ module _ (s new : List ℕ) (bytes : Bytes s) where
       let f : wellFormed t new ≡ true =
       added-row-formed t s (p .start) (length s) scratch new bytes (omega arith) (omega (arith, scratch-length)) (p .read) in
       let active : eqb (getD new defunctAt 0) 1 ≡ false =
-      ap (λ (n : ℕ). eqb n 1) (sym (part-at 0 (rowWidth t) new defunctAt (common t))) ∙ row-added t s new bytes e .active in
+      ap (λ (n : ℕ). eqb n 1) (sym (part-at 0 (rowWidth t) new defunctAt (omega (arith, common-narrow t)))) ∙ row-added t s new bytes e .active in
       (active-formed new (ownColumns t) active (formed-parts t new f .0), finished-same t new (omega (arith, change-length s (Add t) new bytes e)) f)
-    where
-      common : (t : TableId) → defunctAt < rowWidth t
-      common Attributes = omega arith
-      common Classes = omega arith
 
   -- what is kept as it was read
   kept-formed : (format : Format) → ((x : List ℕ) → finished format x ≡ x) → Fields format s new → Formed format
@@ -188,12 +185,7 @@ module _ (s new : List ℕ) (bytes : Bytes s) where
       bare = behind;
     }
 
-    -- what was read, written again, is read as the same: readChange gives exactly the well-formed changes, each for the bytes that it is written as
-    pub change-again : Reads (changeBytes change new) change new
-    change-again = change-back change new change-carried
-
-  -- and these are the bytes that were read, but where an added attribute's oMObjectClass was dropped or its default stored
-  module _ (change : Change) (e : Reads s change new) where
+    -- it is written as the bytes that were read, but where an added attribute's oMObjectClass was dropped or its default stored
     same-bytes : ((x : List ℕ) → finished (formatOf change) x ≡ x) → s ≡ changeBytes change new
     unfolding changeBytes
     same-bytes same =

@@ -23,7 +23,6 @@ use Rattle.rows_format.specs.declared.column.Encoding.the-variants.{Counted}
 use Rattle.rows_format.specs.declared.format.Format.{Format}
 use Rattle.rows_format.specs.declared.format.Format.the-variants.{Row, NewRow, Range, Name, Target, Entry}
 use Rattle.rows_format.specs.Encodings.{passes, room, holds}
-use Rattle.rows_format.specs.EncodingsLaws.{says-holds}
 use Rattle.rows_format.specs.Columns.{mark, columnWidth, cellAt, hasValue, wellFormedCell, wellFormedBy, writeBy}
 use Rattle.rows_format.specs.ColumnsLaws.{formed-at}
 use Rattle.rows_format.specs.Formats.{listAt, newLowerAt, newUpperAt, ownColumns, commonColumns, attributeColumns, rangeColumns, nameColumns}
@@ -31,7 +30,8 @@ use Rattle.rows_format.specs.Formats.{entryColumns, columnsOf, formatWidth, noC
 use Rattle.rows_read.specs.declared.read.RowRead.{RowRead}
 use Rattle.rows_read.specs.Reading.{out, readBy, Out}
 use Rattle.rows_read.specs.ObjectClass.{finished, readRow}
-use Rattle.rows_read.specs.WellFormedLaws.{columnAt, finished-length}
+use Rattle.rows_read.specs.Stopping.{columnAt}
+use Rattle.rows_read.specs.WellFormedLaws.{finished-length}
 use Rattle.rows_read.specs.RoundTripLaws.{fields-back, row-read}
 use Rattle.change_read.specs.declared.read.Change.{Change}
 use Rattle.change_read.specs.declared.read.Change.the-variants.{Add, SetRange, Rename, Deactivate, Reactivate, AddEntry, RemoveEntry}
@@ -196,12 +196,9 @@ module _ (s : List ℕ) (change : Change) (new : List ℕ) (bytes : Bytes s) (e 
   unfolding columnsOf nameColumns cellAt columnWidth mark room wellFormedCell hasValue finished
   name-held is = formed-at (columnsOf Name) noColumn new 1 (kept Name is (λ x. refl)) (omega arith)
 
-  pub name-formed : formatOf change ≡ Name → (t : TableId) → wellFormedCell (columnAt (Row t) 0) (newName new) ≡ true
+  pub name-formed : formatOf change ≡ Name → (t : TableId) → wellFormedCell (columnAt (columnsOf (Row t)) 0) (newName new) ≡ true
   unfolding columnsOf commonColumns wellFormedCell hasValue mark
   name-formed is t = name-held is
-
-  pub name-short : formatOf change ≡ Name → getD (newName new) 0 0 ≤ nameLimit
-  name-short is = says-holds (Counted 0 nameLimit) (newName new) .holds (name-held is) .1 .0
 
   -- ---- a range: two cells that the attribute table takes
 
@@ -209,8 +206,8 @@ module _ (s : List ℕ) (change : Change) (new : List ℕ) (bytes : Bytes s) (e 
   range-cells = (part-part newLowerAt 10 new 0 5 (omega arith), part-part newLowerAt 10 new 5 5 (omega arith))
 
   pub range-formed : formatOf change ≡ Range
-      → (wellFormedCell (columnAt (Row Attributes) 9) (part 0 5 (newRange new)) ≡ true)
-      × (wellFormedCell (columnAt (Row Attributes) 10) (part 5 5 (newRange new)) ≡ true)
+      → (wellFormedCell (columnAt (columnsOf (Row Attributes)) 9) (part 0 5 (newRange new)) ≡ true)
+      × (wellFormedCell (columnAt (columnsOf (Row Attributes)) 10) (part 5 5 (newRange new)) ≡ true)
   unfolding columnsOf ownColumns rangeColumns commonColumns attributeColumns cellAt columnWidth mark room wellFormedCell hasValue finished
   range-formed is =
       let k : wellFormedBy (columnsOf Range) new ≡ true = kept Range is (λ x. refl) in

@@ -8,8 +8,9 @@ use Rattle.change_read.specs.declared.read.Change.{Change}
 use Rattle.change_read.specs.declared.carried.OpenList.{OpenList}
 use Rattle.change_rows.specs.Lists.{openAt, listWidth, openOf}
 use Rattle.change_rows.specs.Rows.{tableFor}
-use Rattle.change_rows.specs.RowsLaws.{list-inside, common-narrow}
+use Rattle.change_rows.specs.RowsLaws.{list-inside}
 use Rattle.schema.specs.Layout.{rowWidth, classWidth, commonWidth}
+use Rattle.schema.specs.LayoutLaws.{common-narrow}
 use Rattle.prelude.specs.Part.{splice, part}
 use Rattle.prelude.specs.PartLaws.{part-cut, part-length}
 use Rattle.prelude.specs.SpliceLaws.{splice-part}

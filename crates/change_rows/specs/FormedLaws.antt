@@ -17,6 +17,7 @@ use Rattle.change_read.specs.AdditionLaws.{row-added}
 use Rattle.schema.specs.declared.number.TableId.the-variants.{Attributes, Classes}
 use Rattle.schema.specs.declared.number.TableId.{TableId}
 use Rattle.schema.specs.Layout.{classWidth, commonWidth, defunctAt, openAuxiliaryAt, openOptionalAt, openSuperiorAt, rowWidth}
+use Rattle.schema.specs.LayoutLaws.{common-narrow}
 use Rattle.schema.specs.Layout.{attributeWidth, nameAt, nameLimit, rangeLowerAt, rangeUpperAt}
 use Rattle.rows_format.specs.declared.format.Format.the-variants.{Row}
 use Rattle.rows_format.specs.declared.column.Presence.the-variants as presence
@@ -31,9 +32,10 @@ use Rattle.prelude.specs.PartLaws.{says-zero, zeros-at, zeros-length, part-add,
 use Rattle.prelude.specs.SpliceLaws.{splice-append, splice-length}
 use Rattle.sets.specs.SetsLaws.{bit-ext, bit-zeros, says-empty, with-length, without-length, with-bytes, without-bytes}
 use Rattle.sets.specs.Sets.{isEmpty}
-use Rattle.rows_read.specs.WellFormedLaws.{columnAt, row-replaced}
+use Rattle.rows_read.specs.Stopping.{columnAt}
+use Rattle.rows_read.specs.WellFormedLaws.{row-replaced}
 use Rattle.rows_read.specs.WellFormed.{wellFormed}
-use Rattle.change_rows.specs.RowsLaws.{common-narrow, list-inside}
+use Rattle.change_rows.specs.RowsLaws.{list-inside}
 use Rattle.change_rows.specs.Lists.{listWidth, openAt, openOf}
 use Rattle.change_rows.specs.Rows.{editedRow, isAddition, tableFor}
 
@@ -50,8 +52,9 @@ set-formed t tag at cell b = go (true-or-false (isZero cell))
         (λ i. (rw (zeros-at (length cell) i) (omega arith))) (λ k. e k ∙ sym (bit-zeros (length cell) k))))))
 
 -- a cell of what every row begins with becomes another
-common-formed : (t : TableId) (i at : ℕ) (new row : List ℕ) → i < 5 → columnAt (Row t) i .at ≡ at → length new ≡ columnWidth (columnAt (Row t) i)
-    → at + length new ≤ commonWidth → wellFormedCell (columnAt (Row t) i) new ≡ true → length row ≡ rowWidth t → wellFormed t row ≡ true
+common-formed : (t : TableId) (i at : ℕ) (new row : List ℕ) → i < 5 → columnAt (columnsOf (Row t)) i .at ≡ at
+    → length new ≡ columnWidth (columnAt (columnsOf (Row t)) i) → at + length new ≤ commonWidth
+    → wellFormedCell (columnAt (columnsOf (Row t)) i) new ≡ true → length row ≡ rowWidth t → wellFormed t row ≡ true
     → wellFormed t (splice at new row) ≡ true
 common-formed t i at new row l is wide inside cell long f =
     let narrow = common-narrow t in

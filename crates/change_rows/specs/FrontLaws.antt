@@ -28,20 +28,23 @@ module _ (change : Change) (r s : List ℕ) (ok : Applicable change r s) where
   abbrev of : TableId
   of = tableFor change
 
-  old-wide : isAddition change ≡ false → length (tableIn of s .row (targetOf r)) ≡ rowWidth of
+  -- the row that was there, what becomes of it, and an added row have the width of their table
+  pub old-wide : isAddition change ≡ false → length (tableIn of s .row (targetOf r)) ≡ rowWidth of
   old-wide e = table-row-length of s (targetOf r) (ok .long) (ok .within e)
 
-  new-wide : (row : List ℕ) → (length row ≡ rowWidth of) ⊎ (isAddition change ≡ true) → length (editedRow change r row) ≡ rowWidth of
-  new-wide row h = edited-wide change r row (ok .carried) h
+  pub put-wide : isAddition change ≡ false → length (editedRow change r (tableIn of s .row (targetOf r))) ≡ rowWidth of
+  put-wide e = edited-wide change r (tableIn of s .row (targetOf r)) (ok .carried) (inl (old-wide e))
+
+  pub plus-wide : isAddition change ≡ true → length (editedRow change r []) ≡ rowWidth of
+  plus-wide e = edited-wide change r [] (ok .carried) (inr e)
 
   pub after-past : drop (storeLength of) (storeAfter change r s) ≡ drop (storeLength of) s
   unfolding storeAfter
   after-past = go (true-or-false (isAddition change))
     where
       go : (isAddition change ≡ true) ⊎ (isAddition change ≡ false) → drop (storeLength of) (storeAfter change r s) ≡ drop (storeLength of) s
-      go (inl e) = rw e (plus-past of s (ok .long) (editedRow change r []) (ok .room e) (new-wide [] (inr e)))
-      go (inr e) = rw e (put-past of s (ok .long) (targetOf r) (editedRow change r (tableIn of s .row (targetOf r))) (ok .within e)
-          (new-wide _ (inl (old-wide e))))
+      go (inl e) = rw e (plus-past of s (ok .long) (editedRow change r []) (ok .room e) (plus-wide e))
+      go (inr e) = rw e (put-past of s (ok .long) (targetOf r) (editedRow change r (tableIn of s .row (targetOf r))) (ok .within e) (put-wide e))
 
 pub after-front : (change : Change) (r a b : List ℕ) → Applicable change r a → Applicable change r b
     → part 0 (storeLength (tableFor change)) a ≡ part 0 (storeLength (tableFor change)) b
@@ -66,14 +69,14 @@ after-front change r a b p q front = go (true-or-false (isAddition change))
         → part 0 (storeLength (tableFor change)) (storeAfter change r a) ≡ part 0 (storeLength (tableFor change)) (storeAfter change r b)
     go (inl e) =
         rw e
-        (plus-front (tableFor change) a (p .long) (editedRow change r []) (p .room e) (new-wide change r a p [] (inr e))
+        (plus-front (tableFor change) a (p .long) (editedRow change r []) (p .room e) (plus-wide change r a p e)
         ∙ ap₂ (λ (c : ℕ) (x : List ℕ). splice 0 (countBytes (tableFor change) (c + 1)) (putIn (tableFor change) c (editedRow change r []) x)) count front
         ∙ sym (plus-front (tableFor change) b (q .long) (editedRow change r []) (q .room e)
-        (new-wide change r b q [] (inr e))))
+        (plus-wide change r b q e)))
     go (inr e) =
         rw e
         (put-front (tableFor change) a (p .long) (targetOf r) _ (p .within e)
-        (new-wide change r a p _ (inl (old-wide change r a p e)))
+        (put-wide change r a p e)
         ∙ ap₂ (λ (w x : List ℕ). putIn (tableFor change) (targetOf r) (editedRow change r w) x) (row e) front
         ∙ sym (put-front (tableFor change) b (q .long) (targetOf r) _ (q .within e)
-        (new-wide change r b q _ (inl (old-wide change r b q e)))))
+        (put-wide change r b q e)))

@@ -1,7 +1,7 @@
 -- How wide the row is that a change leaves.
 use lib.ListN.{length}
 use native.Mathlib.Omega.{arith}
-use Prim.Native.Nat.{_+_, _≤_, ℕ, _<_}
+use Prim.Native.Nat.{_+_, _≤_, ℕ}
 use mathlib.Core.List.{List, [], _∷_}
 use mathlib.Core.Path.{_∙_, _≡_, ap}
 use mathlib.Core.Logic.{_⊎_, inl, inr}
@@ -25,15 +25,6 @@ use Rattle.sets.specs.SetsLaws.{with-length, without-length}
 -- how wide the target's row is, by what the change is
 pub wide-row : {change is : Change} (row : List ℕ) → change ≡ is → length row ≡ rowWidth (tableFor change) → length row ≡ rowWidth (tableFor is)
 wide-row row e l = l ∙ ap (λ (x : Change). rowWidth (tableFor x)) e
-
--- every row is wider than what all rows begin with, and none is wider than a class row
-pub common-narrow : (t : TableId) → commonWidth < rowWidth t
-common-narrow Attributes = omega arith
-common-narrow Classes = omega arith
-
-pub narrow-row : (t : TableId) → rowWidth t ≤ classWidth
-narrow-row Attributes = omega arith
-narrow-row Classes = omega arith
 
 -- an open list lies within a class row
 pub list-inside : (list : OpenList) → openAt list + listWidth list ≤ classWidth

@@ -10,6 +10,7 @@ use Rattle.schema.specs.Store.{Schema, Stores, countIn, schemaOf, table, tableS
 use Rattle.schema.specs.declared.number.TableId.{TableId}
 use Rattle.schema.specs.Numbers.{classLimit, limit, numberOf}
 use Rattle.schema.specs.Layout.{classWidth, closureLength, storeLength}
+use Rattle.schema.specs.LayoutLaws.{narrow-row}
 use Rattle.schema.specs.NumbersLaws.{id-number}
 use Rattle.schema.specs.StoreLaws.{table-row-length}
 use Rattle.change_read.specs.declared.read.Change.{Change}
@@ -17,7 +18,6 @@ use Rattle.change_read.specs.declared.read.Change.the-variants.{Add, AddEntry}
 use Rattle.change_read.specs.Carried.{targetOf}
 use Rattle.change_rows.specs.Stores.{Applicable, rowChanged}
 use Rattle.change_rows.specs.Rows.{isAddition, numberFor, tableFor}
-use Rattle.change_rows.specs.RowsLaws.{narrow-row}
 use Rattle.prelude.specs.Part.{Bytes}
 use Rattle.prelude.specs.PartLaws.{padded-length}
 use Rattle.keeper_change.specs.Made.{Restorable, rowsBack, rowsMade, before, Allowed}

@@ -17,7 +17,7 @@ use Rattle.rules.specs.SameLaws.{kept-same}
 use Rattle.rules.specs.MeetsLaws.{meets-nothing, met-of, meets}
 use Rattle.prelude.specs.Part.{Bytes, splice}
 use Rattle.prelude.specs.SpliceLaws.{splice-length}
-use Rattle.change_model.specs.Conditions.{Condition, rule}
+use Rattle.change_model.specs.Conditions.{Condition}
 use Rattle.change_model.specs.Model.{addedBy, changeNumber}
 use Rattle.change_model.specs.ModelLaws.{asked-zero}
 use Rattle.change_model.specs.ConditionsLaws.{change-zero}

@@ -11,11 +11,10 @@ use Rattle.schema.specs.Store.{LongEnough, Stores, Table, countIn, schemaOf, ta
 use Rattle.schema.specs.declared.number.TableId.{TableId}
 use Rattle.schema.specs.Numbers.{limit, numberOf, tableOf}
 use Rattle.schema.specs.Layout.{rowWidth, storeLength}
-use Rattle.schema.specs.StoreLaws.{table-row-length}
 use Rattle.schema.specs.NumbersLaws.{id-number, id-table}
 use Rattle.change_rows.specs.Stores.{Applicable, storeAfter, rowChanged, restored}
 use Rattle.change_rows.specs.FormedLaws.{edited-formed}
-use Rattle.change_rows.specs.RowsLaws.{edited-wide}
+use Rattle.change_rows.specs.FrontLaws.{old-wide, plus-wide, put-wide}
 use Rattle.change_rows.specs.Rows.{editedRow, isAddition, schemaAfter, tableAfter, tableFor}
 use Rattle.prelude.specs.Part.{Bytes, part}
 use Rattle.prelude.specs.SaysLaws.{true-or-false}
@@ -123,40 +122,34 @@ module _ (change : Change) (x r : List ℕ) (s : Stores) (bytes : Bytes x) (read
     within = λ e. omega (arith, there e, formed .few);
   }
 
-  -- the row that was there
-  old-wide : isAddition change ≡ false → length (tableIn of store .row (targetOf r)) ≡ rowWidth of
-  old-wide e = table-row-length of store (targetOf r) long (omega (arith, there e, formed .few))
-
-  new-wide : (row : List ℕ) → (length row ≡ rowWidth of) ⊎ (isAddition change ≡ true) → length (editedRow change r row) ≡ rowWidth of
-  new-wide row h = edited-wide change r row (made-applicable .carried) h
-
   made-formed : TableFormed of (storeAfter change r store)
   unfolding storeAfter
   made-formed = go (true-or-false (isAddition change))
     where
       go : (isAddition change ≡ true) ⊎ (isAddition change ≡ false) → TableFormed of (storeAfter change r store)
-      go (inl e) = rw e (plus-formed of store long formed (editedRow change r []) (new-wide [] (inr e)) (edited-formed change x r [] bytes reads
-          (inl e)) (room e))
-      go (inr e) = rw e (put-formed of store long formed (editedRow change r (tableIn of store .row (targetOf r))) (new-wide _ (inl (old-wide e)))
-          (edited-formed change x r _ bytes reads (inr (old-wide e, formed .rows (targetOf r) (there e)))) (targetOf r) (there e))
+      go (inl e) = rw e (plus-formed of store long formed (editedRow change r []) (plus-wide change r store made-applicable e)
+          (edited-formed change x r [] bytes reads (inl e)) (room e))
+      go (inr e) = rw e (put-formed of store long formed (editedRow change r (tableIn of store .row (targetOf r))) (put-wide change r store made-applicable e)
+          (edited-formed change x r _ bytes reads (inr (old-wide change r store made-applicable e, formed .rows (targetOf r) (there e))))
+          (targetOf r) (there e))
 
   pub made-length : length (storeAfter change r store) ≡ length store
   unfolding storeAfter
   made-length = go (true-or-false (isAddition change))
     where
       go : (isAddition change ≡ true) ⊎ (isAddition change ≡ false) → length (storeAfter change r store) ≡ length store
-      go (inl e) = rw e (plus-length of (editedRow change r []) store long (room e) (new-wide [] (inr e)))
+      go (inl e) = rw e (plus-length of (editedRow change r []) store long (room e) (plus-wide change r store made-applicable e))
       go (inr e) = rw e (put-length of (targetOf r) (editedRow change r (tableIn of store .row (targetOf r))) store long (made-applicable .within e)
-          (new-wide _ (inl (old-wide e))))
+          (put-wide change r store made-applicable e))
 
   table-same : Same (tableIn of (storeAfter change r store)) (tableAfter change r (tableIn of store))
   unfolding storeAfter tableAfter
   table-same = go (true-or-false (isAddition change))
     where
       go : (isAddition change ≡ true) ⊎ (isAddition change ≡ false) → Same (tableIn of (storeAfter change r store)) (tableAfter change r (tableIn of store))
-      go (inl e) = rw e (plus-same of (editedRow change r []) store long (room e) (new-wide [] (inr e)))
+      go (inl e) = rw e (plus-same of (editedRow change r []) store long (room e) (plus-wide change r store made-applicable e))
       go (inr e) = rw e (put-same of (targetOf r) (editedRow change r (tableIn of store .row (targetOf r))) store long (made-applicable .within e)
-          (new-wide _ (inl (old-wide e))))
+          (put-wide change r store made-applicable e))
 
   pub made-shape : InShape (rowsMade change r s)
   unfolding rowsMade

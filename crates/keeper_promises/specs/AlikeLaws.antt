@@ -42,31 +42,37 @@ two s more last e f =
     let b : refused refusal.brokenShape ≡ firstAnswer (shapeAnswers s) passed = broken-stores s e f in
     append-refused (shapeAnswers s) more passed last refl (λ z. (let q : _≡_ {A = ℕ} 2 0 = ap (λ (x : Answer). x .number) b ∙ z in omega arith)) ∙ sym b
 
--- stores in shape hold the same rows as others whose tables begin with the same bytes
-module _ (s t : Stores) (i : InShape s) (a : part 0 (storeLength Attributes) (s .attributes) ≡ part 0 (storeLength Attributes) (t .attributes))
-    (c : part 0 (storeLength Classes) (s .classes) ≡ part 0 (storeLength Classes) (t .classes)) where
-  shape : StoresFormed (s .attributes) (s .classes)
-  shape = says-formed (s .attributes) (s .classes) (i .long .attributes) (i .long .classes) .holds (i .formed)
+-- ---- stores whose tables begin with the same bytes
 
-  pub front-rows : SameRows (schemaOf s) (schemaOf t)
-  front-rows Attributes = store-same Attributes (s .attributes) (t .attributes) a (shape .attributes .few)
-  front-rows Classes = store-same Classes (s .classes) (t .classes) c (shape .classes .few)
+module _ (s t : Stores) (a : part 0 (storeLength Attributes) (s .attributes) ≡ part 0 (storeLength Attributes) (t .attributes))
+    (c : part 0 (storeLength Classes) (s .classes) ≡ part 0 (storeLength Classes) (t .classes)) where
+  pub same-formed : storesFormed (s .attributes) (s .classes) ≡ storesFormed (t .attributes) (t .classes)
+  same-formed = formed-front (s .attributes) (t .attributes) (s .classes) (t .classes) a c
+
+  -- where they are in shape, they hold the same rows
+  module _ (i : InShape s) where
+    shape : StoresFormed (s .attributes) (s .classes)
+    shape = says-formed (s .attributes) (s .classes) (i .long .attributes) (i .long .classes) .holds (i .formed)
+
+    pub front-rows : SameRows (schemaOf s) (schemaOf t)
+    front-rows Attributes = store-same Attributes (s .attributes) (t .attributes) a (shape .attributes .few)
+    front-rows Classes = store-same Classes (s .classes) (t .classes) c (shape .classes .few)
+
+-- ---- stores that are alike
 
 module _ (s t : Stores) (h : Alike s t) where
-  same-formed : storesFormed (s .attributes) (s .classes) ≡ storesFormed (t .attributes) (t .classes)
-  same-formed = formed-front (s .attributes) (t .attributes) (s .classes) (t .classes) (h .attributes) (h .classes)
-
   -- both are in shape, or neither is
   by-shape : {P : Type 0} → (InShape s → InShape t → P)
       → (storesFormed (s .attributes) (s .classes) ≡ false → storesFormed (t .attributes) (t .classes) ≡ false → P) → P
   by-shape shaped broken =
-      ⊎-elim (λ q. shaped (record { long = h .left; formed = q .0 }) (record { long = h .right; formed = sym same-formed ∙ q .0 }))
-      (λ q. broken (q .0) (sym same-formed ∙ q .0)) (says-split (says-test (storesFormed (s .attributes) (s .classes))))
+      let same = sym (same-formed s t (h .attributes) (h .classes)) in
+      ⊎-elim (λ q. shaped (record { long = h .left; formed = q .0 }) (record { long = h .right; formed = same ∙ q .0 }))
+      (λ q. broken (q .0) (same ∙ q .0)) (says-split (says-test (storesFormed (s .attributes) (s .classes))))
 
   -- and then they hold the same rows
   module _ (i : InShape s) where
     pub same-rows : SameRows (schemaOf s) (schemaOf t)
-    same-rows = front-rows s t i (h .attributes) (h .classes)
+    same-rows = front-rows s t (h .attributes) (h .classes) i
 
     pub same-fresh : isFresh (schemaOf s .classes) (s .closure) ≡ isFresh (schemaOf t .classes) (t .closure)
     same-fresh = fresh-same (same-rows Classes) (s .closure) ∙ fresh-front (s .closure) (t .closure) (h .closure) (schemaOf t .classes)

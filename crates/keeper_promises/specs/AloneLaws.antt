@@ -23,7 +23,6 @@ use Rattle.tables.specs.Same.{SameRows}
 use Rattle.graph.specs.SameLaws.{demanded-same}
 use Rattle.rules.specs.Rules.{rowCases, schemaRules}
 use Rattle.rules.specs.SameLaws.{row-cases-same}
-use Rattle.tables_shape.specs.FrontLaws.{formed-front}
 use Rattle.tables_shape.specs.Shape.{storesFormed}
 use Rattle.tables_shape.specs.ShapeLaws.{says-formed}
 use Rattle.change_read.specs.Carried.{entryOf, listOf, targetOf}
@@ -43,7 +42,7 @@ use Rattle.change_model.specs.SameLaws.{after-same, asked-same, row-number-same
 use Rattle.keeper.specs.Answering.{InShape}
 use Rattle.keeper_change.specs.Quick.{quickChange, quickDiffers, quickNumber, quickTo}
 use Rattle.keeper_promises.specs.AfterLaws.{after-changed}
-use Rattle.keeper_promises.specs.AlikeLaws.{front-rows}
+use Rattle.keeper_promises.specs.AlikeLaws.{front-rows, same-formed}
 use Rattle.keeper_promises.specs.Demand3.{AlikeFor, Concerned}
 use Rattle.keeper_promises.specs.Promises.{Shape, SomeShort}
 use Rattle.keeper_promises.specs.QuickLaws.{quick-one, quick-shaped, quick-two}
@@ -114,9 +113,6 @@ module _ (x : List ℕ) (s t : Stores) (h : AlikeFor x s t) where
   abbrev carried : List ℕ
   carried = readChange x .row
 
-  same-formed : storesFormed (s .attributes) (s .classes) ≡ storesFormed (t .attributes) (t .classes)
-  same-formed = formed-front (s .attributes) (t .attributes) (s .classes) (t .classes) (h .attributes) (h .classes)
-
   -- the kept sets that are looked at are those of the class to be changed and of the auxiliary named
   same-kept : readChange x .answer ≡ Read AddEntry → listOf carried ≡ Auxiliary → SameKept carried (s .closure) (t .closure)
   unfolding numberFor
@@ -129,7 +125,7 @@ module _ (x : List ℕ) (s t : Stores) (h : AlikeFor x s t) where
 
   module _ (i : InShape s) where
     rows : SameRows (schemaOf s) (schemaOf t)
-    rows = front-rows s t i (h .attributes) (h .classes)
+    rows = front-rows s t (h .attributes) (h .classes) i
 
     few : schemaOf s .classes .count ≤ classLimit
     few = says-formed (s .attributes) (s .classes) (i .long .attributes) (i .long .classes) .holds (i .formed) .classes .few
@@ -152,10 +148,11 @@ module _ (x : List ℕ) (s t : Stores) (h : AlikeFor x s t) where
           → quickChange x s .answer ≡ quickChange x t .answer
       go (inl f) =
           let i : InShape s = record { long = p; formed = f .0 } in
-          let j : InShape t = record { long = q; formed = sym same-formed ∙ f .0 } in
+          let j : InShape t = record { long = q; formed = sym (same-formed s t (h .attributes) (h .classes)) ∙ f .0 } in
           quick-shaped x s i ∙ to-same i (readChange x .answer) refl ∙ sym (quick-shaped x t j)
       go (inr f) =
-          let d : ¬ Shape t = says-fails (says-formed (t .attributes) (t .classes) (q .attributes) (q .classes)) (sym same-formed ∙ f .0) in
+          let same = sym (same-formed s t (h .attributes) (h .classes)) in
+          let d : ¬ Shape t = says-fails (says-formed (t .attributes) (t .classes) (q .attributes) (q .classes)) (same ∙ f .0) in
           answer-of (quick-two x s p (f .1)) ∙ sym (answer-of (quick-two x t q d))
 
   pub quick-alone : quickChange x s .answer ≡ quickChange x t .answer

@@ -55,14 +55,6 @@ abbrev put : Stores → Stores → Stores
 put p s = stores (splice 0 (p .attributes) (s .attributes)) (splice 0 (p .classes) (s .classes)) (splice 0 (p .closure) (s .closure))
 
 module _ (p s : Stores) (e : Exact p) (h : LongEnough s) where
-  stores-long : LongEnough (put p s)
-  stores-long =
-      record {
-        attributes = put-long (storeLength Attributes) (p .attributes) (s .attributes) (e .attributes) (h .attributes);
-        classes = put-long (storeLength Classes) (p .classes) (s .classes) (e .classes) (h .classes);
-        closure = put-long closureLength (p .closure) (s .closure) (e .closure) (h .closure);
-      }
-
   stores-past : SamePast (put p s) s
   stores-past =
       record {

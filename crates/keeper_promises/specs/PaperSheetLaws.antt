@@ -26,7 +26,7 @@ use Rattle.rows_format.specs.Columns.{cellOf, columnWidth, lead, mark, possible
 use Rattle.rows_format.specs.Encodings.{accepts, image, passes, room}
 use Rattle.rows_format.specs.Formats.{classColumns, columnsOf, commonColumns, ownColumns}
 use Rattle.rows_read.specs.ObjectClass.{finish, finished, finishedRow, readRow}
-use Rattle.rows_read.specs.Reading.{out, readBy, rowOf, turnOf, tookOf}
+use Rattle.rows_read.specs.Reading.{readBy, rowOf, turnOf, tookOf}
 use Rattle.sheet_read.specs.Reading.{ended, fieldStep, headingOpen, isHeading, position, readFrom, roomAt, roomStep, rowTurn, rowsOpen, rowsWith}
 use Rattle.sheet_read.specs.Reading.{sheetTag, stopped, takeField, takeHeading, takeTableRow, takeTagged, readSheet, schemaFrom}
 use Rattle.sheet_read.specs.declared.read.SheetRead.the-variants.{Read}

@@ -25,7 +25,7 @@ use Rattle.keeper.specs.AnsweringLaws.{append-refused, broken-stores, first-las
 use Rattle.keeper.specs.Answering.{firstAnswer, shapeAnswers, InShape}
 use Rattle.keeper.specs.Order.{inOrder, orderAnswers}
 use Rattle.change_model.specs.Model.{answerTo, addedBy, changeNumber, rowsAfter}
-use Rattle.change_model.specs.Conditions.{Condition, rule}
+use Rattle.change_model.specs.Conditions.{Condition}
 use Rattle.change_model.specs.ModelLaws.{answer-done, answer-number, answer-refused}
 use Rattle.change_model.specs.ConditionsLaws.{change-condition, change-least, change-zero}
 use Rattle.keeper_change.specs.PlainLaws.{plain-order}

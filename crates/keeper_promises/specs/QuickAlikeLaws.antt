@@ -11,7 +11,6 @@ use Rattle.closure_change.specs.KeptLaws.{after-length, joined-wide, new-length
 use Rattle.prelude.specs.BelowLaws.{any-cong}
 use Rattle.prelude.specs.Concat.{concatBelow}
 use Rattle.prelude.specs.ConcatLaws.{concat-same}
-use Rattle.prelude.specs.FrontLaws.{front-part}
 use Rattle.prelude.specs.Part.{Bytes, part, splice}
 use Rattle.prelude.specs.SaysLaws.{says-fails}
 use Rattle.prelude.specs.SpliceLaws.{part-splice-inside}
@@ -27,6 +26,7 @@ use Rattle.schema.specs.declared.number.TableId.the-variants.{Attributes, Class
 use Rattle.tables.specs.Named.{lists}
 use Rattle.tables.specs.Same.{Same, SameRows}
 use Rattle.graph.specs.FreshLaws.{closure-row-length}
+use Rattle.graph.specs.FrontLaws.{kept-front}
 use Rattle.graph.specs.Graph.{closureRow, inherits}
 use Rattle.graph.specs.SameLaws.{closure-row-same}
 use Rattle.tables_shape.specs.ShapeLaws.{says-formed}
@@ -68,9 +68,6 @@ module _ (k l : List ℕ) (p : closureLength ≤ length k) (q : closureLength �
   abbrev SameFront : List ℕ → List ℕ → Type 0
   SameFront a b = part 0 closureLength a ≡ part 0 closureLength b
 
-  pub row-front : (c : ℕ) → c < classLimit → closureAt k c ≡ closureAt l c
-  row-front c i = front-part closureLength k l front (0 + closureWidth * c) closureWidth (omega arith)
-
   each-front : (n j : ℕ) (f g : ℕ → List ℕ → List ℕ) → ((c : ℕ) → c < classLimit → length (f c (closureAt k c)) ≡ closureWidth)
       → ((c : ℕ) → c < classLimit → length (g c (closureAt l c)) ≡ closureWidth) → ((c : ℕ) (row : List ℕ) → f c row ≡ g c row)
       → SameFront (eachHolding n j f k) (eachHolding n j g l)
@@ -82,7 +79,7 @@ module _ (k l : List ℕ) (p : closureLength ≤ length k) (q : closureLength �
     where
       rows : (c : ℕ) → c < classLimit → rowWhere n j f k c ≡ rowWhere n j g l c
       rows c i =
-          ap (λ (row : List ℕ). cond (holds n j c row) (f c row) row) (row-front c i)
+          ap (λ (row : List ℕ). cond (holds n j c row) (f c row) row) (kept-front k l front c i)
           ∙ ap (λ (x : List ℕ). cond (holds n j c (closureAt l c)) x (closureAt l c)) (same c (closureAt l c))
 
   module _ {t u : Table} (s : Same t u) (n : ℕ) where
@@ -94,7 +91,7 @@ module _ (k l : List ℕ) (p : closureLength ≤ length k) (q : closureLength �
 
     entry-front : (list : OpenList) (b j : ℕ) → (list ≡ Auxiliary → b < classLimit) → SameFront (entryJoined list b n j k) (entryJoined list b n j l)
     entry-front Optional b j few = joined-front j _ _ refl
-    entry-front Auxiliary b j few = joined-front j _ _ (row-front b (few refl))
+    entry-front Auxiliary b j few = joined-front j _ _ (kept-front k l front b (few refl))
     entry-front Superior b j few = front
 
     refreshed-front : (j : ℕ) → SameFront (refreshedAt t n j k) (refreshedAt u n j l)
@@ -108,7 +105,7 @@ module _ (k l : List ℕ) (p : closureLength ≤ length k) (q : closureLength �
     named-front there =
         set-cong closureWidth _ _ (λ b i. any-cong classLimit _ _ (λ y w.
         ap₂ (λ (row sets : List ℕ). (eqb (superclassOf row) y || (member (fixedAuxiliaryOf row) y || member (openAuxiliaryOf row) y)) && member sets b)
-        (s .rows n there) (row-front y w)))
+        (s .rows n there) (kept-front k l front y w)))
 
     new-front : n < classLimit → n < t .count → SameFront (withNew t n k) (withNew u n l)
     unfolding withNew newRow
@@ -143,7 +140,7 @@ module _ (x : List ℕ) (s t : Stores) (h : Alike s t) where
     lengths = (λ e. absurd (long s (h .left) e), λ e. absurd (long t (h .right) e));
     attributes = h .attributes;
     classes = h .classes;
-    closure = λ c l concerned. row-front (s .closure) (t .closure) (h .left .closure) (h .right .closure) (h .closure) c l;
+    closure = λ c l concerned. kept-front (s .closure) (t .closure) (h .closure) c l;
   }
     where
       long : (a : Stores) → LongEnough a → ¬ SomeShort a

@@ -25,6 +25,7 @@ use Rattle.sheet_read.specs.Reading.{Rows, SheetOut, readSheet, schemaFrom, she
 use Rattle.sheet_read.specs.ReadingLaws.{sheet-sound}
 use Rattle.sheet_read.specs.declared.read.SheetRead.the-variants.{Read}
 use Rattle.sheet_round_trip.specs.Exact.{ExactSheet}
+use Rattle.sheet_round_trip.specs.Longest.{longestSheet}
 use Rattle.sheet_round_trip.specs.LongestLaws.{written-longest}
 use Rattle.sheet_round_trip.specs.SheetLaws.{bothHeld, both-same, read-written, stores-held, written-read}
 use Rattle.sheet_write.specs.SameLaws.{sheet-same}
@@ -115,5 +116,5 @@ module _ (sheet : List ℕ) (s : Stores) (bytes : Bytes sheet) (long : LongEnoug
 
 -- ---- how long a sheet can be
 
-pub write-longest : (s : Stores) → Shape s → length (sheetOf s) ≤ 410756
+pub write-longest : (s : Stores) → Shape s → length (sheetOf s) ≤ longestSheet
 write-longest s h = written-longest (schemaOf s) (h .attributes .few) (h .classes .few)

@@ -24,7 +24,6 @@ use Rattle.schema.specs.Store.{Schema, Stores, Table, closureAt, demandedIn, sc
 use Rattle.schema.specs.declared.answer.Answer.{Answer}
 use Rattle.graph.specs.Graph.{demandedSet, demands}
 use Rattle.closure_change.specs.After.{entryDemands}
-use Rattle.closure_change.specs.Kept.{holds}
 use Rattle.change_read.specs.Carried.{entryOf, listOf, targetOf}
 use Rattle.change_read.specs.ChangeLaws.{Reads}
 use Rattle.change_read.specs.Reading.{ChangeOut}

@@ -6,9 +6,8 @@ use Prim.Native.Nat.{ℕ, _+_, _-_, _≤_}
 use native.Mathlib.Omega.{arith}
 use lib.ListN.{length, take, drop, length-drop, drop-of-length-le}
 use lib.Seq.{drop-drop, take-all, take-length}
-use Rattle.prelude.specs.Part.{part, splice, zeros, padded}
-use Rattle.prelude.specs.PartLaws.{part-cut, part-length, padded-full, zeros-length}
-use Rattle.prelude.specs.SpliceLaws.{splice-length, splice-undo}
+use Rattle.prelude.specs.Part.{splice, zeros}
+use Rattle.prelude.specs.PartLaws.{part-cut, part-length, zeros-length}
 
 -- a part that came back as new
 pub lent-back : (a e : ℕ) (s back new : List ℕ) → e ≡ a + length new → back ≡ new
@@ -35,16 +34,3 @@ pub lent-cleared : (a n : ℕ) (s back : List ℕ) → a + n ≤ length s → ba
 lent-cleared a n s back f q =
     let l : length (take (a + n - a) (drop a s)) ≡ n = ap length (part-cut a n s (a + n) refl) ∙ part-length a n s f in
     lent-back a (a + n) s back (zeros n) (ap (λ (k : ℕ). a + k) (sym (zeros-length n))) (q ∙ ap zeros l)
-
--- a part saved, written over, and put back from the copy: the whole is as it was. Each fact has the form in which the code gives it
-pub lent-undo : (a n : ℕ) (s m new saved back : List ℕ) → a + n ≤ length s → length new ≡ n → m ≡ splice a new s
-    → saved ≡ padded n (take (a + n - a) (drop a s)) → back ≡ padded (length (take (a + n - a) (drop a m))) saved
-    → take a m ++ (back ++ drop (a + n - a) (drop a m)) ≡ s
-lent-undo a n s m new saved back f l e p q =
-    let old : List ℕ = part a n s in
-    let ln : length old ≡ n = part-length a n s f in
-    let lm : length m ≡ length s = ap length e ∙ splice-length a new s (omega arith) in
-    let cm : length (take (a + n - a) (drop a m)) ≡ n = ap length (part-cut a n m (a + n) refl) ∙ part-length a n m (omega arith) in
-    let ps : saved ≡ old = p ∙ ap (padded n) (part-cut a n s (a + n) refl) ∙ padded-full n old ln in
-    let pb : back ≡ old = q ∙ ap (λ (k : ℕ). padded k saved) cm ∙ ap (padded n) ps ∙ padded-full n old ln in
-    lent-back a (a + n) m back old (ap (λ (k : ℕ). a + k) (sym ln)) pb ∙ ap (splice a old) e ∙ splice-undo a n new s l f

@@ -83,11 +83,6 @@ pub choose : {A : Type 0} (P : A → Type 0) (b : Bool) {x y : A} → (b ≡ tru
 choose P true t f = t refl
 choose P false t f = f refl
 
--- the same of two choices at once
-pub choose-both : {A B : Type 0} (P : A → B → Type 0) (b : Bool) {x y : A} {z w : B} → (b ≡ true → P x z) → (b ≡ false → P y w) → P (cond b x y) (cond b z w)
-choose-both P true t f = t refl
-choose-both P false t f = f refl
-
 -- a test that never passes
 pub says-never : Says false ⊥
 says-never = record { holds = λ e. absurd (false≢true e); passes = λ h. absurd h }

@@ -84,9 +84,6 @@ module _ (i n : ℕ) (v cell : List ℕ) (h : i + 2 ≤ length v) (e : n ≡ big
   unfolding insertAll
   insert-turn = rw (entries-cons v i h, ← e)
 
-  pub within-this : (m : ℕ) → Within m (entries (drop i v)) → n < m * 8
-  within-this m w = w n (rw (entries-cons v i h) (List·Memᴰ·head e))
-
   pub within-rest : (m : ℕ) → Within m (entries (drop i v)) → Within m (entries (drop (i + 2) v))
   within-rest m w k g = w k (rw (entries-cons v i h) (List·Memᴰ·tail g))
 

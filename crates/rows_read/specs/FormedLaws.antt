@@ -1,4 +1,4 @@
--- What a well-formed row has: its counts and numbers are within their limits. A row of zeros is well-formed, and an added row is one of the table.
+-- What a well-formed row has: its counts and numbers are within their limits. An added row is one of the table.
 use mathlib.Core.Bool.{true, false}
 use mathlib.Core.List.{List, _++_}
 use mathlib.Core.Logic.{_⊎_, inl, inr}
@@ -8,9 +8,8 @@ use native.Mathlib.Nat.{add-zero}
 use native.Mathlib.Omega.{arith}
 use lib.Dec.{eqb}
 use lib.ListN.{length, getD}
-use Rattle.prelude.specs.Below.{allBelow}
 use Rattle.prelude.specs.SaysLaws.{says-eq, says-false, true-or-false}
-use Rattle.prelude.specs.Part.{part, zeros, isZero}
+use Rattle.prelude.specs.Part.{part, isZero}
 use Rattle.prelude.specs.PartLaws.{part-at, part-length, zero-zeros, zeros-at}
 use Rattle.schema.specs.Layout.{nameLimit, arcLimit, objectClassLimit, nameAt, identifierAt, defunctAt, objectClassAt, rowWidth}
 use Rattle.schema.specs.Row.{nameLength, arcCount}
@@ -21,15 +20,15 @@ use Rattle.tables.specs.Shaped.{Bounded}
 use Rattle.rows_format.specs.declared.column.Column.{Column}
 use Rattle.rows_format.specs.declared.column.Encoding.the-variants.{Counted, Arcs}
 use Rattle.rows_format.specs.declared.column.Presence.the-variants.{Optional}
-use Rattle.rows_format.specs.Encodings.{passes, room, holds}
+use Rattle.rows_format.specs.Encodings.{room}
 use Rattle.rows_format.specs.EncodingsLaws.{says-holds}
 use Rattle.rows_format.specs.Columns.{mark, columnWidth, cellAt, hasValue, wellFormedCell, wellFormedBy}
 use Rattle.rows_format.specs.ColumnsLaws.{formed-cons, formed-both, formed-at}
-use Rattle.rows_format.specs.Formats.{column, mayBeDefunct, neverDefunct, commonColumns, attributeColumns, classColumns, columnsOf, noColumn, ownColumns}
+use Rattle.rows_format.specs.Formats.{column, mayBeDefunct, neverDefunct, commonColumns, attributeColumns, columnsOf, noColumn, ownColumns}
 use Rattle.rows_format.specs.declared.format.Format.the-variants.{NewRow, Row}
-use Rattle.rows_read.specs.ObjectClass.{objectClassWidth, isSettled}
+use Rattle.rows_read.specs.ObjectClass.{objectClassWidth}
 use Rattle.rows_read.specs.WellFormedLaws.{formed-parts}
-use Rattle.rows_read.specs.WellFormed.{isFinished, wellFormed}
+use Rattle.rows_read.specs.WellFormed.{wellFormed}
 
 -- ---- limits
 
@@ -81,14 +80,6 @@ formed-bounded t row fits f =
     let p = formed-parts t row f .0 in
     let c = common-limits row (ownColumns t) mayBeDefunct (unfold columnsOf in p) in
     record { name = c .0; arcs = c .1; objectClass = object-class-within t row fits p }
-
--- ---- rows of zeros
-
-pub zero-formed : (t : TableId) → wellFormed t (zeros (rowWidth t)) ≡ true
-unfolding wellFormed wellFormedBy wellFormedCell hasValue holds cellAt columnWidth mark room passes isZero allBelow part zeros columnsOf
-    ownColumns commonColumns attributeColumns classColumns isFinished isSettled
-zero-formed Attributes = refl
-zero-formed Classes = refl
 
 -- ---- an added row is one of the table: 05 is not there, and its cell is zero
 

@@ -9,8 +9,9 @@ use lib.ListN.{length, take}
 use lib.Seq.{take-take}
 use borrow.Author.Tests.{eqb-true}
 use Rattle.prelude.specs.SaysLaws.{neither}
+use Rattle.prelude.specs.FrontLaws.{front-part}
 use Rattle.prelude.specs.Part.{part, splice, zeros, Bytes}
-use Rattle.prelude.specs.PartLaws.{part-none, part-part, part-add, part-bytes, zeros-length}
+use Rattle.prelude.specs.PartLaws.{part-none, part-add, part-bytes, zeros-length}
 use Rattle.prelude.specs.SpliceLaws.{splice-length, splice-before, part-splice-same}
 use Rattle.wire.specs.Wire.{fieldAt}
 use Rattle.wire.specs.WireLaws.{field-back}
@@ -35,14 +36,6 @@ pub record Back (s : List ℕ) (end : ℕ) (columns : List Column) (o at : ℕ) 
 
 refused : (at : ℕ) (row new : List ℕ) → out (Bad at) row ≡ out Read new → ⊥
 refused at row new e = let a : Bad at ≡ Read = ap (λ (x : Out). x .answer) e in let no : _≡_ {A = ℕ} 0 1 = cc in omega arith
-
--- equal fronts have equal parts
-front : (n at w : ℕ) (a : List ℕ) → at + w ≤ n → part at w (take n a) ≡ part at w a
-unfolding part
-front n at w a h = let z : 0 + at ≡ at = omega arith in unfold part in rw z at (part-part 0 n a at w h)
-
-pub front-part : (n at w : ℕ) (a b : List ℕ) → at + w ≤ n → take n a ≡ take n b → part at w a ≡ part at w b
-front-part n at w a b h e = sym (front n at w a h) ∙ ap (part at w) e ∙ front n at w b h
 
 -- the end of the table
 back-end : (s : List ℕ) (end o n at : ℕ) (m : Bool) (row new : List ℕ) → readBy s end [] at m row ≡ out Read new → Back s end [] o at m row new
@@ -71,7 +64,7 @@ module _ (s : List ℕ) (end : ℕ) (r : Column) (rs : List Column) (o n at : �
       let grown : o ≤ o + columnWidth r = omega arith in
       let shorter : take o new ≡ take o (splice (r .at) cell row) = sym (take-take o (o + columnWidth r) new grown) ∙ ap (take o) b
       ∙ take-take o (o + columnWidth r) (splice (r .at) cell row) grown in (
-        front-part (o + columnWidth r) (r .at) (columnWidth r) new (splice (r .at) cell row) (omega (arith, l .place)) b
+        front-part (o + columnWidth r) new (splice (r .at) cell row) (unfold part in b) (r .at) (columnWidth r) (omega (arith, l .place))
             ∙ part-splice-same (r .at) cell row inside (columnWidth r) (sym k),
         (shorter ∙ splice-before (r .at) cell row inside o (omega (arith, l .place)), ln ∙ splice-length (r .at) cell row inside),
       )

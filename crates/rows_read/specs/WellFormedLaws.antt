@@ -19,7 +19,6 @@ use Rattle.schema.specs.Layout.{objectClassLimit, syntaxAt, omSyntaxAt, objectC
 use Rattle.schema.specs.AttributeRow.{syntaxOf, omSyntaxOf, objectClassLength, objectClassOf}
 use Rattle.schema.specs.declared.number.TableId.{TableId}
 use Rattle.schema.specs.declared.number.TableId.the-variants.{Attributes, Classes}
-use Rattle.rows_format.specs.declared.column.Column.{Column}
 use Rattle.rows_format.specs.declared.column.Encoding.the-variants.{Counted}
 use Rattle.rows_format.specs.declared.column.Presence.the-variants.{Optional}
 use Rattle.rows_format.specs.declared.format.Format.{Format}
@@ -33,6 +32,7 @@ use Rattle.rows_format.specs.Formats.{column, commonColumns, attributeColumns, 
 use Rattle.rows_format.specs.FormatsLaws.{format-laid}
 use Rattle.rows_read.specs.ObjectClass.{objectClassWidth, objectClassCell, settled, isSettled, finishedRow}
 use Rattle.rows_read.specs.ObjectClassLaws.{settled-none, settled-first, settled-given, settled-length, cell-long, no-cell}
+use Rattle.rows_read.specs.Stopping.{columnAt}
 use Rattle.rows_read.specs.WellFormed.{isFinished, wellFormed, standsExactly}
 
 -- ---- the test, taken apart
@@ -47,15 +47,11 @@ parts-formed t row h k = rw (h, k)
 
 -- ---- cells
 
--- column i of a format's table
-abbrev pub columnAt : Format → ℕ → Column
-columnAt format i = getD (columnsOf format) i noColumn
-
 -- the cell of a column becomes another well-formed cell: the row stays well-formed
 pub format-replaced : (format : Format) (i : ℕ) (new row : List ℕ) → formatWidth format ≤ length row → i < length (columnsOf format) → length new
-    ≡ columnWidth (columnAt format i)
-    → wellFormedCell (columnAt format i) new ≡ true → wellFormedBy (columnsOf format) row ≡ true
-    → wellFormedBy (columnsOf format) (splice (columnAt format i .at) new row) ≡ true
+    ≡ columnWidth (columnAt (columnsOf format) i)
+    → wellFormedCell (columnAt (columnsOf format) i) new ≡ true → wellFormedBy (columnsOf format) row ≡ true
+    → wellFormedBy (columnsOf format) (splice (columnAt (columnsOf format) i .at) new row) ≡ true
 format-replaced format i new row fits l k w f = cell-replaced (columnsOf format) noColumn 0 (formatWidth format) i new row (format-laid format) fits l k w f
 
 -- ---- oMObjectClass
@@ -83,18 +79,19 @@ finished-elsewhere Classes at new row h d = refl
 
 -- the same for whole rows
 pub row-replaced : (t : TableId) (i : ℕ) (new row : List ℕ) → rowWidth t ≤ length row → i < length (columnsOf (Row t)) → length new
-    ≡ columnWidth (columnAt (Row t) i)
-    → wellFormedCell (columnAt (Row t) i) new ≡ true → (columnAt (Row t) i .at + length new ≤ syntaxAt) ⊎ (singleValuedAt ≤ columnAt (Row t) i .at)
-    → columnAt (Row t) i .at + length new ≤ length row
-    → wellFormed t row ≡ true → wellFormed t (splice (columnAt (Row t) i .at) new row) ≡ true
+    ≡ columnWidth (columnAt (columnsOf (Row t)) i)
+    → wellFormedCell (columnAt (columnsOf (Row t)) i) new ≡ true
+    → (columnAt (columnsOf (Row t)) i .at + length new ≤ syntaxAt) ⊎ (singleValuedAt ≤ columnAt (columnsOf (Row t)) i .at)
+    → columnAt (columnsOf (Row t)) i .at + length new ≤ length row
+    → wellFormed t row ≡ true → wellFormed t (splice (columnAt (columnsOf (Row t)) i .at) new row) ≡ true
 unfolding formatWidth
 row-replaced t i new row fits l k w d inside f =
     let p = formed-parts t row f in
-    parts-formed t (splice (columnAt (Row t) i .at) new row) (format-replaced (Row t) i new row fits l k w (p .0))
-    (finished-elsewhere t (columnAt (Row t) i .at) new row inside d ∙ p .1)
+    parts-formed t (splice (columnAt (columnsOf (Row t)) i .at) new row) (format-replaced (Row t) i new row fits l k w (p .0))
+    (finished-elsewhere t (columnAt (columnsOf (Row t)) i .at) new row inside d ∙ p .1)
 
 -- the column of oMObjectClass, and its cell
-class-column : columnAt (Row Attributes) 7 ≡ column Optional 8 (Counted 1 objectClassLimit) objectClassAt
+class-column : columnAt (columnsOf (Row Attributes)) 7 ≡ column Optional 8 (Counted 1 objectClassLimit) objectClassAt
 unfolding columnsOf ownColumns commonColumns attributeColumns
 class-column = refl
 

@@ -16,7 +16,7 @@ use Rattle.schema.specs.declared.number.TableId.the-variants.{Attributes, Class
 use Rattle.schema.specs.Answers.{brokenBy, passed, tableNumber}
 use Rattle.schema.specs.Store.{Schema, table}
 use Rattle.rules.specs.declared.row.Added.{Added}
-use Rattle.rules.specs.Rules.{Rule, schemaRules, noRule, numbered, rulesOf, breaks, Each}
+use Rattle.rules.specs.Rules.{Rule, schemaRules, noRule, numbered, rulesOf, Each}
 use Rattle.rules.specs.RulesLaws.{rules-next, rules-end, numbered-number, nonzero}
 use Rattle.rules.specs.Judge.{breaksIn, firstRow, judgeTable, judgeRule, judgeRules, judged, broken, brokenCases, Kept, AllKept, Lowest, FirstBroken}
 

@@ -10,7 +10,7 @@ use lib.Dec.{eqb}
 use Rattle.prelude.specs.SaysLaws.{says-eq, says-false, true-or-false, neither}
 use Rattle.prelude.specs.Below.{anyBelow}
 use Rattle.prelude.specs.BelowLaws.{any-one, any-false}
-use Rattle.prelude.specs.First.{firstOf}
+use Rattle.sets.specs.SetsLaws.{or-false}
 use Rattle.schema.specs.declared.number.TableId.{TableId}
 use Rattle.schema.specs.declared.number.TableId.the-variants.{Attributes, Classes}
 use Rattle.schema.specs.Numbers.{SameRow, sameTable}
@@ -38,10 +38,9 @@ use Rattle.rules_class.specs.StayLaws.{named-there, not-live-stays, naming-stay
 use Rattle.rules.specs.declared.row.Added.{Added}
 use Rattle.rules.specs.declared.row.Added.the-variants.{Nothing, Class, Entry}
 use Rattle.rules.specs.Rules.{ofRows, ofAttributes, ofClasses, barred, entryDead, attributeNotLive}
-use Rattle.rules.specs.Rules.{classNotLive, inheritanceRule, schemaRules, numbered, breaks, rowCases, Each, _&_}
+use Rattle.rules.specs.Rules.{classNotLive, inheritanceRule, schemaRules, numbered, rowCases, Each, _&_}
 use Rattle.rules.specs.RulesLaws.{each-numbered, cases-agree, attribute-nothing, class-nothing}
-use Rattle.rules.specs.Judge.{judged, broken, brokenCases, Kept, AllKept}
-use Rattle.rules.specs.JudgeLaws.{judge-number}
+use Rattle.rules.specs.Judge.{broken, brokenCases, Kept, AllKept}
 use Rattle.rules.specs.RowChange.{RowChange}
 use Rattle.schema.specs.Refusals as refusal
 
@@ -82,11 +81,7 @@ module _ (k : ℕ) (m n : Schema) where
   stays-alone Attributes here breaks h =
       ap₂ (λ (p q : Bool). p || q) (any-one (n .attributes .count) k (breaks n Attributes) here (λ j l d. h Attributes j l (λ q. d (sym (q .1)))))
       (any-false (breaks n Classes) (n .classes .count) (λ j l. h Classes j l (λ q. apart (q .0))))
-      ∙ or-none (breaks n Attributes k)
-    where
-      or-none : (b : Bool) → (b || false) ≡ b
-      or-none true = refl
-      or-none false = refl
+      ∙ or-false (breaks n Attributes k) false refl
   stays-alone Classes here breaks h =
       ap₂ (λ (p q : Bool). p || q) (any-false (breaks n Attributes) (n .attributes .count) (λ j l. h Attributes j l (λ q. apart (sym (q .0)))))
       (any-one (n .classes .count) k (breaks n Classes) here (λ j l d. h Classes j l (λ q. d (sym (q .1)))))
@@ -268,8 +263,3 @@ module _ (k : ℕ) (m n : Schema) where
 pub changed-alone : (added : Added) (t : TableId) (k : ℕ) (m n : Schema) → RowChange t k m n → AddedAt added t k → AllKept Nothing m
     → brokenCases (schemaRules added) n ≡ rowCases (schemaRules added) n t k
 changed-alone added t k m n h at kept = cases-agree (broken n) (λ r. r .breaks n t k) (schemaRules added) (each-alone k m n kept t h added at)
-
-pub changed-number : (added : Added) (t : TableId) (k : ℕ) (m n : Schema) → RowChange t k m n → AddedAt added t k → AllKept Nothing m
-    → judged added n .number ≡ firstOf (rowCases (schemaRules added) n t k)
-unfolding judged
-changed-number added t k m n h at kept = judge-number (schemaRules added) n ∙ ap firstOf (changed-alone added t k m n h at kept)

@@ -14,6 +14,7 @@ use Rattle.prelude.specs.First.{Case, _when_, firstOf, Rising, NonZero, Among}
 use Rattle.prelude.specs.FirstLaws.{first-hit, first-miss, first-none, among-above, rising-nonzero}
 use Rattle.prelude.specs.Unlike.{Unlike, among}
 use Rattle.prelude.specs.UnlikeLaws.{unlike-among}
+use Rattle.sets.specs.SetsLaws.{or-false}
 use Rattle.schema.specs.Order.{rank, position}
 use Rattle.schema.specs.OrderLaws.{rank-zero}
 use Rattle.schema.specs.Store.{Table, Schema}
@@ -129,14 +130,10 @@ cases-agree p q (r ∷ rs) h = ap₂ (λ (b : Bool) (cs : List Case). (r .number
 
 -- ---- nothing was added: rules 17 and 18 look at the rows alone
 
-or-none : (b : Bool) → (b || false) ≡ b
-or-none true = refl
-or-none false = refl
-
 pub attribute-nothing : (m : Schema) (k : ℕ) → attributeNotLive Nothing m k ≡ notLive Attributes (m .attributes) (m .classes .row k)
 unfolding attributeNotLive entryDead
-attribute-nothing m k = or-none (notLive Attributes (m .attributes) (m .classes .row k))
+attribute-nothing m k = or-false (notLive Attributes (m .attributes) (m .classes .row k)) false refl
 
 pub class-nothing : (c : Table) (k : ℕ) → classNotLive Nothing c k ≡ classWrong c k
 unfolding classNotLive barred entryDead
-class-nothing c k = or-none (classWrong c k)
+class-nothing c k = or-false (classWrong c k) false refl

@@ -21,6 +21,7 @@ use Rattle.schema.specs.declared.number.TableId.{TableId}
 use Rattle.schema.specs.Store.{countIn, storeOf}
 use Rattle.schema.specs.Numbers.{limit}
 use Rattle.schema.specs.Layout.{rowWidth, storeLength, classWidth}
+use Rattle.schema.specs.LayoutLaws.{narrow-row}
 use Rattle.tables.specs.Filled.{plusIn}
 use Rattle.tables.specs.FilledLaws.{store-count, store-plus}
 use Rattle.rows_format.specs.declared.format.Format.{Format}
@@ -222,18 +223,14 @@ lent-table h Classes = h .classes
 
 -- ---- the front of a scratch row
 
-pub width-within : (t : TableId) → rowWidth t ≤ classWidth
-width-within Attributes = omega arith
-width-within Classes = omega arith
-
 module _ (t : TableId) (w : ℕ) (scratch : List ℕ) (e : w ≡ rowWidth t) (z : scratch ≡ zeros classWidth) where
   pub front-within : w ≤ length scratch
-  front-within = omega (arith, e, width-within t, ap length z, zeros-length classWidth)
+  front-within = omega (arith, e, narrow-row t, ap length z, zeros-length classWidth)
 
   pub front-zeros : take (w - 0) scratch ≡ zeros (rowWidth t)
   front-zeros =
       let m : w - 0 ≡ rowWidth t = omega (arith, e) in
-      rw (m, z) (unfold part in (part-zeros 0 (rowWidth t) classWidth (omega (arith, width-within t))))
+      rw (m, z) (unfold part in (part-zeros 0 (rowWidth t) classWidth (omega (arith, narrow-row t))))
 
   -- what was read into it
   module _ (l : List ℕ) (kept : length l ≡ length (take (w - 0) scratch)) where

@@ -20,9 +20,8 @@ use Rattle.sheet_read.specs.declared.read.Phase.{Phase}
 use Rattle.sheet_read.specs.declared.read.Phase.the-variants.{Start, InRows}
 use Rattle.sheet_read.specs.declared.read.SheetTag.the-variants.{Heading, Row, Unknown}
 use Rattle.sheet_read.specs.Reading.{Rows, headingOpen, isHeading, noRows, plus, position, rowOut, rowsIn, rowsOpen, sheetTag}
-use Rattle.sheet_read.specs.Stopping.{AcceptedTo, HeadingValue, RowStands, RowStops, Stands, most, rowTag, rowsGiven, rowsOf}
+use Rattle.sheet_read.specs.Stopping.{AcceptedTo, HeadingValue, RowStands, RowStops, Stands, rowTag, rowsGiven, rowsOf}
 use Rattle.sheet_read.specs.TurnLaws.{heading-turn, row-turn, stands-on, stands-start}
-use Rattle.wire.specs.declared.FieldRead.the-variants as fields
 use Rattle.rows_read.specs.declared.read.RowRead.the-variants as row
 use Rattle.sheet_read.specs.TurnLaws as turns
 
@@ -108,11 +107,6 @@ module _ {h a c : ℕ} {phase : Phase} {missing : Bool} {x : Rows} (o : State h 
       more : length (x .classes) ≡ c → length (x .classes ++ (new ∷ [])) ≡ suc c
       more e = omega (arith, length-append (x .classes) (new ∷ []), e)
 
-pub most-limit : (t : TableId) → most t ≡ limit t
-unfolding most
-most-limit Attributes = refl
-most-limit Classes = refl
-
 pub classes-open : (phase : Phase) → rowsOpen phase Classes ≡ true
 unfolding rowsOpen position
 classes-open Start = refl
@@ -151,18 +145,18 @@ module _ (s : List ℕ) where
       }
 
   module _ {h a c at : ℕ} {x : Rows} (o : Comes s h a c at x) {stop : ℕ} where
-    row-comes : (t : TableId) → RowStands t s at stop → rowsOpen (o .phase) t ≡ true → rowsOf t a c < most t
+    row-comes : (t : TableId) → RowStands t s at stop → rowsOpen (o .phase) t ≡ true → rowsOf t a c < limit t
         → turns.Stands s stop (InRows t) (o .missing) (plus t (rowOut t s (at + 3) stop .row) x)
     row-comes t r free few =
         let f = r .stands in
         let l : at < length s = omega (arith, f .header) in
         let read : rowOut t s (at + 3) stop .answer ≡ row.Read = row-stops t f row.Read .1 (r .reads) in
         let turn = row-turn s at (o .phase) (o .missing) x (rowTag t) (at + 3) stop (field-stands f) t (rowOut t s (at + 3) stop .row)
-        (row-tag t refl) free (omega (arith, o .state .held t, most-limit t))
+        (row-tag t refl) free (omega (arith, o .state .held t))
         (ap (λ (y : RowRead). out y (rowOut t s (at + 3) stop .row)) read) in
         stands-on (o .stands) l _ turn stop _ _ refl
 
-    attribute-comes : c ≡ 0 → a < most Attributes → RowStands Attributes s at stop
+    attribute-comes : c ≡ 0 → a < limit Attributes → RowStands Attributes s at stop
         → Comes s h (suc a) 0 stop (plus Attributes (rowOut Attributes s (at + 3) stop .row) x)
     unfolding rowsOf
     attribute-comes q few r = record {
@@ -172,7 +166,7 @@ module _ (s : List ℕ) where
       state = attribute-state (o .state) _ q;
     }
 
-    class-comes : c < most Classes → RowStands Classes s at stop → Comes s h a (suc c) stop (plus Classes (rowOut Classes s (at + 3) stop .row) x)
+    class-comes : c < limit Classes → RowStands Classes s at stop → Comes s h a (suc c) stop (plus Classes (rowOut Classes s (at + 3) stop .row) x)
     unfolding rowsOf
     class-comes few r = record {
       phase = InRows Classes;

@@ -6,6 +6,7 @@ use mathlib.Core.List.{List}
 use mathlib.Core.Path.{_≡_}
 use Prim.Native.Nat.{ℕ, suc, _+_, _<_}
 use lib.ListN.{getD, length}
+use Rattle.schema.specs.Numbers.{limit}
 use Rattle.schema.specs.declared.number.TableId.{TableId}
 use Rattle.schema.specs.declared.number.TableId.the-variants.{Attributes, Classes}
 use Rattle.rows_format.specs.Formats.{columnsOf}
@@ -33,11 +34,6 @@ HeadingValue s at stop = (stop ≡ at + 4) × (getD s (at + 3) 0 ≡ 0x01)
 abbrev pub RowStops : TableId → List ℕ → ℕ → ℕ → RowRead → Type 0
 RowStops t s at stop = ValueStops (columnsOf (Row t)) s stop (at + 3)
 
--- "at most 128 classes and 256 attributes"
-unfoldable pub most : TableId → ℕ
-most Attributes = 256
-most Classes = 128
-
 -- how many rows of a table there are, of so many attribute rows and class rows
 unfoldable pub rowsOf : TableId → ℕ → ℕ → ℕ
 rowsOf Attributes attributes classes = attributes
@@ -52,8 +48,8 @@ pub record RowStands (t : TableId) (s : List ℕ) (at stop : ℕ) : Type 0 where
 pub data AcceptedTo (s : List ℕ) : (headings attributes classes at : ℕ) → Type 0 where
   none : AcceptedTo s 0 0 0 0
   heading : {stop : ℕ} → Stands s 0 0x01 stop → HeadingValue s 0 stop → AcceptedTo s 1 0 0 stop
-  attribute : {h a at stop : ℕ} → AcceptedTo s h a 0 at → a < most Attributes → RowStands Attributes s at stop → AcceptedTo s h (suc a) 0 stop
-  class : {h a c at stop : ℕ} → AcceptedTo s h a c at → c < most Classes → RowStands Classes s at stop → AcceptedTo s h a (suc c) stop
+  attribute : {h a at stop : ℕ} → AcceptedTo s h a 0 at → a < limit Attributes → RowStands Attributes s at stop → AcceptedTo s h (suc a) 0 stop
+  class : {h a c at stop : ℕ} → AcceptedTo s h a c at → c < limit Classes → RowStands Classes s at stop → AcceptedTo s h a (suc c) stop
 
 -- the rows that these fields give, in the order in which they stand
 unfoldable pub rowsGiven : {s : List ℕ} {h a c at : ℕ} → AcceptedTo s h a c at → Rows
@@ -66,7 +62,7 @@ rowsGiven {s} (class {at = at} {stop = stop} p few r) = plus Classes (rowOut Cla
 pub record NoRoom (t : TableId) (s : List ℕ) (attributes classes at : ℕ) : Type 0 where
   pub before : at < length s
   pub tagged : getD s at 0 ≡ rowTag t
-  pub filled : rowsOf t attributes classes ≡ most t
+  pub filled : rowsOf t attributes classes ≡ limit t
 
 -- what stands behind h headings, a attribute rows and c class rows cannot be accepted, with the place that is told: a field that is cut (R5, R6); a tag
 -- that no field of a sheet has; a heading that is not the first field (R12), or holds something else; an attribute row behind a class row (R4); or a row

@@ -25,11 +25,11 @@ use Rattle.sheet_read.specs.declared.read.Turn.{Turn}
 use Rattle.sheet_read.specs.declared.read.Turn.the-variants.{Stop}
 use Rattle.sheet_read.specs.Reading.{Rows, SheetOut, Step, fieldStep, headingOpen, isHeading, readSheet, roomAt, roomStep, rowOut}
 use Rattle.sheet_read.specs.Reading.{rowTurn, rowsIn, rowsOpen, sheetTag, takeField, takeHeading, takeTableRow, takeTagged}
-use Rattle.sheet_read.specs.Stopping.{AcceptedTo, HeadingValue, NoRoom, RowStands, RowStops, SheetStops, Stands, Unacceptable, most, rowTag}
+use Rattle.sheet_read.specs.Stopping.{AcceptedTo, HeadingValue, NoRoom, RowStands, RowStops, SheetStops, Stands, Unacceptable, rowTag}
 use Rattle.sheet_read.specs.Stopping.{rowsGiven, rowsOf}
 use Rattle.sheet_read.specs.TurnLaws.{stands-end, stands-stop, tagged-is}
 use Rattle.sheet_read.specs.AcceptedLaws.{Comes, Kind, aHeading, aRow, classes-open, comes, heading-tag, kind, neither}
-use Rattle.sheet_read.specs.AcceptedLaws.{most-limit, row-stops, row-tag, says-heading, unknown-tag}
+use Rattle.sheet_read.specs.AcceptedLaws.{row-stops, row-tag, says-heading, unknown-tag}
 use Rattle.rows_read.specs.declared.read.RowRead.the-variants as row
 use Rattle.sheet_read.specs.declared.read.Room.{Room}
 use Rattle.sheet_read.specs.declared.read.Room.the-variants as room
@@ -58,7 +58,7 @@ module _ (s : List ℕ) where
     unfolding roomAt roomStep
     no-room t n =
         let is : eqb (length (rowsIn t x)) (limit t) ≡ true =
-        says-true (says-eq (length (rowsIn t x)) (limit t)) (o .state .held t ∙ n .filled ∙ most-limit t) in
+        says-true (says-eq (length (rowsIn t x)) (limit t)) (o .state .held t ∙ n .filled) in
         let full : roomAt (sheetTag (getD s at 0)) x ≡ room.Full t =
         ap (λ (k : SheetTag). roomAt k x) (row-tag t (n .tagged)) ∙ ap (λ (b : Bool). cond b (room.Full t) room.Free) is in
         by-room full
@@ -79,7 +79,7 @@ module _ (s : List ℕ) where
               by-tag (row-tag t e)
               ∙ ap (λ (b : Bool). cond b (room.Full t) room.Free)
               (says-false (says-eq (length (rowsIn t x)) (limit t))
-              (λ q. free t (record { before = l; tagged = e; filled = sym (o .state .held t) ∙ q ∙ sym (most-limit t) })))
+              (λ q. free t (record { before = l; tagged = e; filled = sym (o .state .held t) ∙ q })))
 
       -- a field that is cut
       cut-turn : FieldCut s (length s) at → at < length s → turn ≡ Stop (Bad at)
@@ -148,7 +148,7 @@ module _ (s : List ℕ) where
   -- a heading is there or not, and the rows fit
   record Counts (h a c : ℕ) : Type 0 where
     headings : (h ≡ 0) ⊎ (h ≡ 1)
-    few : (t : TableId) → rowsOf t a c ≤ most t
+    few : (t : TableId) → rowsOf t a c ≤ limit t
 
   counts : {h a c at : ℕ} → AcceptedTo s h a c at → Counts h a c
   unfolding rowsOf
@@ -189,9 +189,9 @@ module _ (s : List ℕ) where
         refuse {place} u = (Bad place, SheetStops.refused p free u)
 
         module _ {stop : ℕ} where
-          fits : (t : TableId) → Stands s at (rowTag t) stop → rowsOf t a c < most t
+          fits : (t : TableId) → Stands s at (rowTag t) stop → rowsOf t a c < limit t
           fits t f =
-              let d : ¬ (rowsOf t a c ≡ most t) = λ q. free t (record { before = l; tagged = f .tagged; filled = q }) in
+              let d : ¬ (rowsOf t a c ≡ limit t) = λ q. free t (record { before = l; tagged = f .tagged; filled = q }) in
               omega (arith, counts p .few t, d)
 
           on : {tag : ℕ} → Stands s at tag stop → at < stop
@@ -245,7 +245,7 @@ module _ (s : List ℕ) where
         where
           decide : (t : TableId) → NoRoom t s a c at ⊎ (¬ (NoRoom t s a c at))
           decide t = ⊎-elim (λ e. inl (record { before = l; tagged = e .1 .0; filled = e .1 .1 })) (λ d. inr (λ n. d .1 (n .tagged, n .filled)))
-              (says-split (says-and (says-eq (getD s at 0) (rowTag t)) (says-eq (rowsOf t a c) (most t))))
+              (says-split (says-and (says-eq (getD s at 0) (rowTag t)) (says-eq (rowsOf t a c) (limit t))))
 
           room-or-none : ((t : TableId) × NoRoom t s a c at) ⊎ ((t : TableId) → ¬ (NoRoom t s a c at))
           room-or-none =

@@ -9,12 +9,11 @@ use native.Mathlib.Omega.{arith}
 use lib.ListN.{length, drop, take, length-append}
 use lib.Seq.{length-take-le}
 use Rattle.prelude.specs.SaysLaws.{true-or-false}
-use Rattle.prelude.specs.BigEndian.{bigEndian}
 use Rattle.prelude.specs.Part.{part, splice}
 use Rattle.prelude.specs.PartLaws.{part-length}
 use Rattle.prelude.specs.SpliceLaws.{splice-part}
 use Rattle.wire.specs.Wire.{fieldAt, fieldBytes}
-use Rattle.wire.specs.WireLaws.{field-is, field-length, field-read, field-whole, value-read}
+use Rattle.wire.specs.WireLaws.{field-is, field-length, field-read, value-read}
 use Rattle.rows_format.specs.declared.column.Column.{Column}
 use Rattle.rows_format.specs.Columns.{columnWidth, cellAt, hasValue, valueOf, fieldOf, writeBy, laid, Sound}
 use Rattle.rows_format.specs.ColumnsLaws.{laid-cons, field-none, field-some, width-small}
@@ -24,15 +23,11 @@ use Rattle.rows_format.specs.FormatsLaws.{distinct, format-distinct, format-lai
 use Rattle.rows_format.specs.ShortLaws.{field-bound}
 use Rattle.rows_read.specs.Stopping.{FieldStands, columnAt, valueAt}
 use Rattle.rows_read.specs.OneStopLaws.{one-column}
+use Rattle.rows_read.specs.PlaceLaws.{field-stands}
 use Rattle.sheet_round_trip.specs.Exact.{FieldsStand, none, more, Stands}
 use Rattle.wire.specs.declared.FieldRead.the-variants as fields
 
--- ---- a field that stands is the one that is read there
-
-pub stands-read : {s : List ℕ} {end at tag stop : ℕ} → FieldStands s end at tag stop → fieldAt s at end ≡ fields.Field tag (at + 3) stop
-stands-read {s} {end} {at} {tag} {stop} f =
-    sym (field-whole s at end _ refl (omega (arith, f .ends, f .within)))
-    ∙ ap (λ (t : ℕ). fields.Field t (at + 3) (at + 3 + bigEndian 2 (at + 1) s)) (f .tagged) ∙ ap (fields.Field tag (at + 3)) (sym (f .ends))
+-- ---- a field that is read stands there
 
 pub read-stands : (s : List ℕ) (at end tag start stop : ℕ) → fieldAt s at end ≡ fields.Field tag start stop → FieldStands s end at tag stop
 read-stands s at end tag start stop e =
@@ -157,7 +152,7 @@ module _ (row s : List ℕ) (end : ℕ) where
         in-front : (from tag stop : ℕ) → from ≡ length p → FieldStands s end from tag stop → (r .tag ≡ tag) × (stop ≡ length p + 3 + length v)
         in-front from tag stop is g =
             let same : fields.Field (r .tag) (length p + 3) (length p + 3 + length v) ≡ fields.Field tag (from + 3) stop =
-            sym first ∙ ap (λ (n : ℕ). fieldAt s n end) (sym is) ∙ stands-read g in
+            sym first ∙ ap (λ (n : ℕ). fieldAt s n end) (sym is) ∙ field-stands g in
             (cc, cc)
 
         present-have : AllHave rs w → (from : ℕ) → from ≡ length p → (at tag stop : ℕ) → FieldsStand s end from at → FieldStands s end at tag stop

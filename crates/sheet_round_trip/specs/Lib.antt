@@ -8,4 +8,5 @@ pub mod WrittenLaws
 pub mod AcceptedLaws
 pub mod HeldLaws
 pub mod SheetLaws
+pub mod Longest
 pub mod LongestLaws

@@ -1,5 +1,4 @@
--- No sheet that is read or written is longer than 410,756 bytes: the heading, 256 attribute rows of at most 224 bytes and 128 class rows of at most 2761.
--- A row has at most one field for each column of its table, and a field at most its header and the longest value that its column's cell can hold.
+-- No sheet that is read or written is longer than `longestSheet`, and no row in it longer than `longestRow`.
 use mathlib.Core.Bool.{Bool, true, false, cond, true≢false}
 use mathlib.Core.List.{List, [], _∷_, _++_}
 use mathlib.Core.Logic.{_⊎_, inl, inr}
@@ -38,6 +37,7 @@ use Rattle.sheet_read.specs.Reading.{Rows, headingOpen, isHeading, plus, positi
 use Rattle.sheet_read.specs.ReadingLaws.{sheet-sound}
 use Rattle.sheet_read.specs.Stopping.{rowTag}
 use Rattle.sheet_write.specs.Writing.{heading, rowField, rowFields, sheetBytes}
+use Rattle.sheet_round_trip.specs.Longest.{longestRow, longestSheet}
 use Rattle.sheet_round_trip.specs.WalkLaws.{Goes, accepted-ends}
 use Rattle.rows_read.specs.declared.read.RowRead.the-variants as row
 
@@ -55,10 +55,6 @@ longestValue (Entries table) = limit table * 2
 unfoldable longestFields : List Column → ℕ
 longestFields [] = 0
 longestFields (r ∷ rs) = 3 + longestValue (r .encoding) + longestFields rs
-
-abbrev longestRow : TableId → ℕ
-longestRow Attributes = 224
-longestRow Classes = 2761
 
 behind-first : (n : ℕ) (cell : List ℕ) → length (part 1 n cell) ≤ length cell - 1
 unfolding part
@@ -114,7 +110,7 @@ unfolding rowFields rowField
 fields-longest t x = rows-longest t (x .count) _
     (λ k. omega (arith, row-longest t (x .row k), field-length (rowTag t) (writeBy (columnsOf (Format.Row t)) (x .row k))))
 
-pub written-longest : (m : Schema) → m .attributes .count ≤ limit Attributes → m .classes .count ≤ limit Classes → length (sheetBytes m) ≤ 410756
+pub written-longest : (m : Schema) → m .attributes .count ≤ limit Attributes → m .classes .count ≤ limit Classes → length (sheetBytes m) ≤ longestSheet
 unfolding sheetBytes heading
 written-longest m a c =
     omega (
@@ -131,7 +127,7 @@ written-longest m a c =
 -- how many bytes the heading and the rows so far can have
 record Within (at : ℕ) (phase : Phase) (missing : Bool) (x : Rows) : Type 0 where
   late : missing ≡ false → headingOpen phase ≡ false
-  few : at ≤ cond missing 0 4 + 224 * length (x .attributes) + 2761 * length (x .classes)
+  few : at ≤ cond missing 0 4 + longestRow Attributes * length (x .attributes) + longestRow Classes * length (x .classes)
 
 module _ (s : List ℕ) (bytes : Bytes s) where
   row-size : (t : TableId) (start stop : ℕ) → stop ≤ length s → start ≤ stop → rowOut t s start stop ≡ out row.Read (rowOut t s start stop .row)
@@ -173,7 +169,7 @@ module _ (s : List ℕ) (bytes : Bytes s) where
         (omega (arith, i .start-is, i .stop-is, row-size t start stop (i .within) (omega (arith, i .start-is, i .stop-is)) read)) w);
   }
 
-  pub read-longest : readSheet s .answer ≡ Read → length s ≤ 410756
+  pub read-longest : readSheet s .answer ≡ Read → length s ≤ longestSheet
   unfolding headingOpen position
   read-longest e =
       let last = accepted-ends s Within goes (record { late = λ q. absurd (true≢false q); few = omega arith }) e in

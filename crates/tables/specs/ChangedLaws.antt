@@ -1,14 +1,12 @@
 -- A replaced row and an added row are such changes.
-use mathlib.Core.Bool.{Bool, true, false}
+use mathlib.Core.Bool.{true, false}
 use mathlib.Core.List.{List}
 use mathlib.Core.Logic.{_⊎_, inl, inr, ⊎-elim}
-use mathlib.Core.Path.{_≡_, refl, sym, ap, _∙_}
+use mathlib.Core.Path.{_≡_, refl, sym}
 use Prim.Native.Nat.{ℕ, suc, _<_}
 use native.Mathlib.Decide.{ℕ-discrete}
 use native.Mathlib.Omega.{arith}
 use Rattle.prelude.specs.SaysLaws.{says-split, says-test}
-use Rattle.prelude.specs.Below.{anyBelow}
-use Rattle.prelude.specs.BelowLaws.{any-one}
 use Rattle.schema.specs.Row.{isDefunct}
 use Rattle.schema.specs.declared.number.TableId.{TableId}
 use Rattle.schema.specs.declared.number.TableId.the-variants.{Attributes, Classes}
@@ -32,10 +30,6 @@ plus-changed t new =
 -- ---- what stays
 
 module _ {k : ℕ} {t u : Table} (h : ChangedAt k t u) where
-  -- a test of a row by itself: where no row passed it before, only row k can pass it now
-  pub any-changed : (f : List ℕ → Bool) → ((j : ℕ) → j < t .count → f (t .row j) ≡ false) → anyBelow (u .count) (λ j. f (u .row j)) ≡ f (u .row k)
-  any-changed f e = any-one (u .count) k (λ j. f (u .row j)) (h .here) (λ j l d. ap f (h .other j d (h .old j l d)) ∙ e j (h .old j l d))
-
   -- a live row stays live, unless it is row k, which has become defunct, and the naming row is active
   pub live-stays : (naming : List ℕ) (n : ℕ)
       → (n ≡ k → isDefunct (u .row k) ≡ true → (isDefunct (t .row k) ≡ true) ⊎ (isDefunct naming ≡ true)) → Live t naming n → Live u naming n

@@ -16,7 +16,6 @@ use Rattle.schema.specs.Layout.{rowsAt, rowWidth, storeLength}
 use Rattle.schema.specs.Store.{countIn, tableIn}
 use Rattle.schema.specs.declared.number.TableId.{TableId}
 use Rattle.schema.specs.declared.number.TableId.the-variants.{Attributes, Classes}
-use Rattle.schema.specs.NumbersLaws.{apart}
 use Rattle.tables.specs.Filled.{joined, AllWide, countBytes, header, filledStore, putIn, plusIn}
 
 -- ---- rows one after the other
@@ -172,12 +171,6 @@ store-plus t rows row s wide e l =
         ≡ header t (length rows) ++
         (joined (rows ++ (row ∷ [])) ++ (zeros (rowWidth t * limit t - rowWidth t * length rows - rowWidth t) ++ drop (storeLength t) s))
     put = unfold filledStore in (filled-put (header t (length rows)) (rowWidth t) (limit t) rows (two-bytes t (length rows)) wide (omega arith) s row e l)
-
--- one row more is counted, whatever the store held
-pub plus-in-count : (t : TableId) (row s : List ℕ) → countIn t s < limit t → countIn t (plusIn t row s) ≡ countIn t s + 1
-unfolding plusIn splice
-plus-in-count Attributes row s l = number-of-bytes 2 (countIn Attributes s + 1) [] _ (omega arith)
-plus-in-count Classes row s l = refl
 
 -- an empty store is zero
 two-zeros : zeros 2 ≡ 0 ∷ 0 ∷ []

@@ -10,14 +10,14 @@ use Rattle.schema.specs.Numbers.{limit}
 use Rattle.schema.specs.Layout.{rowWidth}
 use Rattle.schema.specs.Store.{table, schemaIn, storeOf}
 use Rattle.schema.specs.StoreLaws.{table-row-length}
-use Rattle.tables.specs.Shaped.{Bounded, TableShaped, Shaped}
+use Rattle.tables.specs.Shaped.{TableShaped, Shaped}
 
 pub shaped-table : (t : TableId) {a c : List ℕ} → Shaped a c → TableShaped t (storeOf t a c)
 shaped-table Attributes h = h .attributes
 shaped-table Classes h = h .classes
 
 module _ {a c : List ℕ} (h : Shaped a c) where
-  -- a row that is there has a number within the limit, its width, and bounds its parts
+  -- a row that is there has a number within the limit, and its width
   pub shaped-within : (t : TableId) (k : ℕ) → k < table t (schemaIn a c) .count → k < limit t
   shaped-within Attributes k l = omega (arith, h .attributes .few)
   shaped-within Classes k l = omega (arith, h .classes .few)
@@ -25,7 +25,3 @@ module _ {a c : List ℕ} (h : Shaped a c) where
   pub shaped-wide : (t : TableId) (k : ℕ) → k < table t (schemaIn a c) .count → length (table t (schemaIn a c) .row k) ≡ rowWidth t
   shaped-wide Attributes k l = table-row-length Attributes a k (h .attributes .long) (omega (arith, h .attributes .few))
   shaped-wide Classes k l = table-row-length Classes c k (h .classes .long) (omega (arith, h .classes .few))
-
-  pub shaped-bounded : (t : TableId) (k : ℕ) → k < table t (schemaIn a c) .count → Bounded t (table t (schemaIn a c) .row k)
-  shaped-bounded Attributes k l = h .attributes .bounded k l
-  shaped-bounded Classes k l = h .classes .bounded k l

@@ -5,8 +5,7 @@ use mathlib.Core.Path.{_≡_, sym, ap, _∙_}
 use mathlib.Core.Bool.{true}
 use Prim.Native.Nat.{_-_, _≤_}
 use Rattle.prelude.specs.BelowLaws.{all-zero, all-more, all-not, all-end}
-use Rattle.schema.specs.Store.{tableIn, table}
-use Rattle.schema.specs.StoreLaws.{table-row-wide}
+use Rattle.schema.specs.Store.{tableIn}
 use Rattle.rows_read.specs.WellFormed.{wellFormed}
 use Rattle.tables_shape.specs.Shape.{rowsFormed}
 use Rattle.tables_shape.proofs.rows_formed.Statement.{statement}

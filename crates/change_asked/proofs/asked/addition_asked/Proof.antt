@@ -4,10 +4,10 @@ use borrow.Author.Needs.{needs}
 use borrow.Author.Tests.{le-leb, lt-leb}
 use Rattle.change_asked.proofs.asked.addition_asked.Statement.{statement}
 use Rattle.change_asked.specs.Asked.{additionAsked}
-use Rattle.change_rows.specs.RowsLaws.{common-narrow, narrow-row}
 use Rattle.prelude.specs.First.{firstOf}
 use Rattle.prelude.specs.PartLaws.{part-length}
 use Rattle.schema.specs.Layout.{rowWidth}
+use Rattle.schema.specs.LayoutLaws.{common-narrow, narrow-row}
 use Rattle.change_asked.proofs.asked.addition_asked.Tie as tie
 
 row-limit-requires : tie.Need-row-limit-requires

@@ -3,10 +3,10 @@ use native.Mathlib.Omega.{arith}
 use mathlib.Core.Path.{_∙_, ap, sym}
 use borrow.Author.Needs.{needs}
 use Rattle.change_asked.proofs.asked.target_asked.Statement.{statement}
-use Rattle.change_rows.specs.RowsLaws.{common-narrow}
 use Rattle.prelude.specs.First.{firstOf}
 use Rattle.schema.specs.Numbers.{numberOf, tableOf}
 use Rattle.schema.specs.Layout.{rowWidth}
+use Rattle.schema.specs.LayoutLaws.{common-narrow}
 use Rattle.schema.specs.Store.{schemaIn, table}
 use Rattle.tables.specs.ShapedLaws.{shaped-wide, shaped-within}
 use Rattle.change_asked.specs.Asked.{targetAsked}

@@ -1,8 +1,8 @@
 use mathlib.Core.Path.{_∙_, ap, sym}
 use Rattle.prelude.specs.PartLaws.{part-length}
 use Rattle.schema.specs.Layout.{rowWidth}
+use Rattle.schema.specs.LayoutLaws.{narrow-row}
 use Rattle.change_rows.specs.Rows.{tableFor}
-use Rattle.change_rows.specs.RowsLaws.{narrow-row}
 use Rattle.change_rows.proofs.Applying.{added-store, edited-back, lent-wide, row-inside, row-target, target-start}
 use native.Mathlib.Omega.{arith}
 use borrow.Author.Needs.{needs}

@@ -4,13 +4,13 @@ use mathlib.Core.Path.{ap, _∙_, ap₂}
 use borrow.Author.Needs.{needs}
 use Rattle.change_rows.proofs.apply.restore.Statement.{statement}
 use Rattle.schema.specs.Layout.{rowWidth}
+use Rattle.schema.specs.LayoutLaws.{narrow-row}
 use Rattle.schema.specs.Numbers.{tableOf, numberOf}
 use Rattle.tables.specs.Filled.{countBytes, putIn}
 use Rattle.tables.specs.PutLaws.{put-length}
 use Rattle.prelude.specs.Part.{part, splice}
 use Rattle.prelude.specs.PartLaws.{part-length}
 use Rattle.change_rows.specs.Stores.{restored}
-use Rattle.change_rows.specs.RowsLaws.{narrow-row}
 use Rattle.change_rows.proofs.apply.restore.Tie as tie
 
 table-of-requires : tie.Need-table-of-requires

@@ -3,9 +3,9 @@ use mathlib.Core.Path.{_∙_, ap₂}
 use borrow.Author.Needs.{needs}
 use Rattle.change_rows.proofs.apply.save_row.Statement.{statement}
 use Rattle.schema.specs.Numbers.{numberOf, tableOf}
+use Rattle.schema.specs.LayoutLaws.{narrow-row}
 use Rattle.schema.specs.StoreLaws.{table-row-length}
 use Rattle.prelude.specs.Part.{padded}
-use Rattle.change_rows.specs.RowsLaws.{narrow-row}
 use Rattle.change_rows.proofs.apply.save_row.Tie as tie
 
 row-requires : tie.Need-row-requires

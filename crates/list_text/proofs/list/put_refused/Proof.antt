@@ -6,7 +6,6 @@ use Rattle.list_text.specs.TextLaws.{word-length}
 use Rattle.list_text.proofs.Lines.{refused-length, refused-written}
 use Rattle.list_text.proofs.Room.{refused-short}
 use Rattle.list_text.proofs.list.put_refused.Statement.{statement}
-use Rattle.schema.specs.Answers.{answer}
 use Rattle.list_text.proofs.list.put_refused.Tie as tie
 
 slice-aggregate-put-word : tie.Need-slice-aggregate-put-word

@@ -6,7 +6,7 @@ use mathlib.Core.Bool.{false}
 use Rattle.prelude.specs.Below.{anyBelow}
 use Rattle.prelude.specs.BelowLaws.{any-zero, any-more, any-end, first-found, first-absent}
 use Rattle.rules.specs.Rules.{breaks}
-use Rattle.schema.specs.Store.{schemaIn, table, tableIn}
+use Rattle.schema.specs.Store.{schemaIn, tableIn}
 use Rattle.tables.specs.ShapedLaws.{shaped-table}
 use Rattle.rules.proofs.Asked.{breaks-at, row-there}
 use native.Mathlib.Omega.{arith}

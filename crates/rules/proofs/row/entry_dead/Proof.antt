@@ -57,9 +57,11 @@ returns-3 c =
     let c₅ = c₄ .before .before .before .before in
     let start = c₅ .before .before .before .before in
     let table = start .args .table in
-    let beyond = number-beyond table (c₅ .added .given .0 .1 .1 .0) (sym (c₁ .number-read .ensures) ∙ c .enum-told3 .given .1) in
-    let gone : tableIn table (start .args .store .now) .count ≤ c₅ .added .given .0 .1 .1 .0 = omega (arith, beyond, start .pre .0 .few) in rw
-    (c₅ .added .given .1, eq-eqb _ _ (c₄ .if1 .left), sym (c₃ .same-table .ensures) ∙ not-false _ (c₂ .if2 .left), le-ltb _ _ gone)
+    let entry = c₅ .added .given .0 in
+    let number = entry .1 .1 .0 in
+    let beyond = number-beyond table number (sym (c₁ .number-read .ensures) ∙ c .enum-told3 .given .1) in
+    let gone : tableIn table (start .args .store .now) .count ≤ number = omega (arith, beyond, start .pre .0 .few) in
+    rw (c₅ .added .given .1, eq-eqb _ _ (c₄ .if1 .left), sym (c₃ .same-table .ensures) ∙ not-false _ (c₂ .if2 .left), le-ltb _ _ gone)
 
 is-live-requires : tie.Need-is-live-requires
 is-live-requires c κs =

@@ -53,8 +53,10 @@ returns c =
     let c₁ = c .before .before .before .before in
     let c₂ = c₁ .before .before in
     let begin = c₂ .before .before .before .before in
+    let last = c₁ .read-row .last .1 .1 in
+    let row = last .1 .1 .0 in
     read-in-no (begin .args .table) (begin .args .s .now) (begin .args .start) (begin .args .stop) (c₂ .row-width .result) (begin .args .scratch .now)
-    (c₂ .row-width .ensures) (begin .pre .0 .2) (c₁ .read-row .result) (c₁ .read-row .last .1 .1 .1 .1 .0) (c₁ .read-row .ensures .0)
+    (c₂ .row-width .ensures) (begin .pre .0 .2) (c₁ .read-row .result) row (c₁ .read-row .ensures .0)
     (c₁ .read-row .ensures .1) _ (c .enum-told2 .given .1) (begin .args .store .now)
 
 sub-push-row : tie.Need-sub-push-row
@@ -69,8 +71,11 @@ part-push-row-end c =
     let c₂ = c₁ .before .before in
     let start = c₂ .before .before .before .before in
     let scratch = start .args .scratch .now in
-    front-room (start .args .table) (c₂ .row-width .result) scratch (c₂ .row-width .ensures) (start .pre .0 .2) (c₁ .read-row .last .1 .1 .1 .1 .0)
-    (c₁ .read-row .kept .1 .1 .1 .1 .0) (drop (c₂ .row-width .result - 0) scratch)
+    let last = c₁ .read-row .last .1 .1 in
+    let row = last .1 .1 .0 in
+    let kept = c₁ .read-row .kept .1 .1 in
+    front-room (start .args .table) (c₂ .row-width .result) scratch (c₂ .row-width .ensures) (start .pre .0 .2) row (kept .1 .1 .0)
+    (drop (c₂ .row-width .result - 0) scratch)
 
 push-row-requires : tie.Need-push-row-requires
 push-row-requires c κs = search needs
@@ -90,10 +95,13 @@ returns-2 c =
     let begin = c₄ .before .before .before .before in
     let table = begin .args .table in
     let scratch = begin .args .scratch .now in
+    let last = c₃ .read-row .last .1 .1 in
+    let row = last .1 .1 .0 in
+    let kept = c₃ .read-row .kept .1 .1 in
     read-in-yes table (begin .args .s .now) (begin .args .start) (begin .args .stop) (c₄ .row-width .result) scratch (c₄ .row-width .ensures)
-    (begin .pre .0 .2) (c₃ .read-row .result) (c₃ .read-row .last .1 .1 .1 .1 .0) (c₃ .read-row .ensures .0) (c₃ .read-row .ensures .1)
+    (begin .pre .0 .2) (c₃ .read-row .result) row (c₃ .read-row .ensures .0) (c₃ .read-row .ensures .1)
     (c₂ .enum-told .given .1) (begin .args .store .now) _ (c₁ .push-row .last .1 .0) (front-back table (c₄ .row-width .result) scratch
-    (c₄ .row-width .ensures) (begin .pre .0 .2) (c₃ .read-row .last .1 .1 .1 .1 .0) (c₃ .read-row .kept .1 .1 .1 .1 .0)
+    (c₄ .row-width .ensures) (begin .pre .0 .2) row (kept .1 .1 .0)
     (drop (c₄ .row-width .result - 0) scratch)) (c₁ .push-row .ensures)
 
 pub read-into-spec : {M : Type 1} → statement M

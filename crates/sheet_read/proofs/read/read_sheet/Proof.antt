@@ -1,12 +1,11 @@
-use Rattle.sheet_read.proofs.Walk.{reading-before, reading-over}
 use Rattle.prelude.specs.Part.{splice, zeros}
 use Rattle.sheet_read.proofs.Steps.{held-few}
-use Rattle.sheet_read.proofs.Walk.{Reading, reading-begun, left-emptied, reading-end, reading-stop, reading-forward, reading-on}
+use Rattle.sheet_read.proofs.Walk.{Reading, left-emptied, reading-before, reading-begun, reading-end, reading-forward, reading-on, reading-over}
+use Rattle.sheet_read.proofs.Walk.{reading-stop}
 use mathlib.Core.Bool.{true, false}
 use mathlib.Core.Path.{_≡_, refl, ap, _∙_}
 use lib.ListN.{length}
 use Prim.Native.Nat.{_-_}
-use Rattle.sheet_read.proofs.Walk.{Reading, reading-end, reading-stop, reading-forward, reading-on}
 use native.Mathlib.Omega.{arith}
 use borrow.Author.Needs.{needs}
 use Rattle.sheet_read.proofs.read.read_sheet.Statement.{statement}
@@ -80,14 +79,18 @@ same-length c =
     let c₁ = c .before .before .before .before .before .before .before in
     let c₂ = c₁ .before .before .before .before .before in
     let c₃ = c₂ .before .before .before .before .before .before .before .before in
-    c₁ .take-field .kept .1 .1 .1 .1 .0 ∙ c₂ .loop .inv .1 ∙ c₃ .empty .kept .0
+    let kept = c₁ .take-field .kept .1 .1 in
+    let stores = kept .1 .1 in
+    stores .0 ∙ c₂ .loop .inv .1 ∙ c₃ .empty .kept .0
 
 same-length-2 : tie.Need-same-length-2 Inv-loop μ-loop
 same-length-2 c =
     let c₁ = c .before .before .before .before .before .before .before in
     let c₂ = c₁ .before .before .before .before .before in
     let c₃ = c₂ .before .before .before in
-    c₁ .take-field .kept .1 .1 .1 .1 .1 .0 ∙ c₂ .loop .inv .2 ∙ c₃ .empty2 .kept .0
+    let kept = c₁ .take-field .kept .1 .1 in
+    let stores = kept .1 .1 in
+    stores .1 .0 ∙ c₂ .loop .inv .2 ∙ c₃ .empty2 .kept .0
 
 returns : tie.Need-returns Inv-loop μ-loop
 returns c =
@@ -127,12 +130,13 @@ loop-again c =
     let c₂ = c₁ .before .before .before .before .before .before in
     let c₃ = c₂ .before .before .before in
     let c₄ = c₃ .before in
-    let c₅ = c₄ .before in (
+    let c₅ = c₄ .before in
+    let kept = c₂ .take-field .kept .1 .1 in
+    let stores = kept .1 .1 in (
       reading-on (c₅ .loop .inv .0) (reading-before (c₅ .loop .inv .0) _ (c₄ .ends-at .ensures) (c₃ .if1 .taken)) _ _ _ (c₂ .take-field .ensures) _ _ _
-          (c₁ .turn .given .1) (c₂ .take-field .kept .1 .1 .1 .1 .0) (c₂ .take-field .kept .1 .1 .1 .1 .1 .0),
-      c₂ .take-field .kept .1 .1 .1 .1 .0 ∙
-          c₅ .loop .inv .1,
-      c₂ .take-field .kept .1 .1 .1 .1 .1 .0 ∙ c₅ .loop .inv .2,
+          (c₁ .turn .given .1) (stores .0) (stores .1 .0),
+      stores .0 ∙ c₅ .loop .inv .1,
+      stores .1 .0 ∙ c₅ .loop .inv .2,
     )
 
 same-length-3 : tie.Need-same-length-3 Inv-loop μ-loop

@@ -1,7 +1,6 @@
 use mathlib.Core.Path.{ap, _∙_}
 use Rattle.schema.specs.Store.{countIn}
 use Rattle.sheet_read.proofs.Steps.{no-row, room-none, room-left, lent-table}
-use mathlib.Core.Path.{ap, _∙_}
 use borrow.Author.Needs.{needs}
 use Rattle.sheet_read.proofs.read.room_in.Statement.{statement}
 use Rattle.sheet_read.proofs.read.room_in.Tie as tie

@@ -1,8 +1,6 @@
 use Rattle.sheet_read.proofs.Steps.{took-row, table-room, as-attributes, as-attributes-kept, as-classes, as-classes-kept}
 use mathlib.Core.Path.{_∙_}
 use Rattle.schema.specs.declared.number.TableId.the-variants.{Attributes, Classes}
-use Rattle.schema.specs.Store.{table}
-use Rattle.sheet_read.proofs.Steps.{took-row, table-room}
 use borrow.Author.Needs.{needs}
 use Rattle.sheet_read.proofs.read.take_table_row.Statement.{statement}
 use Rattle.sheet_read.proofs.read.take_table_row.Tie as tie

@@ -8,7 +8,6 @@ use Rattle.schema.specs.declared.number.TableId.{TableId}
 use Rattle.schema.specs.declared.number.RowId.{RowId}
 use Rattle.schema.specs.Numbers.{tableOf, numberOf}
 use Rattle.schema.specs.NumbersLaws.{id-table, id-number}
-use Rattle.schema.specs.Store.{table}
 use Rattle.tables.proofs.Widths.{limit-u16}
 use Rattle.tables.specs.Filled.{countBytes, putIn, plusIn}
 use Rattle.tables.proofs.store.push_row.Statement.{statement}
