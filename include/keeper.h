@@ -52,9 +52,9 @@ extern "C" {
 #define KEEPER_LONGEST_SHEET 410756
 
 /*
- * So many bytes of stack are enough for every call. This is measured, not proved: the most was some 46,100 bytes, for
- * a plain change of a full schema in which every list is nearly full; a quick change takes some 36,200 for a removal,
- * and else some 5,700 (docs/LAYOUT.md).
+ * So many bytes of stack are enough for every call. This is measured, not proved: the most was some 46,400 bytes, for
+ * a quick change that removes an entry, and some 46,100 for a plain change, of a full schema in which every list is
+ * nearly full; any other quick change takes some 15,900 (docs/LAYOUT.md).
  */
 #define KEEPER_STACK 65536
 
