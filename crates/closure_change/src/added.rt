@@ -9,6 +9,7 @@ use schema::layout::ATTRIBUTE_SET;
 use schema::layout::CLASS_SET;
 use schema::layout::CLOSURE_WIDTH;
 use schema::number::ClassNumber;
+use schema::number::class_at;
 use schema::store::class_row;
 use schema::store::closure_row;
 use schema::store::closure_start;
@@ -61,7 +62,7 @@ fn write_named(classes: &[u8], closure: &[u8], n: ClassNumber, out: &mut [u8])
     clear(out);
     let mut y = 0;
     while y < ClassNumber::LIMIT {
-        join_named(classes, closure, n, ClassNumber(y), out);
+        join_named(classes, closure, n, class_at(y), out);
         y += 1;
     }
 }

@@ -7,6 +7,7 @@ use schema::layout::CLOSURE_LENGTH;
 use schema::layout::CLOSURE_WIDTH;
 use schema::layout::REACHED;
 use schema::number::ClassNumber;
+use schema::number::class_at;
 use schema::store::closure_row;
 use schema::store::closure_start;
 ghost use mathlib.Core.Path.{_≡_};
@@ -62,7 +63,7 @@ pub fn join_all(closure: &mut [u8], n: usize, k: ClassNumber, more: &[u8])
 {
     let mut c = 0;
     while c < ClassNumber::LIMIT {
-        join_where(closure, n, k, ClassNumber(c), more);
+        join_where(closure, n, k, class_at(c), more);
         c += 1;
     }
 }
@@ -85,7 +86,7 @@ fn take_all(fresh: &[u8], n: usize, k: ClassNumber, closure: &mut [u8])
 {
     let mut c = 0;
     while c < ClassNumber::LIMIT {
-        take_where(fresh, n, k, ClassNumber(c), closure);
+        take_where(fresh, n, k, class_at(c), closure);
         c += 1;
     }
 }

@@ -1,7 +1,7 @@
 -- The first number that passes a test, as the walk's enum answer.
 use mathlib.Core.Bool.{Bool, true, false}
 use mathlib.Core.Logic.{_⊎_, inl, inr}
-use mathlib.Core.Path.{_≡_, ap}
+use mathlib.Core.Path.{_≡_, ap, _∙_}
 use Prim.Native.Nat.{ℕ, _<_}
 use native.Mathlib.Omega.{arith}
 use Rattle.prelude.specs.Below.{anyBelow, firstBelow}
@@ -13,9 +13,9 @@ use Rattle.graph.specs.Visit.{firstClass}
 
 module _ (n : ℕ) (p : ℕ → Bool) where
   -- for a loop: the first is found, and none is
-  pub class-found : (k : ℕ) → k < n → ((j : ℕ) → j < k → p j ≡ false) → p k ≡ true → Class (record { 0 = k }) ≡ firstClass n p
+  pub class-found : (k : ℕ) (d : ClassNumber) → d .0 ≡ k → k < n → ((j : ℕ) → j < k → p j ≡ false) → p k ≡ true → Class d ≡ firstClass n p
   unfolding firstClass
-  class-found k l f e = rw (any-here p k n l e, first-found p k n l (any-false p k f) e)
+  class-found k d i l f e = ap (λ (j : ℕ). Class (record { 0 = j })) i ∙ rw (any-here p k n l e, first-found p k n l (any-false p k f) e)
 
   pub class-none : ((k : ℕ) → k < n → p k ≡ false) → Nothing ≡ firstClass n p
   unfolding firstClass

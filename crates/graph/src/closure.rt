@@ -8,6 +8,7 @@ use prelude::part::same;
 use schema::layout::CLOSURE_LENGTH;
 use schema::number::ClassNumber;
 use schema::number::TableId;
+use schema::number::class_at;
 use schema::store::row_count;
 ghost use mathlib.Core.Path.{_≡_};
 ghost use Prim.Native.Nat.{_≤_};
@@ -37,7 +38,7 @@ pub fn refresh_all(classes: &[u8], closure: &mut [u8])
     let n = row_count(TableId::Classes, classes);
     let mut k = 0;
     while k < n {
-        pass_on(closure, n, ClassNumber(k));
+        pass_on(closure, n, class_at(k));
         k += 1;
     }
 }

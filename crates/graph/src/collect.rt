@@ -6,6 +6,7 @@ use schema::layout::ATTRIBUTE_SET;
 use schema::layout::MANDATORY;
 use schema::number::ClassNumber;
 use schema::number::TableId;
+use schema::number::class_at;
 use schema::store::class_row;
 use schema::store::row_count;
 ghost use mathlib.Core.Path.{_≡_};
@@ -39,7 +40,7 @@ fn add_all(classes: &[u8], chosen: Visited, at: usize, out: &mut [u8])
     let n = row_count(TableId::Classes, classes);
     let mut k = 0;
     while k < n {
-        add_chosen(classes, chosen, at, ClassNumber(k), out);
+        add_chosen(classes, chosen, at, class_at(k), out);
         k += 1;
     }
 }

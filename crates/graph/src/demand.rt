@@ -5,6 +5,7 @@ use prelude::part::same;
 use schema::layout::ATTRIBUTE_SET;
 use schema::layout::DEMANDED;
 use schema::number::ClassNumber;
+use schema::number::class_at;
 use schema::store::closure_row;
 ghost use mathlib.Core.Bool.{not};
 ghost use mathlib.Core.Path.{_≡_};
@@ -37,7 +38,7 @@ pub fn demands_differ(classes: &[u8], closure: &[u8], n: usize) -> bool
 {
     let mut c = 0;
     while c < n {
-        if demand_differs(classes, closure, ClassNumber(c)) {
+        if demand_differs(classes, closure, class_at(c)) {
             return true;
         }
         c += 1;

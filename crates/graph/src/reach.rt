@@ -6,6 +6,7 @@ use schema::class::superclass;
 use schema::number::ClassNumber;
 use schema::number::ClassRead;
 use schema::number::TableId;
+use schema::number::class_at;
 use schema::store::class_row;
 use schema::store::row_count;
 ghost use mathlib.Core.Path.{_≡_};
@@ -44,7 +45,7 @@ fn first_unvisited(fixed: &[u8], other: &[u8], seen: Visited, start: usize, n: u
 {
     let mut d = start;
     while d < n {
-        let next = ClassNumber(d);
+        let next = class_at(d);
         if is_unvisited(fixed, other, seen, next) {
             return NextClass::Class(next);
         }

@@ -17,6 +17,7 @@ use schema::layout::REACHED;
 use schema::number::ClassNumber;
 use schema::number::ClassRead;
 use schema::number::TableId;
+use schema::number::class_at;
 use schema::store::class_row;
 use schema::store::closure_row;
 use schema::store::closure_start;
@@ -124,7 +125,7 @@ pub fn write_firsts(classes: &[u8], closure: &mut [u8])
 {
     let mut c = 0;
     while c < ClassNumber::LIMIT {
-        write_first_at(classes, ClassNumber(c), closure);
+        write_first_at(classes, class_at(c), closure);
         c += 1;
     }
 }
@@ -150,7 +151,7 @@ fn pass_to_all(closure: &mut [u8], n: usize, k: ClassNumber, own: &[u8])
 {
     let mut c = 0;
     while c < n {
-        pass_to(closure, k, own, ClassNumber(c));
+        pass_to(closure, k, own, class_at(c));
         c += 1;
     }
 }

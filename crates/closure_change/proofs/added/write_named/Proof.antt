@@ -32,6 +32,9 @@ loop-holds c =
           (start .args .closure .now) (start .args .n .0) _ (c₁ .clear .ensures ∙ ap zeros (start .pre .1 .1)),
     )
 
+class-at-requires : tie.Need-class-at-requires Inv-loop μ-loop
+class-at-requires c κs = search needs
+
 join-named-requires : tie.Need-join-named-requires Inv-loop μ-loop
 join-named-requires c κs = search needs
 
@@ -44,12 +47,14 @@ loop-less c = search needs
 loop-again : tie.Need-loop-again Inv-loop μ-loop
 loop-again c =
     let c₁ = c .before .before in
-    let c₂ = c₁ .before .before .before in
-    let start = c₂ .before .before .before .before .before .before .before .before in (
+    let c₂ = c₁ .before .before in
+    let c₃ = c₂ .before .before in
+    let start = c₃ .before .before .before .before .before .before .before .before in (
       search needs,
       ap length (c₁ .join-named .ensures) ∙ set-length closureWidth _,
       named-more (tableIn Classes (start .args .classes .now))
-          (start .args .closure .now) (start .args .n .0) (c₂ .loop .y) (c₂ .loop .out) _ (c₂ .loop .inv .2) (c₁ .join-named .ensures),
+          (start .args .closure .now) (start .args .n .0) (c₃ .loop .y) (c₃ .loop .out) _ (c₃ .loop .inv .2)
+          (rw (c₂ .class-at .ensures) at (c₁ .join-named .ensures)),
     )
 
 same-length : tie.Need-same-length Inv-loop μ-loop
@@ -73,6 +78,7 @@ write-named-spec =
     μ-loop
     clear-requires
     loop-holds
+    class-at-requires
     join-named-requires
     add-y
     loop-less

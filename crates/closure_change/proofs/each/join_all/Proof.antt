@@ -27,6 +27,9 @@ loop-holds c =
           (start .pre .0) (joined-wide (start .args .closure .now) (start .pre .0) (start .args .more .now)),
     )
 
+class-at-requires : tie.Need-class-at-requires Inv-loop μ-loop
+class-at-requires c κs = search needs
+
 join-where-requires : tie.Need-join-where-requires Inv-loop μ-loop
 join-where-requires c κs = search needs
 
@@ -39,13 +42,15 @@ loop-less c = search needs
 loop-again : tie.Need-loop-again Inv-loop μ-loop
 loop-again c =
     let c₁ = c .before .before in
-    let c₂ = c₁ .before .before .before in
-    let start = c₂ .before .before .before in
+    let c₂ = c₁ .before in
+    let c₃ = c₂ .before .before .before in
+    let start = c₃ .before .before .before in
     let next = done-more (start .args .n) (start .args .k .0) (λ i row. union row (start .args .more .now)) (start .args .closure .now) (start .pre .0)
-    (joined-wide (start .args .closure .now) (start .pre .0) (start .args .more .now)) (c₂ .loop .c) (c₂ .loop .closure) _ (omega arith) (c₂ .loop .inv .2) (c₁ .join-where .ensures) in (
+    (joined-wide (start .args .closure .now) (start .pre .0) (start .args .more .now)) (c₃ .loop .c) (c₃ .loop .closure) _ (omega arith) (c₃ .loop .inv .2)
+    (rw (c₂ .class-at .ensures) at (c₁ .join-where .ensures)) in (
       omega arith,
       done-length (start .args .n) (start .args .k .0) (λ i row. union row (start .args .more .now)) (start .args .closure .now)
-          (start .pre .0) (joined-wide (start .args .closure .now) (start .pre .0) (start .args .more .now)) (c₂ .loop .c + 1) _ (omega arith) next,
+          (start .pre .0) (joined-wide (start .args .closure .now) (start .pre .0) (start .args .more .now)) (c₃ .loop .c + 1) _ (omega arith) next,
       next,
     )
 
@@ -57,7 +62,8 @@ returns c =
     let c₁ = c .before in
     let start = c₁ .before .before .before in
     unfold joinedInto in done-end (start .args .n) (start .args .k .0) (λ i row. union row (start .args .more .now)) (start .args .closure .now)
-    (start .pre .0) (joined-wide (start .args .closure .now) (start .pre .0) (start .args .more .now)) (c₁ .loop .c) (c₁ .loop .closure) (c₁ .loop .inv .0) (search needs) (c₁ .loop .inv .2)
+    (start .pre .0) (joined-wide (start .args .closure .now) (start .pre .0) (start .args .more .now)) (c₁ .loop .c) (c₁ .loop .closure)
+    (c₁ .loop .inv .0) (search needs) (c₁ .loop .inv .2)
 
 pub join-all-spec : {M : Type 1} → statement M
 join-all-spec =
@@ -66,6 +72,7 @@ join-all-spec =
     Inv-loop
     μ-loop
     loop-holds
+    class-at-requires
     join-where-requires
     add-c
     loop-less

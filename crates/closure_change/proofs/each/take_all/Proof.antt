@@ -13,7 +13,8 @@ use Rattle.closure_change.proofs.each.take_all.Statement.{statement}
 use Rattle.closure_change.proofs.each.take_all.Tie as tie
 
 abbrev Inv-loop : tie.InvT-loop
-Inv-loop fresh n k closure₀ c₀ closure c = (c ≤ classLimit) × (length closure ≡ length closure₀) × Done n (k .0) (λ i row. closureAt fresh i) closure₀ c closure
+Inv-loop fresh n k closure₀ c₀ closure c = (c ≤ classLimit) × (length closure ≡ length closure₀)
+    × Done n (k .0) (λ i row. closureAt fresh i) closure₀ c closure
 
 abbrev μ-loop : tie.MeasureT-loop
 μ-loop fresh n k closure₀ c₀ closure c = classLimit - c
@@ -27,6 +28,9 @@ loop-holds c =
           (start .pre .1) (kept-length (start .args .fresh .now) (start .pre .0)),
     )
 
+class-at-requires : tie.Need-class-at-requires Inv-loop μ-loop
+class-at-requires c κs = search needs
+
 take-where-requires : tie.Need-take-where-requires Inv-loop μ-loop
 take-where-requires c κs = search needs
 
@@ -39,13 +43,15 @@ loop-less c = search needs
 loop-again : tie.Need-loop-again Inv-loop μ-loop
 loop-again c =
     let c₁ = c .before .before in
-    let c₂ = c₁ .before .before .before in
-    let start = c₂ .before .before .before in
+    let c₂ = c₁ .before .before in
+    let c₃ = c₂ .before .before in
+    let start = c₃ .before .before .before in
     let next = done-more (start .args .n) (start .args .k .0) (λ i row. closureAt (start .args .fresh .now) i) (start .args .closure .now) (start .pre .1)
-    (kept-length (start .args .fresh .now) (start .pre .0)) (c₂ .loop .c) (c₂ .loop .closure) _ (omega arith) (c₂ .loop .inv .2) (c₁ .take-where .ensures) in (
+    (kept-length (start .args .fresh .now) (start .pre .0)) (c₃ .loop .c) (c₃ .loop .closure) _ (omega arith) (c₃ .loop .inv .2)
+    (rw (c₂ .class-at .ensures) at (c₁ .take-where .ensures)) in (
       omega arith,
       done-length (start .args .n) (start .args .k .0) (λ i row. closureAt (start .args .fresh .now) i) (start .args .closure .now)
-          (start .pre .1) (kept-length (start .args .fresh .now) (start .pre .0)) (c₂ .loop .c + 1) _ (omega arith) next,
+          (start .pre .1) (kept-length (start .args .fresh .now) (start .pre .0)) (c₃ .loop .c + 1) _ (omega arith) next,
       next,
     )
 
@@ -57,7 +63,8 @@ returns c =
     let c₁ = c .before in
     let start = c₁ .before .before .before in
     unfold takenFrom in done-end (start .args .n) (start .args .k .0) (λ i row. closureAt (start .args .fresh .now) i) (start .args .closure .now)
-    (start .pre .1) (kept-length (start .args .fresh .now) (start .pre .0)) (c₁ .loop .c) (c₁ .loop .closure) (c₁ .loop .inv .0) (search needs) (c₁ .loop .inv .2)
+    (start .pre .1) (kept-length (start .args .fresh .now) (start .pre .0)) (c₁ .loop .c) (c₁ .loop .closure) (c₁ .loop .inv .0)
+    (search needs) (c₁ .loop .inv .2)
 
 pub take-all-spec : {M : Type 1} → statement M
 take-all-spec =
@@ -66,6 +73,7 @@ take-all-spec =
     Inv-loop
     μ-loop
     loop-holds
+    class-at-requires
     take-where-requires
     add-c
     loop-less

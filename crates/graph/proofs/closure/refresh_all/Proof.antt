@@ -39,9 +39,16 @@ loop-holds c =
           (c₁ .write-firsts .last .1 .0) (c₁ .write-firsts .ensures),
     )
 
+class-at-requires : tie.Need-class-at-requires Inv-loop μ-loop
+class-at-requires c κs =
+    let c₁ = c .before in
+    let c₂ = c₁ .before .before in
+    let start = c₂ .before .before .before .before .before .before .before in
+    omega (arith, c₁ .loop-test .taken, c₂ .row-count .ensures, start .pre .0 .few)
+
 pass-on-requires : tie.Need-pass-on-requires Inv-loop μ-loop
 pass-on-requires c κs =
-    let c₁ = c .before in
+    let c₁ = c .before .before in
     let c₂ = c₁ .before in
     let c₃ = c₂ .before in
     let c₄ = c₃ .before .before .before in
@@ -54,7 +61,7 @@ pass-on-requires c κs =
             (start .pre .1) 0 (c₄ .write-firsts .last .1 .0) (c₄ .write-firsts .ensures),
       ),
       omega
-          (arith, c₁ .loop-test .taken, c₃ .row-count .ensures, start .pre .0 .few),
+          (arith, c .class-at .ensures, c₁ .loop-test .taken, c₃ .row-count .ensures, start .pre .0 .few),
       omega (arith, c₃ .row-count .ensures, start .pre .0 .few),
     )
 
@@ -67,24 +74,26 @@ loop-less c = search needs
 loop-again : tie.Need-loop-again Inv-loop μ-loop
 loop-again c =
     let c₁ = c .before .before in
-    let c₂ = c₁ .before .before in
-    let c₃ = c₂ .before in
+    let c₂ = c₁ .before in
+    let c₃ = c₂ .before .before in
     let c₄ = c₃ .before in
-    let c₅ = c₄ .before .before .before in
-    let start = c₅ .before .before .before .before in
-    let long : closureLength ≤ length (c₅ .write-firsts .last .1 .0) = (omega (
+    let c₅ = c₄ .before in
+    let c₆ = c₅ .before .before .before in
+    let start = c₆ .before .before .before .before in
+    let long : closureLength ≤ length (c₆ .write-firsts .last .1 .0) = (omega (
       arith,
       start .pre .1,
       staged-length (tableIn Classes
-          (start .args .classes .now)) (start .args .closure .now) (start .pre .1) 0 (c₅ .write-firsts .last .1 .0) (c₅ .write-firsts .ensures),
+          (start .args .classes .now)) (start .args .closure .now) (start .pre .1) 0 (c₆ .write-firsts .last .1 .0) (c₆ .write-firsts .ensures),
     )) in
-    let next = staged-more (tableIn Classes (start .args .classes .now)) (c₅ .write-firsts .last .1 .0) long (start .pre .0 .few) (c₃ .loop .k)
-    (c₃ .loop .closure) _ (omega (arith, c₂ .loop-test .taken, c₄ .row-count .ensures)) (c₃ .loop .inv .2) (c₁ .pass-on .ensures ∙ ap (λ (m : ℕ). splice 0
-    (concatBelow m (λ i. passedRow (c₃ .loop .k) (closureAt (c₃ .loop .closure) (c₃ .loop .k)) (closureAt (c₃ .loop .closure) i))) (c₃ .loop .closure))
-    (c₄ .row-count .ensures)) in (
-      omega (arith, c₂ .loop-test .taken),
-      staged-length (tableIn Classes (start .args .classes .now)) (c₅ .write-firsts .last .1 .0) long
-          (c₃ .loop .k + 1) _ next,
+    let next = staged-more (tableIn Classes (start .args .classes .now)) (c₆ .write-firsts .last .1 .0) long (start .pre .0 .few) (c₄ .loop .k)
+    (c₄ .loop .closure) _ (omega (arith, c₃ .loop-test .taken, c₅ .row-count .ensures)) (c₄ .loop .inv .2)
+    (rw (c₂ .class-at .ensures) at (c₁ .pass-on .ensures) ∙ ap (λ (m : ℕ). splice 0
+    (concatBelow m (λ i. passedRow (c₄ .loop .k) (closureAt (c₄ .loop .closure) (c₄ .loop .k)) (closureAt (c₄ .loop .closure) i))) (c₄ .loop .closure))
+    (c₅ .row-count .ensures)) in (
+      omega (arith, c₃ .loop-test .taken),
+      staged-length (tableIn Classes (start .args .classes .now)) (c₆ .write-firsts .last .1 .0) long
+          (c₄ .loop .k + 1) _ next,
       next,
     )
 
@@ -120,6 +129,7 @@ refresh-all-spec =
     write-firsts-requires
     row-count-requires
     loop-holds
+    class-at-requires
     pass-on-requires
     add-k
     loop-less

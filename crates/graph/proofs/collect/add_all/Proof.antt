@@ -29,6 +29,9 @@ loop-holds c =
           (start .args .out .now) (start .pre .1 .1) (λ i. c₁ .slice-known .given i .fits),
     )
 
+class-at-requires : tie.Need-class-at-requires Inv-loop μ-loop
+class-at-requires c κs = search needs
+
 add-chosen-requires : tie.Need-add-chosen-requires Inv-loop μ-loop
 add-chosen-requires c κs = search needs
 
@@ -41,14 +44,15 @@ loop-less c = search needs
 loop-again : tie.Need-loop-again Inv-loop μ-loop
 loop-again c =
     let c₁ = c .before .before in
-    let c₂ = c₁ .before .before .before in
-    let start = c₂ .before .before .before .before in
+    let c₂ = c₁ .before .before in
+    let c₃ = c₂ .before .before in
+    let start = c₃ .before .before .before .before in
     let kept = c₁ .add-chosen .kept .1 .1 in (
       search needs,
-      kept .1 .1 .0 ∙ c₂ .loop .inv .1,
+      kept .1 .1 .0 ∙ c₃ .loop .inv .1,
       add-more (tableIn Classes (start .args .classes .now))
-          (member (start .args .chosen .bits)) (start .args .at) (c₂ .loop .k) (start .args .out .now) (c₂ .loop .out) _ (c₂ .loop .inv .2)
-          (c₁ .add-chosen .ensures),
+          (member (start .args .chosen .bits)) (start .args .at) (c₃ .loop .k) (start .args .out .now) (c₃ .loop .out) _ (c₃ .loop .inv .2)
+          (rw (c₂ .class-at .ensures) at (c₁ .add-chosen .ensures)),
     )
 
 same-length : tie.Need-same-length Inv-loop μ-loop
@@ -73,6 +77,7 @@ add-all-spec =
     μ-loop
     row-count-requires
     loop-holds
+    class-at-requires
     add-chosen-requires
     add-k
     loop-less

@@ -21,10 +21,16 @@ abbrev μ-loop : tie.MeasureT-loop
 loop-holds : tie.Need-loop-holds Inv-loop μ-loop
 loop-holds c = (search needs, any-zero _)
 
+class-at-requires : tie.Need-class-at-requires Inv-loop μ-loop
+class-at-requires c κs =
+    let start = c .before .before .before .before in
+    omega (arith, c .loop-test .taken, start .pre .2)
+
 demand-differs-requires : tie.Need-demand-differs-requires Inv-loop μ-loop
 demand-differs-requires c κs =
-    let start = c .before .before .before .before in
-    (start .pre .0, start .pre .1, omega (arith, c .loop-test .taken, start .pre .2))
+    let c₁ = c .before in
+    let start = c₁ .before .before .before .before in
+    (start .pre .0, start .pre .1, omega (arith, c .class-at .ensures, c₁ .loop-test .taken, start .pre .2))
 
 returns : tie.Need-returns Inv-loop μ-loop
 unfolding demandsDiffer
@@ -32,9 +38,10 @@ returns c =
     let c₁ = c .before in
     let c₂ = c₁ .before in
     let c₃ = c₂ .before in
-    let start = c₃ .before .before .before in
+    let c₄ = c₃ .before in
+    let start = c₄ .before .before .before in
     sym (any-here (λ x. not (sameBytes (demandedIn (start .args .closure .now) x) (demandedSet (tableIn Classes (start .args .classes .now)) x)))
-    (c₃ .loop .c) (start .args .n) (c₂ .loop-test .taken) (sym (c₁ .demand-differs .ensures) ∙ c .if1 .taken))
+    (c₄ .loop .c) (start .args .n) (c₃ .loop-test .taken) (sym (rw (c₂ .class-at .ensures) at (c₁ .demand-differs .ensures)) ∙ c .if1 .taken))
 
 add-c : tie.Need-add-c Inv-loop μ-loop
 add-c c = search needs
@@ -47,10 +54,12 @@ loop-again c =
     let c₁ = c .before in
     let c₂ = c₁ .before in
     let c₃ = c₂ .before in
-    let start = c₃ .before .before .before in (
-      omega (arith, c₂ .loop-test .taken),
+    let c₄ = c₃ .before in
+    let start = c₄ .before .before .before in (
+      omega (arith, c₃ .loop-test .taken),
       any-more (λ x. not (sameBytes (demandedIn (start .args .closure .now) x) (demandedSet (tableIn Classes
-          (start .args .classes .now)) x))) (c₃ .loop .c) (c₃ .loop .inv .1) (sym (c₁ .demand-differs .ensures) ∙ c .if1 .left),
+          (start .args .classes .now)) x))) (c₄ .loop .c) (c₄ .loop .inv .1)
+          (sym (rw (c₂ .class-at .ensures) at (c₁ .demand-differs .ensures)) ∙ c .if1 .left),
     )
 
 returns-2 : tie.Need-returns-2 Inv-loop μ-loop
@@ -68,6 +77,7 @@ demands-differ-spec =
     Inv-loop
     μ-loop
     loop-holds
+    class-at-requires
     demand-differs-requires
     returns
     add-c

@@ -20,17 +20,21 @@ abbrev μ-loop : tie.MeasureT-loop
 loop-holds : tie.Need-loop-holds Inv-loop μ-loop
 loop-holds c = (search needs, from-before _ _)
 
+class-at-requires : tie.Need-class-at-requires Inv-loop μ-loop
+class-at-requires c κs = search needs
+
 is-unvisited-requires : tie.Need-is-unvisited-requires Inv-loop μ-loop
 is-unvisited-requires c κs = search needs
 
 returns : tie.Need-returns Inv-loop μ-loop
 returns c =
     let c₁ = c .before in
-    let c₂ = c₁ .before .before in
-    let start = c₂ .before .before .before in
-    class-found _ _ _ (search needs) (c₂ .loop .inv .1)
-    (from-past _ (unvisitedIn (start .args .fixed .now) (start .args .other .now) (start .args .seen .bits)) _ (c₂ .loop .inv .0) ∙ sym
-    (c₁ .is-unvisited .ensures) ∙ c .if1 .taken)
+    let c₂ = c₁ .before in
+    let c₃ = c₂ .before .before in
+    let start = c₃ .before .before .before in
+    class-found _ _ _ _ (c₂ .class-at .ensures) (search needs) (c₃ .loop .inv .1)
+    (from-past _ (unvisitedIn (start .args .fixed .now) (start .args .other .now) (start .args .seen .bits)) _ (c₃ .loop .inv .0) ∙ sym
+    (rw (c₂ .class-at .ensures) at (c₁ .is-unvisited .ensures)) ∙ c .if1 .taken)
 
 add-d : tie.Need-add-d Inv-loop μ-loop
 add-d c = search needs
@@ -41,12 +45,13 @@ loop-less c = search needs
 loop-again : tie.Need-loop-again Inv-loop μ-loop
 loop-again c =
     let c₁ = c .before in
-    let c₂ = c₁ .before .before in
-    let start = c₂ .before .before .before in (
+    let c₂ = c₁ .before in
+    let c₃ = c₂ .before .before in
+    let start = c₃ .before .before .before in (
       search needs,
-      below-more _ _ (c₂ .loop .inv .1)
-          (from-past _ (unvisitedIn (start .args .fixed .now) (start .args .other .now) (start .args .seen .bits)) _ (c₂ .loop .inv .0) ∙ sym
-          (c₁ .is-unvisited .ensures) ∙ c .if1 .left),
+      below-more _ _ (c₃ .loop .inv .1)
+          (from-past _ (unvisitedIn (start .args .fixed .now) (start .args .other .now) (start .args .seen .bits)) _ (c₃ .loop .inv .0) ∙ sym
+          (rw (c₂ .class-at .ensures) at (c₁ .is-unvisited .ensures)) ∙ c .if1 .left),
     )
 
 returns-2 : tie.Need-returns-2 Inv-loop μ-loop
@@ -59,6 +64,7 @@ first-unvisited-spec =
     Inv-loop
     μ-loop
     loop-holds
+    class-at-requires
     is-unvisited-requires
     returns
     add-d

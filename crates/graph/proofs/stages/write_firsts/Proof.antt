@@ -29,6 +29,9 @@ loop-holds c =
           (λ i l. stage-length (tableIn Classes (start .args .classes .now)) 0 i),
     )
 
+class-at-requires : tie.Need-class-at-requires Inv-loop μ-loop
+class-at-requires c κs = search needs
+
 write-first-at-requires : tie.Need-write-first-at-requires Inv-loop μ-loop
 write-first-at-requires c κs = search needs
 
@@ -43,14 +46,15 @@ loop-again c =
     let c₁ = c .before .before in
     let c₂ = c₁ .before .before in
     let c₃ = c₂ .before in
-    let start = c₃ .before .before .before in
+    let c₄ = c₃ .before in
+    let start = c₄ .before .before .before in
     let next = rowed-more (stageRow (tableIn Classes (start .args .classes .now)) 0) (start .args .closure .now) (start .pre .1) (λ i l. stage-length
-    (tableIn Classes (start .args .classes .now)) 0 i) (c₃ .loop .c) (c₃ .loop .closure) _ (omega (arith, c₂ .loop-test .taken)) (c₃ .loop .inv .2)
-    (c₁ .write-first-at .ensures) in (
-      omega (arith, c₂ .loop-test .taken),
+    (tableIn Classes (start .args .classes .now)) 0 i) (c₄ .loop .c) (c₄ .loop .closure) _ (omega (arith, c₃ .loop-test .taken)) (c₄ .loop .inv .2)
+    (rw (c₂ .class-at .ensures) at (c₁ .write-first-at .ensures)) in (
+      omega (arith, c₃ .loop-test .taken),
       rowed-length (stageRow (tableIn Classes (start .args .classes .now)) 0) (start .args .closure .now)
-          (start .pre .1) (λ i l. stage-length (tableIn Classes (start .args .classes .now)) 0 i) (c₃ .loop .c + 1) _ (omega
-          (arith, c₂ .loop-test .taken)) next,
+          (start .pre .1) (λ i l. stage-length (tableIn Classes (start .args .classes .now)) 0 i) (c₄ .loop .c + 1) _ (omega
+          (arith, c₃ .loop-test .taken)) next,
       next,
     )
 
@@ -74,6 +78,7 @@ write-firsts-spec =
     Inv-loop
     μ-loop
     loop-holds
+    class-at-requires
     write-first-at-requires
     add-c
     loop-less
