@@ -98,13 +98,6 @@ module _ (t : Table) where
         ∙ member-set classSet (afterVisit t (member b) c) k (λ h. says-false (says-visit (member b) c k)
         (⊎-elim (λ o. true≢false (sym o ∙ none-past b e k h)) (λ p. omega (arith, past-limit (member b) c k p))))
 
-    member-walk : (b u : List ℕ) (c i : ℕ) → length b ≡ classSet → u ≡ setOf classSet (afterWalk t (member b) c i) → (k : ℕ) → member u k
-        ≡ afterWalk t (member b) c i k
-    member-walk b u c i e q k =
-        ap (λ (s : List ℕ). member s k) q
-        ∙ member-set classSet (afterWalk t (member b) c i) k (λ h. says-false (says-walk (member b) c i k)
-        (⊎-elim (λ o. true≢false (sym o ∙ none-past b e k h)) (λ p. omega (arith, past-limit (member b) (p .0) k (p .2)))))
-
     -- a set that stays as it is
     unchanged : (b : List ℕ) (f : ℕ → Bool) → ClassBytes b → ((k : ℕ) → member b k ≡ f k) → b ≡ setOf classSet f
     unchanged b f s h = is-set b classSet f (s .long) (s .bytes) (λ k l. bit-flag b k ∙ ap flag (h k))

@@ -26,7 +26,7 @@ use Rattle.graph.specs.Graph.{closureRow, mandatoryDiffers}
 use Rattle.graph.specs.GraphLaws.{says-reaches, says-collects}
 use Rattle.graph.specs.ThreeLaws.{three, three-cong, three-union}
 use Rattle.graph.specs.Changes.{SameLists, SameNames, AuxiliaryMore, OptionalMore}
-use Rattle.graph.specs.ChangeLaws.{reach-unchanged, collect-unchanged, reach-joined, collect-joined, reach-changed, reach-kept, collect-kept}
+use Rattle.graph.specs.ChangeLaws.{reach-unchanged, collect-unchanged, reach-joined, collect-joined, reach-kept, collect-kept}
 use Rattle.graph.specs.ChangeLaws.{collect-same, collect-listed, OneMore, reach-before, collect-before, reach-of-new, collect-of-new}
 
 -- ---- rows made of equal sets
@@ -104,12 +104,6 @@ module _ (t : Table) (k : ℕ) (new : List ℕ) where
       (mandatory-other t k new) c z)
       (collect-kept (t .count) (inherits t) (inherits (withRow t k new)) (listsOptional t) (listsOptional (withRow t k new)) k (names-other t k new)
       (optional-other t k new) c z)
-
-  -- who reaches k does not change
-  pub reaches-target : (c : ℕ) → reaches (withRow t k new) c k ≡ reaches t c k
-  unfolding withRow
-  reaches-target c = reach-changed (t .count) (inherits t) (inherits (withRow t k new)) (listsMandatory t) (listsMandatory (withRow t k new)) k
-      (names-other t k new) (mandatory-other t k new) c
 
   -- Rule 30: "some present class's mandatory set would differ" exactly where k's does
   pub rule30-target : k < t .count → mandatoryDiffers t (withRow t k new) ≡ not (sameBytes (demandedSet t k) (demandedSet (withRow t k new) k))
