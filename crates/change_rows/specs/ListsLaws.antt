@@ -1,6 +1,6 @@
 -- The entry that a list change names: below its table's limit it is a number of that table, and beyond it no list has a bit for it.
 use native.Mathlib.Omega.{arith}
-use Prim.Native.Nat.{_*_, _≤_, ℕ}
+use Prim.Native.Nat.{_*_, _≤_, _<_, ℕ}
 use lib.ListN.{length}
 use mathlib.Core.Bool.{false}
 use mathlib.Core.List.{List}
@@ -12,8 +12,8 @@ use Rattle.sets.specs.Sets.{member}
 use Rattle.sets.specs.SetsLaws.{bit-past, says-member}
 use Rattle.schema.specs.declared.number.NumberRead.the-variants.{Row, Beyond}
 use Rattle.schema.specs.declared.number.RowId.{RowId}
-use Rattle.schema.specs.Numbers.{limit, numberOf}
-use Rattle.schema.specs.NumbersLaws.{id-number, number-beyond, number-is}
+use Rattle.schema.specs.Numbers.{limit, numberOf, tableOf}
+use Rattle.schema.specs.NumbersLaws.{id-number, id-table, number-beyond, number-is}
 use Rattle.change_read.specs.Carried.{entryOf, listOf}
 use Rattle.change_read.specs.declared.carried.OpenList.{OpenList}
 use Rattle.change_read.specs.declared.carried.OpenList.the-variants.{Optional, Auxiliary, Superior}
@@ -25,8 +25,19 @@ list-bits Optional = refl
 list-bits Auxiliary = refl
 list-bits Superior = refl
 
-pub entry-number : (r : List ℕ) {id : RowId} → entryRead r ≡ Row id → numberOf id ≡ entryOf r
-entry-number r e = ap numberOf (number-is (listTable (listOf r)) (entryOf r) e .0) ∙ id-number (listTable (listOf r)) (entryOf r)
+-- the entry as a row of its list's table
+pub record EntryIs (r : List ℕ) (id : RowId) : Type 0 where
+  pub table : tableOf id ≡ listTable (listOf r)
+  pub number : numberOf id ≡ entryOf r
+  pub below : numberOf id < limit (tableOf id)
+
+pub entry-is : (r : List ℕ) {id : RowId} → entryRead r ≡ Row id → EntryIs r id
+entry-is r {id} e =
+    let t = listTable (listOf r) in
+    let w = number-is t (entryOf r) e in
+    let table : tableOf id ≡ t = ap tableOf (w .0) ∙ id-table t (entryOf r) in
+    let number : numberOf id ≡ entryOf r = ap numberOf (w .0) ∙ id-number t (entryOf r) in
+    record { table = table; number = number; below = omega (arith, number, w .1, ap limit table) }
 
 -- a list that stands anywhere in a row
 module _ (r : List ℕ) (e : entryRead r ≡ Beyond) (at : ℕ) (row : List ℕ) where

@@ -1,13 +1,12 @@
 -- The closure store row by row: rows that stay, rows that become others, and all of them in turn.
 use mathlib.Core.Bool.{Bool, true, false, _&&_, cond}
-use mathlib.Core.List.{List, _++_}
-use mathlib.Core.Path.{_≡_, ap, ap₂, sym, _∙_}
-use Prim.Native.Nat.{ℕ, _+_, _*_, _-_, _≤_, _<_}
+use mathlib.Core.List.{List}
+use mathlib.Core.Path.{_≡_, ap, sym, _∙_}
+use Prim.Native.Nat.{ℕ, _+_, _*_, _≤_, _<_}
 use native.Mathlib.Omega.{arith}
-use lib.ListN.{length, drop, take}
+use lib.ListN.{length}
 use Rattle.prelude.specs.Concat.{concatBelow}
 use Rattle.prelude.specs.ConcatLaws.{concat-none, concat-more, concat-length, concat-same}
-use Rattle.prelude.specs.LentLaws.{lent-back}
 use Rattle.prelude.specs.Part.{part, splice}
 use Rattle.prelude.specs.PartLaws.{row-fits, part-length}
 use Rattle.prelude.specs.SaysLaws.{says-lt, says-false, says-true}
@@ -39,20 +38,6 @@ module _ (closure : List ℕ) (long : closureLength ≤ length closure) (c : ℕ
 
   pub demanded-long : length (part demandedAt attributeSet (closureAt closure c)) ≡ attributeSet
   demanded-long = part-length demandedAt attributeSet (closureAt closure c) (omega (arith, kept-length closure long c l))
-
-  -- the part of the store at c was lent on, and came back as another row
-  pub row-back : (at end : ℕ) (back new : List ℕ) → at ≡ closureWidth * c → end ≡ at + closureWidth → length new ≡ closureWidth → back ≡ new
-      → take at closure ++ (back ++ drop (end - at) (drop at closure)) ≡ splice (closureWidth * c) new closure
-  row-back at end back new e f w q =
-      lent-back at end closure back new (f ∙ ap (λ (n : ℕ). at + n) (sym w)) q ∙ ap (λ (n : ℕ). splice n new closure) e
-
-  -- as it was lent
-  pub row-lent : (at end : ℕ) → at ≡ closureWidth * c → end ≡ at + closureWidth → take (end - at) (drop at closure) ≡ closureAt closure c
-  unfolding part
-  row-lent at end e f =
-      let i : at ≡ 0 + closureWidth * c = omega arith in
-      let n : end - at ≡ closureWidth = omega arith in
-      ap₂ (λ (a b : ℕ). take a (drop b closure)) n i
 
   module _ (n k : ℕ) (f : ℕ → List ℕ → List ℕ) where
     -- it becomes another row, or stays

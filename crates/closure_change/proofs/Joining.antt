@@ -1,19 +1,19 @@
 -- Unions of kept sets: one class more, all classes; and the rows that are joined in.
 use mathlib.Core.Bool.{Bool, true, false, _&&_, _||_}
 use mathlib.Core.List.{List, _++_, append-assoc, append-nil}
-use mathlib.Core.Path.{_≡_, refl, sym, ap, ap₂, _∙_}
+use mathlib.Core.Path.{_≡_, sym, ap, ap₂, _∙_}
 use Prim.Native.Nat.{ℕ, _+_, _*_, _≤_, _<_}
 use native.Mathlib.Numerals.{add-one}
 use native.Mathlib.Omega.{arith}
 use lib.ListN.{length, getD, take, drop, length-append}
 use Rattle.prelude.specs.Below.{anyBelow}
-use Rattle.prelude.specs.Part.{splice, zeros, padded, part}
+use Rattle.prelude.specs.Part.{splice, zeros, padded}
 use Rattle.prelude.specs.PartLaws.{part-length, zeros-length, zeros-at, padded-full}
 use Rattle.prelude.specs.SpliceLaws.{splice-all}
 use Rattle.prelude.specs.Written.{WrittenAt}
 use Rattle.prelude.specs.WrittenLaws.{written-length, written-then}
 use Rattle.sets.specs.Sets.{flag, member, setOf, union, withMember}
-use Rattle.sets.specs.SetsLaws.{bit-flag, bit-zeros, is-set, set-cong, member-within, with-length, union-length}
+use Rattle.sets.specs.SetsLaws.{bit-flag, bit-zeros, is-set, set-cong, member-within, or-false, with-length, union-length}
 use Rattle.schema.specs.Layout.{allowedAt, attributeSet, classSet, closureWidth, classWidth}
 use Rattle.schema.specs.Numbers.{classLimit}
 use Rattle.schema.specs.ClassRow.{mandatoryOf, fixedOptionalOf, openOptionalOf}
@@ -37,11 +37,8 @@ module _ (t : Table) (closure : List ℕ) (n : ℕ) where
     pub not-named : ((i : ℕ) → getD out i 0 < 256) → inherits t n y ≡ false → out ≡ setOf closureWidth (λ b. member out b || has y b)
     not-named s e =
         is-set out closureWidth (λ b. member out b || has y b) long s
-        (λ b l. bit-flag out b ∙ ap flag (or-none (member out b) (has y b) (ap (λ (x : Bool). x && member (closureAt closure y) b) e)))
-      where
-        or-none : (a b : Bool) → b ≡ false → a ≡ a || b
-        or-none true b e = refl
-        or-none false b e = sym e
+        (λ b l. bit-flag out b
+        ∙ ap flag (sym (or-false (member out b) (has y b) (ap (λ (x : Bool). x && member (closureAt closure y) b) e))))
 
   -- those of the first y
   abbrev pub Named : ℕ → List ℕ → Type 0

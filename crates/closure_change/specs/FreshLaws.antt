@@ -24,12 +24,12 @@ use Rattle.sets.specs.SetsLaws.{and-false, member-within, or-false, union-lengt
 use Rattle.graph.specs.Graph.{allows, closureRow, collectsBy, demands, inherits, listsMandatory, listsOptional, reaches}
 use Rattle.graph.specs.GraphLaws.{says-collects, says-reaches}
 use Rattle.graph.specs.FreshLaws.{reached-part}
+use Rattle.graph.specs.ThreeLaws.{three, three-cong, union-three}
 use Rattle.graph.specs.Changes.{AuxiliaryMore, OptionalMore}
 use Rattle.graph.specs.ClosureLaws.{closure-before, closure-joined, closure-kept, closure-listed, closure-new}
 use Rattle.closure_change.specs.Kept.{holds, joinedInto, namedSets, newRow, optionRow, ownRow, refreshedAt, rowWhere, withNew}
 use Rattle.closure_change.specs.KeptLaws.{each-at, fresh-wide, joined-wide, with-new-other, with-new-same}
-use Rattle.closure_change.specs.JoinedLaws.{member-first, member-second, member-third, option-joined, three, three-cong, three-split}
-use Rattle.closure_change.specs.JoinedLaws.{union-three}
+use Rattle.closure_change.specs.JoinedLaws.{member-first, member-second, member-third, option-joined, three-split}
 
 -- either of two tests, in the other order
 or-swap : (a b c : Bool) → b ≡ c → (a || b) ≡ (c || a)

@@ -1,28 +1,19 @@
--- Three sets side by side, as the kept sets of a class stand: by three tests, member by member, and joined set by set.
+-- Three sets side by side, as the kept sets of a class stand: as the set of a whole row, member by member, and with an attribute joined in.
 use lib.Dec.{eqb, ltb}
-use lib.ListN.{length, length-append}
 use native.Mathlib.Omega.{arith}
 use Prim.Native.Nat.{_*_, _+_, _-_, _<_, ℕ}
 use mathlib.Core.Bool.{Bool, _||_, cond}
 use mathlib.Core.List.{List, _++_, append-assoc}
-use mathlib.Core.Path.{_∙_, _≡_, ap, ap₂, sym}
+use mathlib.Core.Path.{_∙_, _≡_, ap, sym}
 use Rattle.schema.specs.Layout.{attributeSet, classSet, closureWidth}
 use Rattle.prelude.specs.Part.{zeros}
 use Rattle.prelude.specs.PartLaws.{zeros-add, zeros-length}
 use Rattle.prelude.specs.SaysLaws.{says-false, says-lt, says-true}
 use Rattle.sets.specs.Sets.{member, setOf, union, withMember}
-use Rattle.sets.specs.SideLaws.{member-alone, member-zeros, set-append, union-any}
-use Rattle.sets.specs.SetsLaws.{member-within, or-false, set-cong, set-length, union-append, with-length}
+use Rattle.sets.specs.SideLaws.{member-alone, member-zeros, set-append}
+use Rattle.sets.specs.SetsLaws.{member-within, or-false, with-length}
+use Rattle.graph.specs.ThreeLaws.{three, three-cong, union-three}
 use Rattle.closure_change.specs.Kept.{optionRow}
-
--- ---- three sets side by side
-
-abbrev pub three : (ℕ → Bool) → (ℕ → Bool) → (ℕ → Bool) → List ℕ
-three f g h = setOf classSet f ++ (setOf attributeSet g ++ setOf attributeSet h)
-
-pub three-cong : {f p g q h o : ℕ → Bool} → ((k : ℕ) → k < classSet * 8 → f k ≡ p k) → ((k : ℕ) → k < attributeSet * 8 → g k ≡ q k)
-    → ((k : ℕ) → k < attributeSet * 8 → h k ≡ o k) → three f g h ≡ three p q o
-three-cong {f} {p} {g} {q} {h} {o} a b c = ap₂ _++_ (set-cong classSet f p a) (ap₂ _++_ (set-cong attributeSet g q b) (set-cong attributeSet h o c))
 
 -- a set of a whole row is three sets
 pub three-split : (f : ℕ → Bool) → setOf closureWidth f ≡ three f (λ k. f (classSet * 8 + k)) (λ k. f (classSet * 8 + (attributeSet * 8 + k)))
@@ -76,24 +67,13 @@ module _ (f g h : ℕ → Bool) where
       ap (λ (s : List ℕ). member s (classSet * 8 + (attributeSet * 8 + k))) three-whole
       ∙ member-within closureWidth (whole f g h) (classSet * 8 + (attributeSet * 8 + k)) (omega arith) ∙ whole-third k l
 
-  -- three sets more are joined set by set
-  pub union-three : (x y z : List ℕ) → length x ≡ classSet → length y ≡ attributeSet → length z ≡ attributeSet
-      → union (three f g h) (x ++ (y ++ z)) ≡ three (λ k. f k || member x k) (λ k. g k || member y k) (λ k. h k || member z k)
-  union-three x y z lx ly lz =
-      let m : length (setOf attributeSet g ++ setOf attributeSet h) ≡ attributeSet + attributeSet = simp (length-append, set-length) in
-      union-append (setOf classSet f) (setOf attributeSet g ++ setOf attributeSet h) x (y ++ z) (lx ∙ sym (set-length classSet f))
-      (omega (arith, length-append y z))
-      ∙ ap₂ _++_ (union-any classSet f x)
-      (union-append (setOf attributeSet g) (setOf attributeSet h) y z (ly ∙ sym (set-length attributeSet g)) (lz ∙ sym (set-length attributeSet h))
-      ∙ ap₂ _++_ (union-any attributeSet g y) (union-any attributeSet h z))
-
   -- an attribute that becomes optional
   pub option-joined : (b : ℕ) → union (three f g h) (optionRow b) ≡ three f g (λ k. h k || eqb k b)
   unfolding optionRow
   option-joined b =
       let alone = withMember b (zeros attributeSet) in
       ap (union (three f g h)) (ap (λ (x : List ℕ). x ++ alone) (zeros-add classSet attributeSet) ∙ append-assoc (zeros classSet) (zeros attributeSet) alone)
-      ∙ union-three (zeros classSet) (zeros attributeSet) alone (zeros-length classSet) (zeros-length attributeSet)
+      ∙ union-three f g h (zeros classSet) (zeros attributeSet) alone (zeros-length classSet) (zeros-length attributeSet)
       (with-length b (zeros attributeSet) ∙ zeros-length attributeSet)
       ∙ three-cong (λ k l. or-false (f k) (member (zeros classSet) k) (member-zeros classSet k))
       (λ k l. or-false (g k) (member (zeros attributeSet) k) (member-zeros attributeSet k))

@@ -6,12 +6,12 @@ use Prim.Native.Nat.{ℕ, _+_, _*_, _≤_, _<_}
 use native.Mathlib.Numerals.{add-one}
 use native.Mathlib.Omega.{arith}
 use lib.ListN.{length, getD}
-use Rattle.prelude.specs.SaysLaws.{says-false}
 use Rattle.prelude.specs.Below.{anyBelow}
 use Rattle.prelude.specs.BelowLaws.{any-cong}
 use Rattle.prelude.specs.Part.{part, zeros}
 use Rattle.sets.specs.Sets.{flag, member, setOf, union}
-use Rattle.sets.specs.SetsLaws.{bit-flag, bit-zeros, says-member, is-set, set-cong, member-within}
+use Rattle.sets.specs.SetsLaws.{bit-flag, is-set, set-cong, member-within, or-false}
+use Rattle.sets.specs.SideLaws.{member-zeros}
 use Rattle.schema.specs.Numbers.{classLimit}
 use Rattle.schema.specs.Layout.{classSet, attributeSet, mandatoryAt}
 use Rattle.schema.specs.Store.{Table}
@@ -26,14 +26,7 @@ or-assoc false b c = refl
 -- nothing added
 plus-none : (out : List ℕ) → length out ≡ attributeSet → ((i : ℕ) → getD out i 0 < 256) → out ≡ plus out (λ b. false)
 unfolding plus
-plus-none out l s = is-set out attributeSet (λ k. member out k || false) l s (λ k m. bit-flag out k ∙ ap flag (or-none (member out k)))
-  where
-    or-none : (a : Bool) → a ≡ a || false
-    or-none true = refl
-    or-none false = refl
-
-no-member : (n k : ℕ) → member (zeros n) k ≡ false
-no-member n k = says-false (says-member (zeros n) k) (λ o. omega (arith, bit-zeros n k))
+plus-none out l s = is-set out attributeSet (λ k. member out k || false) l s (λ k m. bit-flag out k ∙ ap flag (sym (or-false (member out k) false refl)))
 
 -- ---- one row
 
@@ -84,7 +77,7 @@ module _ (t : Table) (chosen : ℕ → Bool) (at : ℕ) where
   pub from-empty : (o out : List ℕ) → o ≡ zeros attributeSet → out ≡ plus o (collected t chosen at) → out ≡ setOf attributeSet (collected t chosen at)
   unfolding plus
   from-empty o out z q = q ∙ set-cong attributeSet (λ b. member o b || collected t chosen at b) (collected t chosen at)
-      (λ b l. rw (z, no-member attributeSet b))
+      (λ b l. rw (z, member-zeros attributeSet b))
 
 -- ---- over the classes reached
 

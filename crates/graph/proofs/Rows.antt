@@ -10,7 +10,6 @@ use Rattle.prelude.specs.Part.{part, sameBytes, splice, zeros}
 use Rattle.prelude.specs.PartLaws.{part-all, part-zeros, row-fits, row-length, says-same-bytes}
 use Rattle.prelude.specs.SaysLaws.{choose, says-iff, says-same}
 use Rattle.prelude.specs.SpliceLaws.{part-splice-after, splice-append, splice-front, splice-length, splice-over, splice-part}
-use Rattle.prelude.specs.LentLaws.{lent-back}
 use Rattle.prelude.specs.Concat.{concatBelow}
 use Rattle.prelude.specs.ConcatLaws.{concat-none, concat-more, concat-length, concat-row, concat-same}
 use Rattle.sets.specs.Sets.{member, setOf, union}
@@ -53,20 +52,6 @@ three-parts row x y z lx ly lz lr =
     )
 
 -- ---- the part of the store at one class
-
--- lent on, and come back as another row
-pub row-lent-back : (c at end : ℕ) (closure back new : List ℕ) → at ≡ closureWidth * c → end ≡ at + closureWidth → length new ≡ closureWidth → back ≡ new
-    → take at closure ++ (back ++ drop (end - at) (drop at closure)) ≡ splice (closureWidth * c) new closure
-row-lent-back c at end closure back new e f w q =
-    lent-back at end closure back new (f ∙ ap (λ (n : ℕ). at + n) (sym w)) q ∙ ap (λ (n : ℕ). splice n new closure) e
-
--- as it was lent
-pub row-lent : (c at end : ℕ) (closure : List ℕ) → at ≡ closureWidth * c → end ≡ at + closureWidth → take (end - at) (drop at closure) ≡ closureAt closure c
-unfolding part
-row-lent c at end closure e f =
-    let i : at ≡ 0 + closureWidth * c = omega arith in
-    let n : end - at ≡ closureWidth = omega arith in
-    ap₂ (λ (a b : ℕ). take a (drop b closure)) n i
 
 -- a row put where it stands
 pub splice-row : (c : ℕ) (closure : List ℕ) → closureLength ≤ length closure → c < classLimit

@@ -13,7 +13,8 @@ use Rattle.prelude.specs.SaysLaws.{says-and, says-or, says-eq, says-le, says-te
 use Rattle.prelude.specs.BelowLaws.{says-any}
 use Rattle.prelude.specs.Part.{zeros}
 use Rattle.sets.specs.Sets.{flag, bit, member, setOf, withMember, from, countBelow}
-use Rattle.sets.specs.SetsLaws.{bit-past, bit-flag, bit-zeros, bit-with, bit-with-other, with-length, says-member, member-set, is-set, set-cong, set-length}
+use Rattle.sets.specs.SetsLaws.{bit-past, bit-flag, bit-with, bit-with-other, with-length, says-member, member-set, is-set, set-cong, set-length}
+use Rattle.sets.specs.SideLaws.{member-zeros}
 use Rattle.sets.specs.CountLaws.{count-mono, count-less}
 use Rattle.schema.specs.Numbers.{classLimit}
 use Rattle.schema.specs.Layout.{classSet}
@@ -96,13 +97,6 @@ module _ (t : Table) where
         ap (λ (s : List ℕ). member s k) q
         ∙ member-set classSet (afterVisit t (member b) c) k (λ h. says-false (says-visit (member b) c k)
         (⊎-elim (λ o. true≢false (sym o ∙ none-past b e k h)) (λ p. omega (arith, past-limit (member b) c k p))))
-
-    member-walk : (b u : List ℕ) (c i : ℕ) → length b ≡ classSet → u ≡ setOf classSet (afterWalk t (member b) c i) → (k : ℕ) → member u k
-        ≡ afterWalk t (member b) c i k
-    member-walk b u c i e q k =
-        ap (λ (s : List ℕ). member s k) q
-        ∙ member-set classSet (afterWalk t (member b) c i) k (λ h. says-false (says-walk (member b) c i k)
-        (⊎-elim (λ o. true≢false (sym o ∙ none-past b e k h)) (λ p. omega (arith, past-limit (member b) (p .0) k (p .2)))))
 
     -- a set that stays as it is
     unchanged : (b : List ℕ) (f : ℕ → Bool) → ClassBytes b → ((k : ℕ) → member b k ≡ f k) → b ≡ setOf classSet f
@@ -237,16 +231,13 @@ module _ (t : Table) where
   visited-none c r q = q ∙ set-cong classSet (afterVisit t (member (zeros classSet)) c) (reaches t c)
       (λ k l. says-same (says-visit (member (zeros classSet)) c k) (says-iff (says-reaches (t .count) (inherits t) c k) (to k, from k)))
     where
-      none : (k : ℕ) → member (zeros classSet) k ≡ false
-      none k = says-false (says-member (zeros classSet) k) (λ o. omega (arith, bit-zeros classSet k))
-
       edge : (x y : ℕ) → Edge (t .count) (inherits t) x y ↔ Edge (t .count) (avoiding (member (zeros classSet)) (inherits t)) x y
       edge x y = (
         λ r. record {
           source = r .source;
           target = r .target;
           named = says-avoiding (t .count) (inherits t) (member (zeros classSet)) x y .passes
-              (none x, (none y, r .named));
+              (member-zeros classSet x, (member-zeros classSet y, r .named));
         },
         λ r. record {
           source = r .source;
@@ -257,10 +248,10 @@ module _ (t : Table) where
       )
 
       to : (k : ℕ) → Reaches (t .count) (inherits t) c k → (member (zeros classSet) k ≡ true) ⊎ PastOf (member (zeros classSet)) c k
-      to k r = inr (record { unseen = none c; reach = record { present = r .present; walk = widen (λ x y. edge x y .0) (r .walk) } })
+      to k r = inr (record { unseen = member-zeros classSet c; reach = record { present = r .present; walk = widen (λ x y. edge x y .0) (r .walk) } })
 
       from : (k : ℕ) → (member (zeros classSet) k ≡ true) ⊎ PastOf (member (zeros classSet)) c k → Reaches (t .count) (inherits t) c k
-      from k (inl q) = absurd (true≢false (sym q ∙ none k))
+      from k (inl q) = absurd (true≢false (sym q ∙ member-zeros classSet k))
       from k (inr p) = record { present = p .reach .present; walk = widen (λ x y. edge x y .1) (p .reach .walk) }
 
 -- ---- how many classes are left to visit

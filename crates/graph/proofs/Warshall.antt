@@ -7,42 +7,22 @@ use Prim.Native.Nat.{ℕ, zero, suc, _+_, _*_, _≤_, _<_}
 use native.Mathlib.Numerals.{add-one}
 use native.Mathlib.Omega.{arith}
 use lib.Dec.{eqb, ltb}
-use lib.ListN.{length, length-append}
 use Rattle.prelude.specs.SaysLaws.{says-and, says-or, says-lt, says-eq, says-test, says-iff, says-same, says-true, says-false, true-or-false}
 use Rattle.prelude.specs.Below.{anyBelow}
 use Rattle.prelude.specs.BelowLaws.{any-cong, any-one, any-false, last-or-less}
 use Rattle.prelude.specs.Part.{part, zeros}
 use Rattle.prelude.specs.PartLaws.{part-between, zeros-add}
 use Rattle.sets.specs.Sets.{member, setOf, union}
-use Rattle.sets.specs.SetsLaws.{set-cong, set-length, union-set, union-append, member-within, or-false}
+use Rattle.sets.specs.SetsLaws.{set-length, member-within, or-false}
 use Rattle.sets.specs.SideLaws.{zeros-set}
 use Rattle.schema.specs.Numbers.{classLimit}
 use Rattle.schema.specs.Layout.{classSet, attributeSet, closureWidth, reachedAt}
 use Rattle.schema.specs.Store.{Table}
 use Rattle.graph.specs.Walk.{via}
 use Rattle.graph.specs.WarshallLaws.{via-suc, via-self}
+use Rattle.graph.specs.ThreeLaws.{three, three-cong, three-union}
 use Rattle.graph.specs.Graph.{reachesBy, collectsBy, inherits, listsMandatory, listsOptional, reaches, closureRow}
 use Rattle.graph.specs.Stages.{stepsTo, comesTo, gathersFrom, gathers, stageRow, passedRow}
-
--- three sets side by side
-abbrev three : (ℕ → Bool) → (ℕ → Bool) → (ℕ → Bool) → List ℕ
-three r m o = setOf classSet r ++ (setOf attributeSet m ++ setOf attributeSet o)
-
-three-cong : (r r′ m m′ o o′ : ℕ → Bool) → ((x : ℕ) → x < classSet * 8 → r x ≡ r′ x) → ((b : ℕ) → b < attributeSet * 8 → m b ≡ m′ b)
-    → ((b : ℕ) → b < attributeSet * 8 → o b ≡ o′ b) → three r m o ≡ three r′ m′ o′
-three-cong r r′ m m′ o o′ p q s = ap₂ _++_ (set-cong classSet r r′ p) (ap₂ _++_ (set-cong attributeSet m m′ q) (set-cong attributeSet o o′ s))
-
-three-union : (r r′ m m′ o o′ : ℕ → Bool) → union (three r m o) (three r′ m′ o′) ≡ three (λ x. r x || r′ x) (λ b. m b || m′ b) (λ b. o b || o′ b)
-three-union r r′ m m′ o o′ =
-    union-append (setOf classSet r) (setOf attributeSet m ++ setOf attributeSet o) (setOf classSet r′) (setOf attributeSet m′ ++ setOf attributeSet o′)
-    (same classSet r′ r) (simp (length-append, set-length))
-    ∙ ap₂ _++_ (union-set classSet r r′)
-    (union-append (setOf attributeSet m) (setOf attributeSet o) (setOf attributeSet m′) (setOf attributeSet o′) (same attributeSet m′ m)
-    (same attributeSet o′ o)
-    ∙ ap₂ _++_ (union-set attributeSet m m′) (union-set attributeSet o o′))
-  where
-    same : (n : ℕ) (f g : ℕ → Bool) → length (setOf n f) ≡ length (setOf n g)
-    same n f g = set-length n f ∙ sym (set-length n g)
 
 -- some number passes one test, or, where q holds, another
 any-apart : (n : ℕ) (q : Bool) (p r o : ℕ → Bool)
@@ -146,14 +126,14 @@ module _ (t : Table) where
             → cond (comesTo t k c k) (union (stageRow t k c) (stageRow t k k)) (stageRow t k c) ≡ stageRow t (k + 1) c
         go (inl q) = ap (λ (r : Bool). cond r (union (stageRow t k c) (stageRow t k k)) (stageRow t k c)) q
             ∙ three-union _ _ _ _ _ _
-            ∙ three-cong _ _ _ _ _ _
+            ∙ three-cong
             (λ x m. sym (comes-more k c x l ∙ ap (λ (r : Bool). comesTo t k c x || (r && comesTo t k k x)) q))
             (λ b m. sym (gathers-more (listsMandatory t) k c b l
             ∙ ap (λ (r : Bool). gathers t (listsMandatory t) k c b || (r && gathers t (listsMandatory t) k k b)) q))
             (λ b m. sym (gathers-more (listsOptional t) k c b l
             ∙ ap (λ (r : Bool). gathers t (listsOptional t) k c b || (r && gathers t (listsOptional t) k k b)) q))
         go (inr q) = ap (λ (r : Bool). cond r (union (stageRow t k c) (stageRow t k k)) (stageRow t k c)) q
-            ∙ three-cong _ _ _ _ _ _
+            ∙ three-cong
             (λ x m. sym (comes-more k c x l ∙ or-false _ _ (ap (λ (r : Bool). r && comesTo t k k x) q)))
             (λ b m. sym (gathers-more (listsMandatory t) k c b l ∙ or-false _ _ (ap (λ (r : Bool). r && gathers t (listsMandatory t) k k b) q)))
             (λ b m. sym (gathers-more (listsOptional t) k c b l ∙ or-false _ _ (ap (λ (r : Bool). r && gathers t (listsOptional t) k k b) q)))
@@ -180,7 +160,7 @@ module _ (t : Table) where
 
   pub stage-end : (c : ℕ) → stageRow t (t .count) c ≡ closureRow t c
   unfolding stageRow closureRow
-  stage-end c = three-cong _ _ _ _ _ _ (λ x l. comes-end c x) (λ b l. gathers-end (listsMandatory t) c b) (λ b l. gathers-end (listsOptional t) c b)
+  stage-end c = three-cong (λ x l. comes-end c x) (λ b l. gathers-end (listsMandatory t) c b) (λ b l. gathers-end (listsOptional t) c b)
 
   -- ---- the first: a class without a row has nothing; any other, what it names and lists itself
 
@@ -188,7 +168,7 @@ module _ (t : Table) where
   unfolding stageRow gathers gathersFrom comesTo
   stage-none k c l =
       let off : ltb c (t .count) ≡ false = says-false (says-lt c (t .count)) (λ m. omega arith) in
-      three-cong _ (λ x. false) _ (λ b. false) _ (λ b. false)
+      three-cong {p = λ x. false} {q = λ b. false} {o = λ b. false}
       (λ x m. ap (λ (q : Bool). q && via k (stepsTo t) c x) off)
       (λ b m. any-false _ (t .count) (λ x h. ap (λ (q : Bool). (q && (eqb x c || (ltb x k && via k (stepsTo t) c x))) && listsMandatory t x b) off))
       (λ b m. any-false _ (t .count) (λ x h. ap (λ (q : Bool). (q && (eqb x c || (ltb x k && via k (stepsTo t) c x))) && listsOptional t x b) off))
@@ -210,5 +190,5 @@ module _ (t : Table) where
         → ((b : ℕ) → b < attributeSet * 8 → m b ≡ listsMandatory t c b) → ((b : ℕ) → b < attributeSet * 8 → o b ≡ listsOptional t c b)
         → three r m o ≡ stageRow t 0 c
     unfolding stageRow
-    stage-first r m o p q s = three-cong _ _ _ _ _ _ p (λ b l. q b l ∙ sym (gathers-first (listsMandatory t) b))
+    stage-first r m o p q s = three-cong p (λ b l. q b l ∙ sym (gathers-first (listsMandatory t) b))
         (λ b l. s b l ∙ sym (gathers-first (listsOptional t) b))

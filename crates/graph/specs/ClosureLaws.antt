@@ -1,21 +1,21 @@
 -- The closure afresh after one change, from the closure afresh before it, for any class table; and rule 30 judged at the changed class alone.
 use mathlib.Core.Bool.{Bool, true, false, not, cond, _&&_, _||_}
-use mathlib.Core.List.{List, _++_}
+use mathlib.Core.List.{List}
 use mathlib.Core.Logic.{_⊎_, inl, inr, ⊎-elim}
 use mathlib.Core.Path.{_≡_, refl, sym, ap, ap₂, _∙_}
 use Prim.Native.Nat.{ℕ, suc, _*_, _≤_, _<_}
 use native.Mathlib.Decide.{ℕ-discrete, decLt}
 use native.Mathlib.Omega.{arith}
 use lib.Dec.{eqb}
-use lib.ListN.{length, length-append}
+use lib.ListN.{length}
 use Rattle.prelude.specs.Says.{Says}
 use Rattle.prelude.specs.SaysLaws.{says-and, says-or, says-not, says-eq, says-test, says-iff, says-same, says-true, says-false, true-or-false}
 use Rattle.prelude.specs.Below.{anyBelow}
 use Rattle.prelude.specs.BelowLaws.{says-any, any-false}
 use Rattle.prelude.specs.Part.{sameBytes}
 use Rattle.sets.specs.Sets.{bit, member, setOf, withMember, union, subset}
-use Rattle.sets.specs.SetsLaws.{bit-with, bit-with-other, says-member, set-cong, set-length, union-set, union-append, says-same-sets, says-subset-sets}
-use Rattle.schema.specs.Layout.{classSet, attributeSet}
+use Rattle.sets.specs.SetsLaws.{bit-with, bit-with-other, or-false, says-member, says-same-sets, says-subset-sets}
+use Rattle.schema.specs.Layout.{attributeSet}
 use Rattle.schema.specs.ClassRow.{superclassOf, mandatoryOf, fixedOptionalOf, openOptionalOf, fixedAuxiliaryOf, openAuxiliaryOf}
 use Rattle.schema.specs.Store.{Table, withRow, plusRow}
 use Rattle.schema.specs.StoreLaws.{with-same, with-other, plus-other}
@@ -24,8 +24,9 @@ use Rattle.graph.specs.Walk.{Grown, here}
 use Rattle.graph.specs.Graph.{Edge, reachesBy, collectsBy, inherits, listsMandatory, listsOptional, reaches, demands, allows, demandedSet}
 use Rattle.graph.specs.Graph.{closureRow, mandatoryDiffers}
 use Rattle.graph.specs.GraphLaws.{says-reaches, says-collects}
+use Rattle.graph.specs.ThreeLaws.{three, three-cong, three-union}
 use Rattle.graph.specs.Changes.{SameLists, SameNames, AuxiliaryMore, OptionalMore}
-use Rattle.graph.specs.ChangeLaws.{reach-unchanged, collect-unchanged, reach-joined, collect-joined, reach-changed, reach-kept, collect-kept}
+use Rattle.graph.specs.ChangeLaws.{reach-unchanged, collect-unchanged, reach-joined, collect-joined, reach-kept, collect-kept}
 use Rattle.graph.specs.ChangeLaws.{collect-same, collect-listed, OneMore, reach-before, collect-before, reach-of-new, collect-of-new}
 
 -- ---- rows made of equal sets
@@ -33,8 +34,7 @@ use Rattle.graph.specs.ChangeLaws.{collect-same, collect-listed, OneMore
 pub row-cong : (t u : Table) (c d : ℕ) → ((x : ℕ) → reaches u c x ≡ reaches t d x) → ((b : ℕ) → demands u c b ≡ demands t d b)
     → ((b : ℕ) → allows u c b ≡ allows t d b) → closureRow u c ≡ closureRow t d
 unfolding closureRow
-row-cong t u c d r m o = ap₂ _++_ (set-cong classSet (reaches u c) (reaches t d) (λ x l. r x))
-    (ap₂ _++_ (set-cong attributeSet (demands u c) (demands t d) (λ b l. m b)) (set-cong attributeSet (allows u c) (allows t d) (λ b l. o b)))
+row-cong t u c d r m o = three-cong (λ x l. r x) (λ b l. m b) (λ b l. o b)
 
 -- rows whose three sets are unions: the three sets stand side by side, so a whole row is joined at once
 pub row-union : (t u : Table) (c a : ℕ) → ((x : ℕ) → reaches u c x ≡ reaches t c x || reaches t a x)
@@ -42,20 +42,8 @@ pub row-union : (t u : Table) (c a : ℕ) → ((x : ℕ) → reaches u c x ≡ r
     → ((b : ℕ) → allows u c b ≡ allows t c b || allows t a b) → closureRow u c ≡ union (closureRow t c) (closureRow t a)
 unfolding closureRow
 row-union t u c a r m o =
-    ap₂ _++_ (joined classSet (reaches u c) (reaches t c) (reaches t a) r)
-    (ap₂ _++_ (joined attributeSet (demands u c) (demands t c) (demands t a) m) (joined attributeSet (allows u c) (allows t c) (allows t a) o))
-    ∙ sym (union-append (setOf classSet (reaches t c)) (setOf attributeSet (demands t c) ++ setOf attributeSet (allows t c))
-    (setOf classSet (reaches t a)) (setOf attributeSet (demands t a) ++ setOf attributeSet (allows t a))
-    (same classSet (reaches t a) (reaches t c)) (simp (length-append, set-length))
-    ∙ ap (λ (x : List ℕ). union (setOf classSet (reaches t c)) (setOf classSet (reaches t a)) ++ x)
-    (union-append (setOf attributeSet (demands t c)) (setOf attributeSet (allows t c)) (setOf attributeSet (demands t a)) (setOf attributeSet (allows t a))
-    (same attributeSet (demands t a) (demands t c)) (same attributeSet (allows t a) (allows t c))))
-  where
-    joined : (n : ℕ) (h f g : ℕ → Bool) → ((k : ℕ) → h k ≡ f k || g k) → setOf n h ≡ union (setOf n f) (setOf n g)
-    joined n h f g e = set-cong n h (λ k. f k || g k) (λ k l. e k) ∙ sym (union-set n f g)
-
-    same : (n : ℕ) (f g : ℕ → Bool) → length (setOf n f) ≡ length (setOf n g)
-    same n f g = set-length n f ∙ sym (set-length n g)
+    three-cong (λ x l. r x) (λ b l. m b) (λ b l. o b)
+    ∙ sym (three-union (reaches t c) (demands t c) (allows t c) (reaches t a) (demands t a) (allows t a))
 
 -- ---- what the graph sees of a changed row
 
@@ -96,14 +84,11 @@ module _ (t : Table) (k : ℕ) (new : List ℕ) where
       ≡ by (t .row x) || (eqb x k && extra)
   one-more by extra h x = go (ℕ-discrete x k)
     where
-      or-no : (b : Bool) → b ≡ b || false
-      or-no true = refl
-      or-no false = refl
-
       go : Dec (x ≡ k) → by (withRow t k new .row x) ≡ by (t .row x) || (eqb x k && extra)
       go (yes e) = ap by (with-same t k new x e) ∙ h ∙ ap₂ (λ (r : List ℕ) (b : Bool). by r || (b && extra)) (ap (t .row) (sym e))
           (sym (says-true (says-eq x k) e))
-      go (no d) = ap by (with-other t k new x d) ∙ or-no (by (t .row x)) ∙ ap (λ (b : Bool). by (t .row x) || (b && extra)) (sym (says-false (says-eq x k) d))
+      go (no d) = ap by (with-other t k new x d) ∙ sym (or-false (by (t .row x)) false refl)
+          ∙ ap (λ (b : Bool). by (t .row x) || (b && extra)) (sym (says-false (says-eq x k) d))
 
 -- ---- any change of row k
 
@@ -119,12 +104,6 @@ module _ (t : Table) (k : ℕ) (new : List ℕ) where
       (mandatory-other t k new) c z)
       (collect-kept (t .count) (inherits t) (inherits (withRow t k new)) (listsOptional t) (listsOptional (withRow t k new)) k (names-other t k new)
       (optional-other t k new) c z)
-
-  -- who reaches k does not change
-  pub reaches-target : (c : ℕ) → reaches (withRow t k new) c k ≡ reaches t c k
-  unfolding withRow
-  reaches-target c = reach-changed (t .count) (inherits t) (inherits (withRow t k new)) (listsMandatory t) (listsMandatory (withRow t k new)) k
-      (names-other t k new) (mandatory-other t k new) c
 
   -- Rule 30: "some present class's mandatory set would differ" exactly where k's does
   pub rule30-target : k < t .count → mandatoryDiffers t (withRow t k new) ≡ not (sameBytes (demandedSet t k) (demandedSet (withRow t k new) k))
@@ -302,15 +281,13 @@ module _ (t : Table) (k a : ℕ) (new : List ℕ) (room : a < length (openOption
 
   -- the attribute is joined in for the classes that reach k; nothing else changes
   pub closure-listed : (c : ℕ) → closureRow (withRow t k new) c
-      ≡ setOf classSet (reaches t c) ++ (setOf attributeSet (demands t c) ++ setOf attributeSet (λ b. allows t c b || (reaches t c k && eqb b a)))
+      ≡ three (reaches t c) (demands t c) (λ b. allows t c b || (reaches t c k && eqb b a))
   unfolding closureRow withRow
   closure-listed c =
-      ap₂ _++_ (set-cong classSet (reaches (withRow t k new) c) (reaches t c) (λ x l. reach-unchanged n e f same c x))
-      (ap₂ _++_ (set-cong attributeSet (demands (withRow t k new) c) (demands t c)
-      (λ b l. collect-unchanged n e f same (listsMandatory t) (listsMandatory (withRow t k new)) (same-mandatory t k new (more .mandatory)) c b))
-      (set-cong attributeSet (allows (withRow t k new) c) (λ b. allows t c b || (reaches t c k && eqb b a)) (λ b l.
-      collect-unchanged n e f same (listsOptional (withRow t k new)) (listsOptional (withRow t k new)) (λ x d m. refl) c b
-      ∙ collect-listed n e (listsOptional t) (listsOptional (withRow t k new)) k a listed c b)))
+      three-cong (λ x l. reach-unchanged n e f same c x)
+      (λ b l. collect-unchanged n e f same (listsMandatory t) (listsMandatory (withRow t k new)) (same-mandatory t k new (more .mandatory)) c b)
+      (λ b l. collect-unchanged n e f same (listsOptional (withRow t k new)) (listsOptional (withRow t k new)) (λ x d m. refl) c b
+      ∙ collect-listed n e (listsOptional t) (listsOptional (withRow t k new)) k a listed c b)
     where
       n : ℕ
       n = t .count
@@ -379,19 +356,18 @@ module _ (t : Table) (new : List ℕ) (unnamed : (x : ℕ) → x < t .count → 
 
   -- the new class: itself, its own lists, and the union over the classes that it names
   pub closure-new : closureRow (plusRow t new) (t .count)
-      ≡ setOf classSet (λ x. eqb x (t .count) || anyBelow (t .count) (λ y. inherits (plusRow t new) (t .count) y && reaches t y x))
-      ++ (setOf attributeSet (λ b. listsMandatory (plusRow t new) (t .count) b || anyBelow (t .count)
-      (λ y. inherits (plusRow t new) (t .count) y && demands t y b))
-      ++ setOf attributeSet (λ b. listsOptional (plusRow t new) (t .count) b || anyBelow (t .count)
-      (λ y. inherits (plusRow t new) (t .count) y && allows t y b)))
+      ≡ three (λ x. eqb x (t .count) || anyBelow (t .count) (λ y. inherits (plusRow t new) (t .count) y && reaches t y x))
+      (λ b. listsMandatory (plusRow t new) (t .count) b || anyBelow (t .count) (λ y. inherits (plusRow t new) (t .count) y && demands t y b))
+      (λ b. listsOptional (plusRow t new) (t .count) b || anyBelow (t .count) (λ y. inherits (plusRow t new) (t .count) y && allows t y b))
   unfolding closureRow plusRow
   closure-new =
-      ap₂ _++_ (set-cong classSet _ _ (λ x l. reach-of-new (t .count) (inherits t) (inherits (plusRow t new)) (listsMandatory t)
-      (listsMandatory (plusRow t new)) one-class-more mandatory-before x))
-      (ap₂ _++_ (set-cong attributeSet _ _ (λ b l. collect-of-new (t .count) (inherits t) (inherits (plusRow t new)) (listsMandatory t)
-      (listsMandatory (plusRow t new)) one-class-more mandatory-before b))
-      (set-cong attributeSet _ _ (λ b l. collect-of-new (t .count) (inherits t) (inherits (plusRow t new)) (listsOptional t)
-      (listsOptional (plusRow t new)) one-class-more optional-before b)))
+      three-cong
+      (λ x l. reach-of-new (t .count) (inherits t) (inherits (plusRow t new)) (listsMandatory t) (listsMandatory (plusRow t new)) one-class-more
+      mandatory-before x)
+      (λ b l. collect-of-new (t .count) (inherits t) (inherits (plusRow t new)) (listsMandatory t) (listsMandatory (plusRow t new)) one-class-more
+      mandatory-before b)
+      (λ b l. collect-of-new (t .count) (inherits t) (inherits (plusRow t new)) (listsOptional t) (listsOptional (plusRow t new)) one-class-more
+      optional-before b)
 
   -- Rule 30 never holds for an added class
   pub rule30-class : mandatoryDiffers t (plusRow t new) ≡ false

@@ -12,6 +12,7 @@ pub mod Stages
 pub mod Depth
 pub mod DepthLaws
 pub mod Changes
+pub mod ThreeLaws
 pub mod ClosureLaws
 pub mod UnreachedLaws
 pub mod FreshLaws

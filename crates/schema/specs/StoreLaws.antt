@@ -1,13 +1,15 @@
--- What the test of short stores says, and the rows of a changed table.
+-- What the test of short stores says, the rows of a changed table, and a row of the closure store that was lent on and came back.
 use mathlib.Core.Bool.{false}
-use mathlib.Core.List.{List}
+use mathlib.Core.List.{List, _++_}
 use mathlib.Core.Logic.{_⊎_, inl, inr}
-use mathlib.Core.Path.{_≡_, refl, ap, sym, _∙_}
-use Prim.Native.Nat.{ℕ, suc, _≤_, _<_}
+use mathlib.Core.Path.{_≡_, refl, ap, ap₂, sym, _∙_}
+use Prim.Native.Nat.{ℕ, suc, _+_, _-_, _*_, _≤_, _<_}
 use native.Mathlib.Omega.{arith}
-use lib.ListN.{length}
+use lib.ListN.{length, take, drop}
 use Rattle.prelude.specs.Says.{Says}
 use Rattle.prelude.specs.SaysLaws.{says, says-fails, says-true, says-false, says-eq}
+use Rattle.prelude.specs.LentLaws.{lent-back}
+use Rattle.prelude.specs.Part.{part, splice}
 use Rattle.prelude.specs.PartLaws.{row-length, row-wide}
 use Rattle.schema.specs.declared.number.TableId.{TableId}
 use Rattle.schema.specs.declared.number.TableId.the-variants.{Attributes, Classes}
@@ -72,7 +74,25 @@ table-row-wide t s r k = row-wide rowsAt (rowWidth t) (limit t) k s r
 pub closure-wide : (s r : List ℕ) (k : ℕ) → closureLength ≤ length s → k < classLimit → r ≡ closureAt s k → closureWidth ≤ length r
 closure-wide s r k = row-wide 0 closureWidth classLimit k s r
 
--- a row that was looked up by the number that a table and a place in it make
+-- ---- the part of the closure store at one class
+
+-- lent on, and come back as another row
+pub closure-lent-back : (c at end : ℕ) (closure back new : List ℕ) → at ≡ closureWidth * c → end ≡ at + closureWidth → length new ≡ closureWidth
+    → back ≡ new → take at closure ++ (back ++ drop (end - at) (drop at closure)) ≡ splice (closureWidth * c) new closure
+closure-lent-back c at end closure back new e f w q =
+    lent-back at end closure back new (f ∙ ap (λ (n : ℕ). at + n) (sym w)) q ∙ ap (λ (n : ℕ). splice n new closure) e
+
+-- as it was lent
+pub closure-lent : (c at end : ℕ) (closure : List ℕ) → at ≡ closureWidth * c → end ≡ at + closureWidth
+    → take (end - at) (drop at closure) ≡ closureAt closure c
+unfolding part
+closure-lent c at end closure e f =
+    let i : at ≡ 0 + closureWidth * c = omega arith in
+    let n : end - at ≡ closureWidth = omega arith in
+    ap₂ (λ (a b : ℕ). take a (drop b closure)) n i
+
+-- ---- a row by the number that a table and a place in it make
+
 pub id-row : (t : TableId) (k : ℕ) (s : List ℕ) {i : RowId} → i ≡ rowId t k → tableIn (tableOf i) s .row (numberOf i) ≡ tableIn t s .row k
 id-row t k s e = rw (e, id-table t k, id-number t k)
 

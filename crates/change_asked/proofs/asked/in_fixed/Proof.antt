@@ -3,7 +3,7 @@ use Rattle.prelude.specs.Part.{part}
 use Rattle.sets.specs.Sets.{member}
 use Rattle.change_read.specs.Carried.{listOf}
 use Rattle.change_rows.specs.Lists.{fixedAt, fixedOf}
-use Rattle.change_rows.specs.ListsLaws.{entry-absent, entry-number}
+use Rattle.change_rows.specs.ListsLaws.{entry-absent, entry-is}
 use Rattle.change_rows.specs.RowsLaws.{fixed-inside}
 use native.Mathlib.Omega.{arith}
 use borrow.Author.Needs.{needs}
@@ -59,7 +59,7 @@ returns-2 c =
     let c₇ = c₆ .before .before in
     let start = c₇ .before .before .before in
     let row = start .args .row .now in
-    let entry = entry-number (start .args .scratch .now) (sym (c₇ .entry-read .ensures) ∙ c₆ .id .given .1) in
+    let entry = entry-is (start .args .scratch .now) (sym (c₇ .entry-read .ensures) ∙ c₆ .id .given .1) .number in
     c .has .ensures ∙ ap₂ member (c₂ .part-of .ensures ∙ ap₂ (λ a w. part a w row) (c₄ .fixed-at .ensures) (c₃ .list-width .ensures)
     ∙ ap (λ l. fixedOf l row) (c₅ .list-of .ensures)) (c₁ .number-of .ensures ∙ entry)
 

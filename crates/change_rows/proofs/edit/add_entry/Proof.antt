@@ -5,7 +5,7 @@ use Rattle.sets.specs.Sets.{withMember}
 use Rattle.sets.specs.SetsLaws.{with-beyond, with-length}
 use Rattle.change_read.specs.Carried.{entryOf, listOf}
 use Rattle.change_rows.specs.Lists.{listWidth, openAt, openOf}
-use Rattle.change_rows.specs.ListsLaws.{entry-beyond, entry-number}
+use Rattle.change_rows.specs.ListsLaws.{entry-beyond, entry-is}
 use Rattle.change_rows.specs.Rows.{editedRow}
 use Rattle.change_rows.specs.RowsLaws.{list-inside}
 use Rattle.change_rows.proofs.Editing.{list-back, list-kept}
@@ -86,7 +86,7 @@ returns-2 c =
     let row = start .args .row .now in
     let r = start .args .scratch .now in
     let n = c₂ .number-of .result in
-    let is = c₂ .number-of .ensures ∙ entry-number r (sym (c₇ .entry-read .ensures) ∙ c₆ .id .given .1) in
+    let is = c₂ .number-of .ensures ∙ entry-is r (sym (c₇ .entry-read .ensures) ∙ c₆ .id .given .1) .number in
     let back = list-back (c₅ .list-of .result) (c₄ .open-at .result) (c₃ .list-width .result) row (c₄ .open-at .ensures) (c₃ .list-width .ensures)
     (start .pre .1) (withMember n) (c₁ .insert .last .0) (with-length n) (c₁ .insert .ensures) in
     back ∙ ap₂ (λ l k. splice (openAt l) (withMember k (openOf l row)) row) (c₅ .list-of .ensures) is

@@ -7,7 +7,8 @@ use Rattle.schema.specs.declared.number.TableId.the-variants.{Classes}
 use Rattle.graph.specs.Graph.{demandedSet}
 use Rattle.change_read.specs.Carried.{entryOf, listOf}
 use Rattle.change_rows.specs.Lists.{listTable}
-use Rattle.closure_change.proofs.Carried.{entry-is, entry-same}
+use Rattle.change_rows.specs.ListsLaws.{entry-is}
+use Rattle.closure_change.proofs.Carried.{entry-same}
 use native.Mathlib.Omega.{arith}
 use borrow.Author.Needs.{needs}
 use Rattle.closure_change.proofs.after.demand_changes.Statement.{statement}

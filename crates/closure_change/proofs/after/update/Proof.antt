@@ -5,7 +5,8 @@ use Rattle.schema.specs.declared.number.TableId.the-variants.{Classes}
 use Rattle.change_read.specs.Carried.{entryOf, listOf}
 use Rattle.change_read.specs.declared.read.Change.the-variants.{Add}
 use Rattle.change_rows.specs.Lists.{listTable}
-use Rattle.closure_change.proofs.Carried.{entry-is, joined-same}
+use Rattle.change_rows.specs.ListsLaws.{entry-is}
+use Rattle.closure_change.proofs.Carried.{joined-same}
 use Rattle.closure_change.specs.Kept.{refreshedAt, withNew}
 use native.Mathlib.Omega.{arith}
 use borrow.Author.Needs.{needs}

@@ -1,6 +1,7 @@
-use Rattle.graph.proofs.Rows.{passed-test, row-lent, row-lent-back, splice-row}
+use Rattle.graph.proofs.Rows.{passed-test, splice-row}
 use Rattle.graph.specs.Stages.{passedRow}
 use Rattle.schema.specs.Store.{closureAt}
+use Rattle.schema.specs.StoreLaws.{closure-lent, closure-lent-back}
 use Rattle.schema.specs.Layout.{closureWidth}
 use Rattle.schema.specs.Numbers.{classLimit}
 use Rattle.sets.specs.SetsLaws.{union-length}
@@ -63,9 +64,9 @@ returns c =
     let c₅ = c₄ .before in
     let start = c₅ .before .before .before .before in
     let row = closureAt (start .args .closure .now) (start .args .c .0) in
-    row-lent-back (start .args .c .0) _ _ (start .args .closure .now) _ (union row (start .args .own .now)) (s .closure-start .ensures) refl (union-length _ _
-    ∙ row-length 0 closureWidth classLimit (start .args .c .0) (start .args .closure .now) (omega (arith, start .pre .0)) (start .pre .1))
-    (c₁ .join .ensures ∙ ap (λ (r : List ℕ). union r (start .args .own .now)) (row-lent (start .args .c .0) _ _ (start .args .closure .now)
+    closure-lent-back (start .args .c .0) _ _ (start .args .closure .now) _ (union row (start .args .own .now)) (s .closure-start .ensures) refl
+    (union-length _ _ ∙ row-length 0 closureWidth classLimit (start .args .c .0) (start .args .closure .now) (omega (arith, start .pre .0)) (start .pre .1))
+    (c₁ .join .ensures ∙ ap (λ (r : List ℕ). union r (start .args .own .now)) (closure-lent (start .args .c .0) _ _ (start .args .closure .now)
     (s .closure-start .ensures) refl)) ∙ ap (λ (q : Bool). splice (closureWidth * start .args .c .0) (cond q (union row (start .args .own .now)) row)
     (start .args .closure .now)) (sym (passed-test _ _ (start .args .k .0) _ _ (c₅ .closure-row .ensures) (c₄ .part-of .ensures) (c₃ .has .ensures)
     ∙ c₂ .if1 .taken))
