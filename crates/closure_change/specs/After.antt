@@ -5,7 +5,7 @@ use Rattle.schema.specs.Layout.{classWidth, closureLength}
 use mathlib.Core.Path.{_≡_}
 use lib.ListN.{length}
 use Prim.Native.Nat.{ℕ, _≤_, _<_}
-use mathlib.Core.Bool.{Bool, false, not, cond}
+use mathlib.Core.Bool.{Bool, false, not}
 use mathlib.Core.List.{List}
 use Rattle.prelude.specs.Part.{sameBytes}
 use Rattle.sets.specs.Sets.{subset}

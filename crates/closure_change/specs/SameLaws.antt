@@ -1,12 +1,9 @@
 -- The closure after a change, and its rule 30, depend on the rows held alone, not on what stands above the count.
-use lib.ListN.{length}
 use Prim.Native.Nat.{ℕ, _*_, _<_}
 use mathlib.Core.Bool.{Bool, not, cond, _&&_}
 use mathlib.Core.List.{List}
 use mathlib.Core.Path.{_≡_, ap, ap₂, refl}
-use Rattle.prelude.specs.Below.{anyBelow}
 use Rattle.prelude.specs.BelowLaws.{any-cong}
-use Rattle.prelude.specs.Concat.{concatBelow}
 use Rattle.prelude.specs.ConcatLaws.{concat-same}
 use Rattle.prelude.specs.Part.{sameBytes, splice}
 use Rattle.sets.specs.Sets.{member, union}
@@ -16,7 +13,7 @@ use Rattle.schema.specs.Numbers.{classLimit}
 use Rattle.schema.specs.Store.{Table, closureAt}
 use Rattle.schema.specs.declared.number.TableId.the-variants.{Attributes, Classes}
 use Rattle.tables.specs.Same.{Same}
-use Rattle.graph.specs.Graph.{closureRow, demandedSet, inherits}
+use Rattle.graph.specs.Graph.{demandedSet}
 use Rattle.graph.specs.SameLaws.{closure-row-same, demanded-same, names-same}
 use Rattle.change_read.specs.declared.read.Change.{Change}
 use Rattle.change_read.specs.declared.read.Change.the-variants.{Add, SetRange, Rename, Deactivate, Reactivate, AddEntry, RemoveEntry}

@@ -36,7 +36,7 @@ ghost use mathlib.Core.Path.{_≡_};
 ghost use mathlib.Core.List.{_++_};
 ghost use lib.ListN.{length, getD};
 ghost use Rattle.schema.specs.declared.number.TableId.the-variants.{Attributes, Classes};
-ghost use Rattle.rows_format.specs.Formats.{column, bytes, nonzero, noColumn, commonColumns, mayBeDefunct, neverDefunct, attributeColumns};
+ghost use Rattle.rows_format.specs.Formats.{column, bytes, noColumn, commonColumns, mayBeDefunct, neverDefunct, attributeColumns};
 ghost use Rattle.rows_format.specs.Formats.{classColumns, rangeColumns, nameColumns, targetColumns, entryColumns, ownColumns, columnsOf};
 ghost use Rattle.rows_format.specs.Formats.{formatWidth};
 ghost use Rattle.rows_format.specs.declared.column.Column.{Column};

@@ -1,4 +1,4 @@
-use mathlib.Core.Path.{_∙_, refl}
+use mathlib.Core.Path.{_∙_}
 use native.Mathlib.Omega.{arith}
 use Rattle.schema.specs.Store.{tableIn}
 use Rattle.schema.specs.declared.number.TableId.the-variants.{Classes}
