@@ -8,12 +8,13 @@ use native.Mathlib.Omega.{arith}
 use lib.ListN.{length, getD, take, drop, length-append}
 use Rattle.prelude.specs.Below.{anyBelow}
 use Rattle.prelude.specs.Part.{splice, zeros, padded}
-use Rattle.prelude.specs.PartLaws.{part-length, zeros-length, zeros-at, padded-full}
+use Rattle.prelude.specs.PartLaws.{part-length, zeros-length, padded-full}
 use Rattle.prelude.specs.SpliceLaws.{splice-all}
 use Rattle.prelude.specs.Written.{WrittenAt}
 use Rattle.prelude.specs.WrittenLaws.{written-length, written-then}
 use Rattle.sets.specs.Sets.{flag, member, setOf, union, withMember}
-use Rattle.sets.specs.SetsLaws.{bit-flag, bit-zeros, is-set, set-cong, member-within, or-false, with-length, union-length}
+use Rattle.sets.specs.SetsLaws.{bit-flag, is-set, set-cong, member-within, or-false, with-length, union-length}
+use Rattle.sets.specs.SideLaws.{zeros-set}
 use Rattle.schema.specs.Layout.{allowedAt, attributeSet, classSet, closureWidth, classWidth}
 use Rattle.schema.specs.Numbers.{classLimit}
 use Rattle.schema.specs.ClassRow.{mandatoryOf, fixedOptionalOf, openOptionalOf}
@@ -46,9 +47,7 @@ module _ (t : Table) (closure : List ℕ) (n : ℕ) where
 
   pub named-none : (out : List ℕ) → out ≡ zeros closureWidth → Named 0 out
   unfolding anyBelow
-  named-none out e =
-      e ∙ is-set (zeros closureWidth) closureWidth (λ b. false) (zeros-length closureWidth) (λ i. omega (arith, zeros-at closureWidth i))
-      (λ b l. bit-zeros closureWidth b)
+  named-none out e = e ∙ zeros-set closureWidth
 
   pub named-more : (y : ℕ) (out r : List ℕ) → Named y out → r ≡ setOf closureWidth (λ b. member out b || has y b) → Named (y + 1) r
   unfolding anyBelow

@@ -4,7 +4,7 @@ use lib.ListN.{length}
 use native.Mathlib.Omega.{arith}
 use native.Mathlib.Decide.{ℕ-discrete}
 use Prim.Native.Nat.{_*_, _+_, _<_, _≤_, ℕ}
-use mathlib.Core.Bool.{Bool, _&&_, _||_, cond, false, true}
+use mathlib.Core.Bool.{Bool, _&&_, _||_, cond, false, or-false, true}
 use mathlib.Core.List.{List}
 use mathlib.Core.Logic.{_⊎_, inl, inr}
 use mathlib.Core.Path.{_∙_, _≡_, ap, ap₂, refl, sym}
@@ -20,7 +20,7 @@ use Rattle.prelude.specs.PartLaws.{part-length, zeros-length}
 use Rattle.prelude.specs.SaysLaws.{says-and, says-false, says-iff, says-lt, says-same, true-or-false}
 use Rattle.sets.specs.Sets.{member, union, withMember}
 use Rattle.sets.specs.SideLaws.{member-alone, member-union}
-use Rattle.sets.specs.SetsLaws.{and-false, member-within, or-false, union-length, with-length}
+use Rattle.sets.specs.SetsLaws.{and-false, member-within, union-length, with-length}
 use Rattle.graph.specs.Graph.{allows, closureRow, collectsBy, demands, inherits, listsMandatory, listsOptional, reaches}
 use Rattle.graph.specs.GraphLaws.{says-collects, says-reaches}
 use Rattle.graph.specs.FreshLaws.{reached-part}
@@ -96,7 +96,7 @@ module _ (t : Table) (few : t .count ≤ classLimit) (closure : List ℕ) (long 
         go (inl q) = unfold closureRow in rw q (option-joined (reaches t c) (demands t c) (allows t c) b)
         go (inr q) =
             unfold closureRow in
-            rw q (three-cong (λ x m. refl) (λ x m. refl) (λ x m. sym (or-false (allows t c x) false refl)))
+            rw q (three-cong (λ x m. refl) (λ x m. refl) (λ x m. sym (or-false (allows t c x))))
 
   -- ---- a class more
 

@@ -1,7 +1,7 @@
 -- Unions over the rows of chosen classes: one row more, all rows, and that they give what a class demands and allows.
-use mathlib.Core.Bool.{Bool, true, false, _&&_, _||_}
+use mathlib.Core.Bool.{Bool, true, false, _&&_, _||_, or-assoc, or-false}
 use mathlib.Core.List.{List}
-use mathlib.Core.Path.{_≡_, refl, sym, ap, _∙_}
+use mathlib.Core.Path.{_≡_, sym, ap, _∙_}
 use Prim.Native.Nat.{ℕ, _+_, _*_, _≤_, _<_}
 use native.Mathlib.Numerals.{add-one}
 use native.Mathlib.Omega.{arith}
@@ -10,7 +10,7 @@ use Rattle.prelude.specs.Below.{anyBelow}
 use Rattle.prelude.specs.BelowLaws.{any-cong}
 use Rattle.prelude.specs.Part.{part, zeros}
 use Rattle.sets.specs.Sets.{flag, member, setOf, union}
-use Rattle.sets.specs.SetsLaws.{bit-flag, is-set, set-cong, member-within, or-false}
+use Rattle.sets.specs.SetsLaws.{bit-flag, is-set, set-cong, member-within}
 use Rattle.sets.specs.SideLaws.{member-zeros}
 use Rattle.schema.specs.Numbers.{classLimit}
 use Rattle.schema.specs.Layout.{classSet, attributeSet, mandatoryAt}
@@ -19,14 +19,10 @@ use Rattle.tables.specs.Named.{lists}
 use Rattle.graph.specs.Graph.{collectsBy, listsMandatory, reaches, demands, demandedSet}
 use Rattle.graph.specs.Collect.{chosenLists, collected, plus}
 
-or-assoc : (a b c : Bool) → (a || b) || c ≡ a || (b || c)
-or-assoc true b c = refl
-or-assoc false b c = refl
-
 -- nothing added
 plus-none : (out : List ℕ) → length out ≡ attributeSet → ((i : ℕ) → getD out i 0 < 256) → out ≡ plus out (λ b. false)
 unfolding plus
-plus-none out l s = is-set out attributeSet (λ k. member out k || false) l s (λ k m. bit-flag out k ∙ ap flag (sym (or-false (member out k) false refl)))
+plus-none out l s = is-set out attributeSet (λ k. member out k || false) l s (λ k m. bit-flag out k ∙ ap flag (sym (or-false (member out k))))
 
 -- ---- one row
 
