@@ -8,15 +8,6 @@ returns : tie.Need-returns
 unfolding auditCall isShort
 returns c = rw (lt-ltb _ _ (c .if1 .taken))
 
-audit-requires : tie.Need-audit-requires
-audit-requires c κs = search needs
-
-answer-in-requires : tie.Need-answer-in-requires
-answer-in-requires c κs = search needs
-
-same-length : tie.Need-same-length
-same-length c = search needs
-
 returns-2 : tie.Need-returns-2
 unfolding auditCall isShort
 returns-2 c =
@@ -27,4 +18,4 @@ returns-2 c =
 
 pub keeper-audit-spec : {M : Type 1} → statement M
 keeper-audit-spec =
-    tie.close (tie.spec returns audit-requires answer-in-requires same-length returns-2)
+    tie.close (tie.spec returns (λ c κs. search needs) (λ c κs. search needs) (λ c. search needs) returns-2)

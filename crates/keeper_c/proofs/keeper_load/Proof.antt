@@ -9,24 +9,6 @@ returns : tie.Need-returns
 unfolding storesCall isShort
 returns c = rw (lt-ltb _ _ (c .if1 .taken))
 
-load-requires : tie.Need-load-requires
-load-requires c κs = search needs
-
-answer-in-requires : tie.Need-answer-in-requires
-answer-in-requires c κs = search needs
-
-same-length : tie.Need-same-length
-same-length c = search needs
-
-same-length-2 : tie.Need-same-length-2
-same-length-2 c = search needs
-
-same-length-3 : tie.Need-same-length-3
-same-length-3 c = search needs
-
-same-length-4 : tie.Need-same-length-4
-same-length-4 c = search needs
-
 returns-2 : tie.Need-returns-2
 unfolding isShort
 returns-2 c =
@@ -40,10 +22,6 @@ keeper-load-spec =
     tie.close
     (tie.spec
     returns
-    load-requires
-    answer-in-requires
-    same-length
-    same-length-2
-    same-length-3
-    same-length-4
+    (λ c κs. search needs) (λ c κs. search needs) (λ c. search needs) (λ c. search needs) (λ c. search needs)
+    (λ c. search needs)
     returns-2)

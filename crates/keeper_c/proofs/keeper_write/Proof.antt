@@ -9,18 +9,6 @@ returns : tie.Need-returns
 unfolding writeCall isShort
 returns c = rw (lt-ltb _ _ (c .if1 .taken))
 
-write-requires : tie.Need-write-requires
-write-requires c κs = search needs
-
-answer-in-requires : tie.Need-answer-in-requires
-answer-in-requires c κs = search needs
-
-same-length : tie.Need-same-length
-same-length c = search needs
-
-same-length-2 : tie.Need-same-length-2
-same-length-2 c = search needs
-
 returns-2 : tie.Need-returns-2
 unfolding isShort
 returns-2 c =
@@ -32,4 +20,7 @@ returns-2 c =
 pub keeper-write-spec : {M : Type 1} → statement M
 keeper-write-spec =
     tie.close
-    (tie.spec returns write-requires answer-in-requires same-length same-length-2 returns-2)
+    (tie.spec
+    returns
+    (λ c κs. search needs) (λ c κs. search needs) (λ c. search needs) (λ c. search needs)
+    returns-2)

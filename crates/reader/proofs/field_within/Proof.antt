@@ -6,9 +6,6 @@ use Rattle.reader.proofs.Front.{front-field, front-length}
 use Rattle.reader.proofs.field_within.Statement.{statement}
 use Rattle.reader.proofs.field_within.Tie as tie
 
-value-of-requires : tie.Need-value-of-requires
-value-of-requires c κs = search needs
-
 step-at-requires : tie.Need-step-at-requires
 step-at-requires c κs =
     let start = c .before .before in
@@ -23,4 +20,7 @@ returns c =
     ∙ front-field (start .args .s .now) lent (start .args .end) (start .pre .1) (c₁ .value-of .ensures) (start .args .at)
 
 pub field-within-spec : {M : Type 1} → statement M
-field-within-spec = tie.close (tie.spec value-of-requires step-at-requires returns)
+field-within-spec = tie.close (tie.spec
+    (λ c κs. search needs)
+    step-at-requires
+    returns)

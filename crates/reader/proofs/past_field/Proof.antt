@@ -21,12 +21,6 @@ no-field (fields.Field tag start stop) h at = absurd
 no-field fields.End h at = refl
 no-field (fields.Bad place) h at = refl
 
-field-at-requires : tie.Need-field-at-requires
-field-at-requires c κs = search needs
-
-enum-known-end : tie.Need-enum-known-end
-enum-known-end c = search needs
-
 returns : tie.Need-returns
 unfolding pastField
 returns c = let c₁ = c .before in no-field _ (c .match .keys2) _ ∙ ap (pastRead (c₁ .before .before .args .at)) (c₁ .field-at .ensures)
@@ -39,4 +33,7 @@ returns-2 c =
     ap (pastRead (c₂ .before .before .args .at)) (sym (c₁ .end .given .1) ∙ c₂ .field-at .ensures)
 
 pub past-field-spec : {M : Type 1} → statement M
-past-field-spec = tie.close (tie.spec field-at-requires enum-known-end returns returns-2)
+past-field-spec = tie.close (tie.spec
+    (λ c κs. search needs) (λ c. search needs)
+    returns
+    returns-2)

@@ -22,9 +22,6 @@ take-step-requires c κs =
       (start .pre .1 .0, start .pre .1 .1, start .pre .1 .2, start .pre .1 .3),
     )
 
-lengths-after-requires : tie.Need-lengths-after-requires
-lengths-after-requires c κs = search needs
-
 say-requires : tie.Need-say-requires
 say-requires c κs =
     let c₁ = c .before .before .before .before in
@@ -43,18 +40,6 @@ say-requires c κs =
       (start .pre .0 .1, omega (arith, last .1 .0, start .pre .1 .3)),
     )
 
-same-length : tie.Need-same-length
-same-length c = search needs
-
-same-length-2 : tie.Need-same-length-2
-same-length-2 c = search needs
-
-same-length-3 : tie.Need-same-length-3
-same-length-3 c = search needs
-
-same-length-4 : tie.Need-same-length-4
-same-length-4 c = search needs
-
 returns : tie.Need-returns
 returns c =
     let c₁ = c .before .before .before .before .before in
@@ -66,10 +51,7 @@ play-step-spec =
     tie.close
     (tie.spec
     take-step-requires
-    lengths-after-requires
+    (λ c κs. search needs)
     say-requires
-    same-length
-    same-length-2
-    same-length-3
-    same-length-4
+    (λ c. search needs) (λ c. search needs) (λ c. search needs) (λ c. search needs)
     returns)

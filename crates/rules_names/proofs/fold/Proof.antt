@@ -6,9 +6,6 @@ use borrow.Author.Needs.{needs}
 use Rattle.rules_names.proofs.fold.Statement.{statement}
 use Rattle.rules_names.proofs.fold.Tie as tie
 
-is-between-requires : tie.Need-is-between-requires
-is-between-requires c κs = search needs
-
 add-result : tie.Need-add-result
 add-result c = omega (arith, says-between 65 90 _ .holds (sym (c .before .is-between .ensures) ∙ c .if1 .taken))
 
@@ -21,4 +18,8 @@ unfolding folded
 returns-2 c = rw (← (c .before .is-between .ensures), c .if1 .left)
 
 pub fold-spec : {M : Type 1} → statement M
-fold-spec = tie.close (tie.spec is-between-requires add-result returns returns-2)
+fold-spec = tie.close (tie.spec
+    (λ c κs. search needs)
+    add-result
+    returns
+    returns-2)

@@ -5,15 +5,9 @@ use borrow.Author.Needs.{needs}
 use Rattle.rules_names.proofs.identifier_invalid.Statement.{statement}
 use Rattle.rules_names.proofs.identifier_invalid.Tie as tie
 
-arc-count-requires : tie.Need-arc-count-requires
-arc-count-requires c κs = search needs
-
 returns : tie.Need-returns
 unfolding identifierInvalid
 returns c = rw (← (c .before .arc-count .ensures), lt-ltb _ _ (c .if1 .taken))
-
-arc-requires : tie.Need-arc-requires
-arc-requires c κs = search needs
 
 returns-2 : tie.Need-returns-2
 unfolding identifierInvalid
@@ -30,9 +24,6 @@ returns-3 c =
     let c₂ = c₁ .before in
     let c₃ = c₂ .before in
     rw (← (c₃ .arc-count .ensures), le-ltb _ _ (c₂ .if1 .left), ← (c₁ .arc .ensures), c .if3 .taken)
-
-arc-requires-2 : tie.Need-arc-requires-2
-arc-requires-2 c κs = search needs
 
 returns-4 : tie.Need-returns-4
 unfolding identifierInvalid
@@ -54,4 +45,11 @@ returns-4 c =
 pub identifier-invalid-spec : {M : Type 1} → statement M
 identifier-invalid-spec =
     tie.close
-    (tie.spec arc-count-requires returns arc-requires returns-2 returns-3 arc-requires-2 returns-4)
+    (tie.spec
+    (λ c κs. search needs)
+    returns
+    (λ c κs. search needs)
+    returns-2
+    returns-3
+    (λ c κs. search needs)
+    returns-4)

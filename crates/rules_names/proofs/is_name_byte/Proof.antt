@@ -3,15 +3,9 @@ use borrow.Author.Needs.{needs}
 use Rattle.rules_names.proofs.is_name_byte.Statement.{statement}
 use Rattle.rules_names.proofs.is_name_byte.Tie as tie
 
-is-letter-requires : tie.Need-is-letter-requires
-is-letter-requires c κs = search needs
-
 returns : tie.Need-returns
 unfolding isNameByte
 returns c = rw (← (c .before .is-letter .ensures), c .if1 .taken)
-
-is-between-requires : tie.Need-is-between-requires
-is-between-requires c κs = search needs
 
 returns-2 : tie.Need-returns-2
 unfolding isNameByte
@@ -31,4 +25,4 @@ returns-3 c =
 
 pub is-name-byte-spec : {M : Type 1} → statement M
 is-name-byte-spec =
-    tie.close (tie.spec is-letter-requires returns is-between-requires returns-2 returns-3)
+    tie.close (tie.spec (λ c κs. search needs) returns (λ c κs. search needs) returns-2 returns-3)

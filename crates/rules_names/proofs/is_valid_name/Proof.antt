@@ -22,12 +22,6 @@ abbrev μ-loop : tie.MeasureT-loop
 returns : tie.Need-returns Inv-loop μ-loop
 returns c = sym (says-false (says-valid (c .before .before .args .name .now)) (λ v. omega (arith, v .begun)))
 
-byte-at-requires : tie.Need-byte-at-requires Inv-loop μ-loop
-byte-at-requires c κs = search needs
-
-is-letter-requires : tie.Need-is-letter-requires Inv-loop μ-loop
-is-letter-requires c κs = search needs
-
 returns-2 : tie.Need-returns-2 Inv-loop μ-loop
 unfolding validName
 returns-2 c =
@@ -37,12 +31,6 @@ returns-2 c =
 
 loop-holds : tie.Need-loop-holds Inv-loop μ-loop
 loop-holds c = (search needs, all-zero _)
-
-byte-at-requires-2 : tie.Need-byte-at-requires-2 Inv-loop μ-loop
-byte-at-requires-2 c κs = search needs
-
-is-name-byte-requires : tie.Need-is-name-byte-requires Inv-loop μ-loop
-is-name-byte-requires c κs = search needs
 
 returns-3 : tie.Need-returns-3 Inv-loop μ-loop
 unfolding validName
@@ -56,12 +44,6 @@ returns-3 c =
     (all-not (λ k. isNameByte (getD name k 0)) (c₃ .loop .i) (length name) (search needs)
     (ap isNameByte (sym (c₂ .byte-at2 .ensures)) ∙ sym (c₁ .is-name-byte .ensures) ∙ not-true (c₁ .is-name-byte .result) (c .if3 .taken)))
     (sym (and-false (isLetter (getD name 0 0))))
-
-add-i : tie.Need-add-i Inv-loop μ-loop
-add-i c = search needs
-
-loop-less : tie.Need-loop-less Inv-loop μ-loop
-loop-less c = search needs
 
 loop-again : tie.Need-loop-again Inv-loop μ-loop
 loop-again c =
@@ -93,14 +75,11 @@ is-valid-name-spec =
     Inv-loop
     μ-loop
     returns
-    byte-at-requires
-    is-letter-requires
+    (λ c κs. search needs) (λ c κs. search needs)
     returns-2
     loop-holds
-    byte-at-requires-2
-    is-name-byte-requires
+    (λ c κs. search needs) (λ c κs. search needs)
     returns-3
-    add-i
-    loop-less
+    (λ c. search needs) (λ c. search needs)
     loop-again
     returns-4)

@@ -3,15 +3,11 @@ use borrow.Author.Needs.{needs}
 use Rattle.rules_names.proofs.name_invalid.Statement.{statement}
 use Rattle.rules_names.proofs.name_invalid.Tie as tie
 
-name-requires : tie.Need-name-requires
-name-requires c κs = search needs
-
-is-valid-name-requires : tie.Need-is-valid-name-requires
-is-valid-name-requires c κs = search needs
-
 returns : tie.Need-returns
 unfolding nameInvalid
 returns c = rw (← (c .before .name .ensures), ← (c .is-valid-name .ensures))
 
 pub name-invalid-spec : {M : Type 1} → statement M
-name-invalid-spec = tie.close (tie.spec name-requires is-valid-name-requires returns)
+name-invalid-spec = tie.close (tie.spec
+    (λ c κs. search needs) (λ c κs. search needs)
+    returns)

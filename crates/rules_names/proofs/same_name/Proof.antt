@@ -24,18 +24,6 @@ returns c = rw (ne-eqb _ _ (c .if1 .taken))
 loop-holds : tie.Need-loop-holds Inv-loop μ-loop
 loop-holds c = (search needs, all-zero _)
 
-byte-at-requires : tie.Need-byte-at-requires Inv-loop μ-loop
-byte-at-requires c κs = search needs
-
-fold-requires : tie.Need-fold-requires Inv-loop μ-loop
-fold-requires c κs = search needs
-
-byte-at-requires-2 : tie.Need-byte-at-requires-2 Inv-loop μ-loop
-byte-at-requires-2 c κs = search needs
-
-fold-requires-2 : tie.Need-fold-requires-2 Inv-loop μ-loop
-fold-requires-2 c κs = search needs
-
 returns-2 : tie.Need-returns-2 Inv-loop μ-loop
 unfolding sameName
 returns-2 c =
@@ -52,12 +40,6 @@ returns-2 c =
     (ne-eqb _ _
     (λ e. c .if2 .taken (c₃ .fold .ensures ∙ ap folded (c₄ .byte-at .ensures) ∙ e ∙ sym (c₁ .fold2 .ensures ∙ ap folded (c₂ .byte-at2 .ensures))))))
     (sym (and-false (eqb (length s) (length t))))
-
-add-i : tie.Need-add-i Inv-loop μ-loop
-add-i c = search needs
-
-loop-less : tie.Need-loop-less Inv-loop μ-loop
-loop-less c = search needs
 
 loop-again : tie.Need-loop-again Inv-loop μ-loop
 loop-again c =
@@ -92,12 +74,8 @@ same-name-spec =
     μ-loop
     returns
     loop-holds
-    byte-at-requires
-    fold-requires
-    byte-at-requires-2
-    fold-requires-2
+    (λ c κs. search needs) (λ c κs. search needs) (λ c κs. search needs) (λ c κs. search needs)
     returns-2
-    add-i
-    loop-less
+    (λ c. search needs) (λ c. search needs)
     loop-again
     returns-3)

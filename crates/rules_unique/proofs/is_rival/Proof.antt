@@ -5,14 +5,8 @@ use Rattle.rules_unique.specs.UniqueLaws.{row-keyed}
 use Rattle.rules_unique.proofs.is_rival.Statement.{statement}
 use Rattle.rules_unique.proofs.is_rival.Tie as tie
 
-same-row-requires : tie.Need-same-row-requires
-same-row-requires c κs = search needs
-
 returns : tie.Need-returns
 returns c = rw (sym (c .before .same-row .ensures) ∙ c .if1 .taken)
-
-row-requires : tie.Need-row-requires
-row-requires c κs = search needs
 
 same-key-requires : tie.Need-same-key-requires
 same-key-requires c κs =
@@ -30,4 +24,4 @@ returns-2 c =
 
 pub is-rival-spec : {M : Type 1} → statement M
 is-rival-spec =
-    tie.close (tie.spec same-row-requires returns row-requires same-key-requires returns-2)
+    tie.close (tie.spec (λ c κs. search needs) returns (λ c κs. search needs) same-key-requires returns-2)

@@ -8,12 +8,6 @@ use borrow.Author.Needs.{needs}
 use Rattle.rules_unique.proofs.is_taken.Statement.{statement}
 use Rattle.rules_unique.proofs.is_taken.Tie as tie
 
-table-of-requires : tie.Need-table-of-requires
-table-of-requires c κs = search needs
-
-has-key-requires : tie.Need-has-key-requires
-has-key-requires c κs = search needs
-
 returns : tie.Need-returns
 unfolding taken
 returns c =
@@ -78,8 +72,7 @@ pub is-taken-spec : {M : Type 1} → statement M
 is-taken-spec =
     tie.close
     (tie.spec
-    table-of-requires
-    has-key-requires
+    (λ c κs. search needs) (λ c κs. search needs)
     returns
     schema-row-requires
     rival-in-requires

@@ -17,9 +17,6 @@ Inv-loop table store key id own count j₀ j = (j ≤ count) × (anyBelow j (riv
 abbrev μ-loop : tie.MeasureT-loop
 μ-loop table store key id own count j₀ j = count - j
 
-has-key-requires : tie.Need-has-key-requires Inv-loop μ-loop
-has-key-requires c κs = search needs
-
 returns : tie.Need-returns Inv-loop μ-loop
 returns c =
     let c₁ = c .before in
@@ -72,12 +69,6 @@ returns-2 c =
     (any-here (rivalAt key table store id own) (c₄ .loop .j) _ (omega (arith, c₅ .row-count .ensures, c₃ .loop-test .taken))
     (sym (c₁ .is-rival .ensures ∙ rival-at key table store id own (c₄ .loop .j) (c₂ .row-id .ensures)) ∙ c .if2 .taken)))
 
-add-j : tie.Need-add-j Inv-loop μ-loop
-add-j c = search needs
-
-loop-less : tie.Need-loop-less Inv-loop μ-loop
-loop-less c = search needs
-
 loop-again : tie.Need-loop-again Inv-loop μ-loop
 loop-again c =
     let c₁ = c .before in
@@ -115,14 +106,13 @@ rival-in-spec =
     (tie.spec
     Inv-loop
     μ-loop
-    has-key-requires
+    (λ c κs. search needs)
     returns
     row-count-requires
     loop-holds
     row-id-requires
     is-rival-requires
     returns-2
-    add-j
-    loop-less
+    (λ c. search needs) (λ c. search needs)
     loop-again
     returns-3)

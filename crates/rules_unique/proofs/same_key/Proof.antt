@@ -17,12 +17,6 @@ name-requires-2 c κs =
     let start = c .before .before .before .before .before in
     (omega (arith, start .pre .1 .wide), start .pre .1 .name)
 
-same-name-requires : tie.Need-same-name-requires
-same-name-requires c κs = search needs
-
-enum-told-2 : tie.Need-enum-told-2
-enum-told-2 c = search needs
-
 identifier-requires : tie.Need-identifier-requires
 identifier-requires c κs =
     let start = c .before .before .before .before in
@@ -33,23 +27,11 @@ identifier-requires-2 c κs =
     let start = c .before .before .before .before .before in
     (omega (arith, start .pre .1 .wide), start .pre .1 .arcs)
 
-same-requires : tie.Need-same-requires
-same-requires c κs = search needs
-
-enum-told-3 : tie.Need-enum-told-3
-enum-told-3 c = search needs
-
 guid-requires : tie.Need-guid-requires
 guid-requires c κs = omega (arith, c .before .before .before .before .pre .0 .wide)
 
 guid-requires-2 : tie.Need-guid-requires-2
 guid-requires-2 c κs = omega (arith, c .before .before .before .before .before .pre .1 .wide)
-
-same-requires-2 : tie.Need-same-requires-2
-same-requires-2 c κs = search needs
-
-enum-told-4 : tie.Need-enum-told-4
-enum-told-4 c = search needs
 
 mapi-requires : tie.Need-mapi-requires
 mapi-requires c κs = omega (arith, c .before .before .before .before .pre .0 .wide)
@@ -57,20 +39,11 @@ mapi-requires c κs = omega (arith, c .before .before .before .before .pre .0 .w
 mapi-requires-2 : tie.Need-mapi-requires-2
 mapi-requires-2 c κs = omega (arith, c .before .before .before .before .before .pre .1 .wide)
 
-same-present-requires : tie.Need-same-present-requires
-same-present-requires c κs = search needs
-
-enum-told-5 : tie.Need-enum-told-5
-enum-told-5 c = search needs
-
 link-requires : tie.Need-link-requires
 link-requires c κs = omega (arith, c .before .before .before .before .pre .0 .wide)
 
 link-requires-2 : tie.Need-link-requires-2
 link-requires-2 c κs = omega (arith, c .before .before .before .before .before .pre .1 .wide)
-
-same-present-requires-2 : tie.Need-same-present-requires-2
-same-present-requires-2 c κs = search needs
 
 returns : tie.Need-returns
 unfolding sameKey
@@ -119,23 +92,19 @@ same-key-spec =
     enum-told
     name-requires
     name-requires-2
-    same-name-requires
-    enum-told-2
+    (λ c κs. search needs) (λ c. search needs)
     identifier-requires
     identifier-requires-2
-    same-requires
-    enum-told-3
+    (λ c κs. search needs) (λ c. search needs)
     guid-requires
     guid-requires-2
-    same-requires-2
-    enum-told-4
+    (λ c κs. search needs) (λ c. search needs)
     mapi-requires
     mapi-requires-2
-    same-present-requires
-    enum-told-5
+    (λ c κs. search needs) (λ c. search needs)
     link-requires
     link-requires-2
-    same-present-requires-2
+    (λ c κs. search needs)
     returns
     returns-2
     returns-3

@@ -19,9 +19,6 @@ loop-holds : tie.Need-loop-holds Inv-loop μ-loop
 unfolding countBelow
 loop-holds c = search needs
 
-shared-slice-read-n : tie.Need-shared-slice-read-n Inv-loop μ-loop
-shared-slice-read-n c = search needs
-
 cast-n : tie.Need-cast-n Inv-loop μ-loop
 cast-n c = omega (arith, ones-le 8 _ (c .shared-slice-known .given (c .before .before .loop .i) .fits))
 
@@ -30,12 +27,6 @@ add-n c =
     let c₁ = c .before .before in
     let start = c₁ .before in
     omega (arith, ones-le 8 _ (c .shared-slice-known .given (c₁ .loop .i) .fits), count-le (c₁ .loop .i * 8) (member (start .args .s .now)))
-
-add-i : tie.Need-add-i Inv-loop μ-loop
-add-i c = search needs
-
-loop-less : tie.Need-loop-less Inv-loop μ-loop
-loop-less c = search needs
 
 loop-again : tie.Need-loop-again Inv-loop μ-loop
 loop-again c =
@@ -58,10 +49,9 @@ count-spec =
     Inv-loop
     μ-loop
     loop-holds
-    shared-slice-read-n
+    (λ c. search needs)
     cast-n
     add-n
-    add-i
-    loop-less
+    (λ c. search needs) (λ c. search needs)
     loop-again
     returns)

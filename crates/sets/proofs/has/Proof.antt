@@ -7,15 +7,6 @@ use borrow.Author.Needs.{needs}
 use Rattle.sets.proofs.has.Statement.{statement}
 use Rattle.sets.proofs.has.Tie as tie
 
-shared-slice-read-result : tie.Need-shared-slice-read-result
-shared-slice-read-result c = search needs
-
-cast-result : tie.Need-cast-result
-cast-result c = search needs
-
-shr-result : tie.Need-shr-result
-shr-result c = search needs
-
 returns : tie.Need-returns
 unfolding member bit digit
 returns c = search needs
@@ -27,4 +18,7 @@ returns-2 c =
     sym (ap (λ (x : ℕ). eqb x 1) (bit-past (start .args .s .now) (start .args .n) (c .if1 .left)))
 
 pub has-spec : {M : Type 1} → statement M
-has-spec = tie.close (tie.spec shared-slice-read-result cast-result shr-result returns returns-2)
+has-spec = tie.close (tie.spec
+    (λ c. search needs) (λ c. search needs) (λ c. search needs)
+    returns
+    returns-2)

@@ -4,9 +4,6 @@ use borrow.Author.Needs.{needs}
 use Rattle.sets.proofs.is_empty.Statement.{statement}
 use Rattle.sets.proofs.is_empty.Tie as tie
 
-is-zero-requires : tie.Need-is-zero-requires
-is-zero-requires c κs = search needs
-
 returns : tie.Need-returns
 returns c =
     let c₁ = c .before in
@@ -14,4 +11,6 @@ returns c =
     c .is-zero .ensures ∙ zero-empty (start .args .s .now) (λ i. c₁ .shared-slice-known .given i .fits)
 
 pub is-empty-spec : {M : Type 1} → statement M
-is-empty-spec = tie.close (tie.spec is-zero-requires returns)
+is-empty-spec = tie.close (tie.spec
+    (λ c κs. search needs)
+    returns)

@@ -20,15 +20,6 @@ abbrev μ-loop : tie.MeasureT-loop
 loop-holds : tie.Need-loop-holds Inv-loop μ-loop
 loop-holds c = (search needs, below-none _)
 
-shared-slice-read-if1 : tie.Need-shared-slice-read-if1 Inv-loop μ-loop
-shared-slice-read-if1 c = search needs
-
-shared-slice-read-if1-2 : tie.Need-shared-slice-read-if1-2 Inv-loop μ-loop
-shared-slice-read-if1-2 c = search needs
-
-shared-slice-read-if1-3 : tie.Need-shared-slice-read-if1-3 Inv-loop μ-loop
-shared-slice-read-if1-3 c = search needs
-
 returns : tie.Need-returns Inv-loop μ-loop
 returns c =
     let c₁ = c .before .before in
@@ -40,12 +31,6 @@ returns c =
     (λ h. c .if1 .taken
     (subset-byte (start .args .a .now) (start .args .b .now) (c₃ .loop .i) (c₂ .shared-slice-known .given (c₃ .loop .i) .fits)
     (c₁ .shared-slice-known2 .given (c₃ .loop .i) .fits) h)))
-
-add-i : tie.Need-add-i Inv-loop μ-loop
-add-i c = search needs
-
-loop-less : tie.Need-loop-less Inv-loop μ-loop
-loop-less c = search needs
 
 loop-again : tie.Need-loop-again Inv-loop μ-loop
 loop-again c = (search needs, below-more _ _ (c .before .before .before .before .before .loop .inv .1) (c .if1 .left))
@@ -65,11 +50,8 @@ is-subset-spec =
     Inv-loop
     μ-loop
     loop-holds
-    shared-slice-read-if1
-    shared-slice-read-if1-2
-    shared-slice-read-if1-3
+    (λ c. search needs) (λ c. search needs) (λ c. search needs)
     returns
-    add-i
-    loop-less
+    (λ c. search needs) (λ c. search needs)
     loop-again
     returns-2)

@@ -20,21 +20,6 @@ abbrev μ-loop : tie.MeasureT-loop
 loop-holds : tie.Need-loop-holds Inv-loop μ-loop
 loop-holds c = fill-none _ _
 
-slice-read-a : tie.Need-slice-read-a Inv-loop μ-loop
-slice-read-a c = search needs
-
-shared-slice-read-a : tie.Need-shared-slice-read-a Inv-loop μ-loop
-shared-slice-read-a c = search needs
-
-slice-write-a : tie.Need-slice-write-a Inv-loop μ-loop
-slice-write-a c = search needs
-
-add-i : tie.Need-add-i Inv-loop μ-loop
-add-i c = search needs
-
-loop-less : tie.Need-loop-less Inv-loop μ-loop
-loop-less c = search needs
-
 loop-again : tie.Need-loop-again Inv-loop μ-loop
 loop-again c =
     let c₁ = c .before in
@@ -47,9 +32,6 @@ loop-again c =
     h : l .i < length a = omega arith in let later : getD (l .a) (l .i) 0 ≡ getD a (l .i) 0 = fill-later (union a b) a (l .i) (l .i) (l .a) n
     (omega arith) (l .inv) in let small : getD a (l .i) 0 < 256 = rw later at (c₁ .slice-known .given (l .i) .fits) in fill-more _ _ (l .i) _ _ n h
     (ap (λ (x : ℕ). bitOr x (getD b (l .i) 0)) later ∙ union-byte a b (l .i) h small (c .shared-slice-known .given (l .i) .fits)) (l .inv)
-
-same-length : tie.Need-same-length Inv-loop μ-loop
-same-length c = search needs
 
 returns : tie.Need-returns Inv-loop μ-loop
 returns c =
@@ -64,11 +46,7 @@ join-spec =
     Inv-loop
     μ-loop
     loop-holds
-    slice-read-a
-    shared-slice-read-a
-    slice-write-a
-    add-i
-    loop-less
+    (λ c. search needs) (λ c. search needs) (λ c. search needs) (λ c. search needs) (λ c. search needs)
     loop-again
-    same-length
+    (λ c. search needs)
     returns)

@@ -16,14 +16,8 @@ Inv-loop s start end n₀ n = (start ≤ n) × ((k : ℕ) → k < n → from sta
 abbrev μ-loop : tie.MeasureT-loop
 μ-loop s start end n₀ n = end - n
 
-mul-end : tie.Need-mul-end Inv-loop μ-loop
-mul-end c = search needs
-
 loop-holds : tie.Need-loop-holds Inv-loop μ-loop
 loop-holds c = (search needs, from-before _ _)
-
-has-requires : tie.Need-has-requires Inv-loop μ-loop
-has-requires c κs = search needs
 
 returns : tie.Need-returns Inv-loop μ-loop
 returns c =
@@ -33,12 +27,6 @@ returns c =
     let p = member (start .args .s .now) in sym
     (first-found (from _ p) _ _ (search needs) (any-false (from _ p) _ (c₂ .loop .inv .1))
     (from-past _ p _ (c₂ .loop .inv .0) ∙ sym (c₁ .has .ensures) ∙ c .if1 .taken))
-
-add-n : tie.Need-add-n Inv-loop μ-loop
-add-n c = search needs
-
-loop-less : tie.Need-loop-less Inv-loop μ-loop
-loop-less c = search needs
 
 loop-again : tie.Need-loop-again Inv-loop μ-loop
 loop-again c =
@@ -59,11 +47,10 @@ next-spec =
     (tie.spec
     Inv-loop
     μ-loop
-    mul-end
+    (λ c. search needs)
     loop-holds
-    has-requires
+    (λ c κs. search needs)
     returns
-    add-n
-    loop-less
+    (λ c. search needs) (λ c. search needs)
     loop-again
     returns-2)

@@ -5,15 +5,6 @@ use borrow.Author.Needs.{needs}
 use Rattle.sets.proofs.remove.Statement.{statement}
 use Rattle.sets.proofs.remove.Tie as tie
 
-remove-within-requires : tie.Need-remove-within-requires
-remove-within-requires c κs = search needs
-
-same-length : tie.Need-same-length
-same-length c = search needs
-
-returns : tie.Need-returns
-returns c = search needs
-
 returns-2 : tie.Need-returns-2
 returns-2 c =
     let c₁ = c .before in
@@ -21,4 +12,6 @@ returns-2 c =
     sym (without-beyond (start .args .s .now) (start .args .n) (λ i. c₁ .slice-known .given i .fits) (omega (arith, c .if1 .left)))
 
 pub remove-spec : {M : Type 1} → statement M
-remove-spec = tie.close (tie.spec remove-within-requires same-length returns returns-2)
+remove-spec = tie.close (tie.spec
+    (λ c κs. search needs) (λ c. search needs) (λ c. search needs)
+    returns-2)

@@ -5,22 +5,12 @@ use borrow.Author.Needs.{needs}
 use Rattle.sheet_write.proofs.put_heading.Statement.{statement}
 use Rattle.sheet_write.proofs.put_heading.Tie as tie
 
-slice-aggregate-write-field : tie.Need-slice-aggregate-write-field
-slice-aggregate-write-field c = search needs
-
 write-field-requires : tie.Need-write-field-requires
 write-field-requires c κs = (omega arith, omega (arith, c .before .before .before .pre, heading-length))
-
-add-result : tie.Need-add-result
-add-result c = search needs
-
-same-length : tie.Need-same-length
-same-length c = search needs
 
 returns : tie.Need-returns
 returns c = record { place = omega (arith, heading-length); bytes = unfold heading in c .before .before .write-field .ensures }
 
 pub put-heading-spec : {M : Type 1} → statement M
 put-heading-spec =
-    tie.close
-    (tie.spec slice-aggregate-write-field write-field-requires add-result same-length returns)
+    tie.close (tie.spec (λ c. search needs) write-field-requires (λ c. search needs) (λ c. search needs) returns)

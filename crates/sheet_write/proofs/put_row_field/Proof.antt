@@ -9,9 +9,6 @@ use Rattle.sheet_write.proofs.put_row_field.Tie as tie
 row-length-requires : tie.Need-row-length-requires
 row-length-requires c κs = let start = c .before .before in row-columns (start .args .table) (start .args .row .now) (start .pre .0)
 
-row-tag-requires : tie.Need-row-tag-requires
-row-tag-requires c κs = search needs
-
 cast-write-header : tie.Need-cast-write-header
 cast-write-header c =
     let c₁ = c .before .before in
@@ -25,18 +22,12 @@ write-header-requires c κs =
     omega
     (arith, start .pre .1, row-field-length (start .args .table) (start .args .row .now))
 
-add-write-row : tie.Need-add-write-row
-add-write-row c = search needs
-
 write-row-requires : tie.Need-write-row-requires
 write-row-requires c κs =
     let start = c .before .before .before .before .before .before .before .before .before in
     let table = start .args .table in
     let row = start .args .row .now in
     let p = row-columns table row (start .pre .0) in (p .0, p .1, omega (arith, start .pre .1, row-field-length table row))
-
-same-length : tie.Need-same-length
-same-length c = search needs
 
 returns : tie.Need-returns
 returns c =
@@ -57,10 +48,10 @@ put-row-field-spec =
     tie.close
     (tie.spec
     row-length-requires
-    row-tag-requires
+    (λ c κs. search needs)
     cast-write-header
     write-header-requires
-    add-write-row
+    (λ c. search needs)
     write-row-requires
-    same-length
+    (λ c. search needs)
     returns)

@@ -56,12 +56,6 @@ put-row-field-requires c κs =
           (omega (arith, start .pre .1, ap length f)) (c₄ .loop .inv) (c₃ .loop-test .taken),
     )
 
-add-k : tie.Need-add-k Inv-loop μ-loop
-add-k c = search needs
-
-loop-less : tie.Need-loop-less Inv-loop μ-loop
-loop-less c = search needs
-
 loop-again : tie.Need-loop-again Inv-loop μ-loop
 loop-again c =
     let c₁ = c .before .before in
@@ -108,8 +102,7 @@ put-row-fields-spec =
     row-id-requires
     row-requires
     put-row-field-requires
-    add-k
-    loop-less
+    (λ c. search needs) (λ c. search needs)
     loop-again
     same-length
     returns)

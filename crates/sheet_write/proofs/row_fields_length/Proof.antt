@@ -77,12 +77,6 @@ add-total c =
           (c₄ .loop .k) (omega (arith, limit-most table, start .pre .few, c₅ .row-count .ensures, c₃ .loop-test .taken)),
     )
 
-add-k : tie.Need-add-k Inv-loop μ-loop
-add-k c = search needs
-
-loop-less : tie.Need-loop-less Inv-loop μ-loop
-loop-less c = search needs
-
 loop-again : tie.Need-loop-again Inv-loop μ-loop
 loop-again c =
     let c₁ = c .before in
@@ -119,7 +113,6 @@ row-fields-length-spec =
     row-requires
     row-field-length-requires
     add-total
-    add-k
-    loop-less
+    (λ c. search needs) (λ c. search needs)
     loop-again
     returns)

@@ -3,12 +3,6 @@ use Rattle.sheet_read.specs.Stopping.{rowTag}
 use Rattle.sheet_write.proofs.row_tag.Statement.{statement}
 use Rattle.sheet_write.proofs.row_tag.Tie as tie
 
-enum-told : tie.Need-enum-told
-enum-told c = search needs
-
-enum-told-2 : tie.Need-enum-told-2
-enum-told-2 c = search needs
-
 returns : tie.Need-returns
 unfolding rowTag
 returns c = cc
@@ -18,4 +12,7 @@ unfolding rowTag
 returns-2 c = cc
 
 pub row-tag-spec : {M : Type 1} → statement M
-row-tag-spec = tie.close (tie.spec enum-told enum-told-2 returns returns-2)
+row-tag-spec = tie.close (tie.spec
+    (λ c. search needs) (λ c. search needs)
+    returns
+    returns-2)

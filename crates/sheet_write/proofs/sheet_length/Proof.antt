@@ -6,15 +6,6 @@ use Rattle.sheet_write.proofs.Rows.{all-short, sheet-size}
 use Rattle.sheet_write.proofs.sheet_length.Statement.{statement}
 use Rattle.sheet_write.proofs.sheet_length.Tie as tie
 
-row-fields-length-requires : tie.Need-row-fields-length-requires
-row-fields-length-requires c κs = search needs
-
-row-fields-length-requires-2 : tie.Need-row-fields-length-requires-2
-row-fields-length-requires-2 c κs = search needs
-
-add-result : tie.Need-add-result
-add-result c = search needs
-
 add-result-2 : tie.Need-add-result-2
 add-result-2 c =
     let c₁ = c .before in
@@ -51,9 +42,7 @@ pub sheet-length-spec : {M : Type 1} → statement M
 sheet-length-spec =
     tie.close
     (tie.spec
-    row-fields-length-requires
-    row-fields-length-requires-2
-    add-result
+    (λ c κs. search needs) (λ c κs. search needs) (λ c. search needs)
     add-result-2
     add-result-3
     returns)

@@ -34,9 +34,6 @@ put-row-fields-requires-2 c κs =
           (arith, start .pre .2, sheet-size m, heading-length, c₂ .put-heading .ensures .place, c₁ .put-row-fields .ensures .place, p, q),
     )
 
-same-length : tie.Need-same-length
-same-length c = search needs
-
 returns : tie.Need-returns
 returns c =
     let c₁ = c .before .before in
@@ -54,5 +51,5 @@ write-sheet-spec =
     put-heading-requires
     put-row-fields-requires
     put-row-fields-requires-2
-    same-length
+    (λ c. search needs)
     returns)

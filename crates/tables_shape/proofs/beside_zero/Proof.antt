@@ -6,12 +6,6 @@ use Rattle.tables_shape.proofs.beside_zero.Tie as tie
 enum-told : tie.Need-enum-told
 enum-told c = search needs
 
-enum-told-2 : tie.Need-enum-told-2
-enum-told-2 c = search needs
-
-byte-at-requires : tie.Need-byte-at-requires
-byte-at-requires c κs = search needs
-
 returns : tie.Need-returns
 unfolding besideZero
 returns c = rw (c .enum-told .given .1)
@@ -21,4 +15,8 @@ unfolding besideZero
 returns-2 c = rw (c .before .enum-told2 .given .1, c .byte-at .ensures)
 
 pub beside-zero-spec : {M : Type 1} → statement M
-beside-zero-spec = tie.close (tie.spec enum-told enum-told-2 byte-at-requires returns returns-2)
+beside-zero-spec = tie.close (tie.spec
+    enum-told
+    (λ c. search needs) (λ c κs. search needs)
+    returns
+    returns-2)

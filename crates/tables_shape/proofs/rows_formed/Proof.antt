@@ -42,12 +42,6 @@ well-formed-requires c κs =
     table-row-wide table store _ (c₃ .loop .k) (start .pre .0) (omega (arith, start .pre .1, c₂ .loop-test .taken))
     (c .row .ensures ∙ id-row table (c₃ .loop .k) store (c₁ .row-id .ensures))
 
-add-k : tie.Need-add-k Inv-loop μ-loop
-add-k c = search needs
-
-loop-less : tie.Need-loop-less Inv-loop μ-loop
-loop-less c = search needs
-
 loop-again : tie.Need-loop-again Inv-loop μ-loop
 loop-again c =
     let c₁ = c .before in
@@ -98,8 +92,7 @@ rows-formed-spec =
     row-id-requires
     row-requires
     well-formed-requires
-    add-k
-    loop-less
+    (λ c. search needs) (λ c. search needs)
     loop-again
     returns
     returns-2)

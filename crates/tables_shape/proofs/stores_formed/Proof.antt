@@ -3,12 +3,6 @@ use borrow.Author.Needs.{needs}
 use Rattle.tables_shape.proofs.stores_formed.Statement.{statement}
 use Rattle.tables_shape.proofs.stores_formed.Tie as tie
 
-table-formed-requires : tie.Need-table-formed-requires
-table-formed-requires c κs = search needs
-
-table-formed-requires-2 : tie.Need-table-formed-requires-2
-table-formed-requires-2 c κs = search needs
-
 returns : tie.Need-returns
 unfolding storesFormed
 returns c = let c₁ = c .before in let c₂ = c₁ .before in rw (← (c₂ .table-formed .ensures), c₁ .if1 .taken) (c .table-formed2 .ensures)
@@ -19,4 +13,4 @@ returns-2 c = rw (← (c .before .table-formed .ensures), c .if1 .left)
 
 pub stores-formed-spec : {M : Type 1} → statement M
 stores-formed-spec =
-    tie.close (tie.spec table-formed-requires table-formed-requires-2 returns returns-2)
+    tie.close (tie.spec (λ c κs. search needs) (λ c κs. search needs) returns returns-2)

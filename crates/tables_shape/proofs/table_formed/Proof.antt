@@ -5,21 +5,12 @@ use borrow.Author.Needs.{needs}
 use Rattle.tables_shape.proofs.table_formed.Statement.{statement}
 use Rattle.tables_shape.proofs.table_formed.Tie as tie
 
-beside-zero-requires : tie.Need-beside-zero-requires
-beside-zero-requires c κs = search needs
-
 returns : tie.Need-returns
 returns c =
     let c₁ = c .before in
     let start = c₁ .before .before in
     sym
     (beside-broken (start .args .table) (start .args .store .now) (sym (c₁ .beside-zero .ensures) ∙ not-true _ (c .if1 .taken)))
-
-row-count-requires : tie.Need-row-count-requires
-row-count-requires c κs = search needs
-
-row-limit-requires : tie.Need-row-limit-requires
-row-limit-requires c κs = search needs
 
 returns-2 : tie.Need-returns-2
 returns-2 c =
@@ -31,12 +22,6 @@ returns-2 c =
     sym
     (rows-many (start .args .table) (start .args .store .now) (sym (c₄ .beside-zero .ensures) ∙ not-false _ (c₃ .if1 .left)) _ _
     (c₂ .row-count .ensures) (c₁ .row-limit .ensures) (c .if2 .taken))
-
-rows-formed-requires : tie.Need-rows-formed-requires
-rows-formed-requires c κs = search needs
-
-unused-zero-requires : tie.Need-unused-zero-requires
-unused-zero-requires c κs = search needs
 
 returns-3 : tie.Need-returns-3
 returns-3 c =
@@ -69,12 +54,10 @@ pub table-formed-spec : {M : Type 1} → statement M
 table-formed-spec =
     tie.close
     (tie.spec
-    beside-zero-requires
+    (λ c κs. search needs)
     returns
-    row-count-requires
-    row-limit-requires
+    (λ c κs. search needs) (λ c κs. search needs)
     returns-2
-    rows-formed-requires
-    unused-zero-requires
+    (λ c κs. search needs) (λ c κs. search needs)
     returns-3
     returns-4)

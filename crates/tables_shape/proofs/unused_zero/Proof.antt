@@ -7,17 +7,11 @@ use Rattle.tables_shape.proofs.Checking.{unused-none, unused-left, unus
 use Rattle.tables_shape.proofs.unused_zero.Statement.{statement}
 use Rattle.tables_shape.proofs.unused_zero.Tie as tie
 
-row-limit-requires : tie.Need-row-limit-requires
-row-limit-requires c κs = search needs
-
 returns : tie.Need-returns
 returns c =
     let c₁ = c .before in
     let start = c₁ .before .before in
     sym (unused-none (start .args .table) (start .args .n) (start .args .store .now) (c .if1 .taken ∙ c₁ .row-limit .ensures))
-
-row-id-requires : tie.Need-row-id-requires
-row-id-requires c κs = search needs
 
 row-start-requires : tie.Need-row-start-requires
 row-start-requires c κs =
@@ -26,9 +20,6 @@ row-start-requires c κs =
     let start = c₂ .before .before in
     rw (c .row-id .ensures, id-table (start .args .table) (start .args .n), id-number (start .args .table) (start .args .n)) (omega
     (arith, start .pre .0, c₁ .if1 .left, c₂ .row-limit .ensures))
-
-store-length-requires : tie.Need-store-length-requires
-store-length-requires c κs = search needs
 
 sub-part-of : tie.Need-sub-part-of
 sub-part-of c =
@@ -52,9 +43,6 @@ part-of-requires c κs =
       start .pre .1,
     )
 
-is-zero-requires : tie.Need-is-zero-requires
-is-zero-requires c κs = search needs
-
 returns-2 : tie.Need-returns-2
 returns-2 c =
     let c₁ = c .before in
@@ -69,12 +57,12 @@ pub unused-zero-spec : {M : Type 1} → statement M
 unused-zero-spec =
     tie.close
     (tie.spec
-    row-limit-requires
+    (λ c κs. search needs)
     returns
-    row-id-requires
+    (λ c κs. search needs)
     row-start-requires
-    store-length-requires
+    (λ c κs. search needs)
     sub-part-of
     part-of-requires
-    is-zero-requires
+    (λ c κs. search needs)
     returns-2)

@@ -6,12 +6,6 @@ use borrow.Author.Needs.{needs}
 use Rattle.wire.proofs.write_header.Statement.{statement}
 use Rattle.wire.proofs.write_header.Tie as tie
 
-slice-write-d : tie.Need-slice-write-d
-slice-write-d c = search needs
-
-add-write-u16 : tie.Need-add-write-u16
-add-write-u16 c = search needs
-
 write-u16-requires : tie.Need-write-u16-requires
 write-u16-requires c κs = simp length-set (omega arith)
 
@@ -29,4 +23,4 @@ returns c =
 
 pub write-header-spec : {M : Type 1} → statement M
 write-header-spec =
-    tie.close (tie.spec slice-write-d add-write-u16 write-u16-requires same-length returns)
+    tie.close (tie.spec (λ c. search needs) (λ c. search needs) write-u16-requires same-length returns)

@@ -10,12 +10,6 @@ use Rattle.schema.specs.Layout.{rowWidth}
 use Rattle.schema.specs.LayoutLaws.{common-narrow, narrow-row}
 use Rattle.change_asked.proofs.asked.addition_asked.Tie as tie
 
-row-limit-requires : tie.Need-row-limit-requires
-row-limit-requires c κs = search needs
-
-row-count-requires : tie.Need-row-count-requires
-row-count-requires c κs = search needs
-
 returns : tie.Need-returns
 unfolding additionAsked firstOf
 returns c =
@@ -73,8 +67,7 @@ pub addition-asked-spec : {M : Type 1} → statement M
 addition-asked-spec =
     tie.close
     (tie.spec
-    row-limit-requires
-    row-count-requires
+    (λ c κs. search needs) (λ c κs. search needs)
     returns
     added-row-requires
     is-base-requires

@@ -2,39 +2,6 @@ use borrow.Author.Needs.{needs}
 use Rattle.change_asked.proofs.asked.base_touched.Statement.{statement}
 use Rattle.change_asked.proofs.asked.base_touched.Tie as tie
 
-enum-told : tie.Need-enum-told
-enum-told c = search needs
-
-enum-told-2 : tie.Need-enum-told-2
-enum-told-2 c = search needs
-
-is-base-requires : tie.Need-is-base-requires
-is-base-requires c κs = search needs
-
-enum-told-3 : tie.Need-enum-told-3
-enum-told-3 c = search needs
-
-is-base-requires-2 : tie.Need-is-base-requires-2
-is-base-requires-2 c κs = search needs
-
-enum-told-4 : tie.Need-enum-told-4
-enum-told-4 c = search needs
-
-is-base-requires-3 : tie.Need-is-base-requires-3
-is-base-requires-3 c κs = search needs
-
-enum-told-5 : tie.Need-enum-told-5
-enum-told-5 c = search needs
-
-enum-told-6 : tie.Need-enum-told-6
-enum-told-6 c = search needs
-
-enum-told-7 : tie.Need-enum-told-7
-enum-told-7 c = search needs
-
-returns : tie.Need-returns
-returns c = search needs
-
 returns-2 : tie.Need-returns-2
 returns-2 c =
     let c₁ = c .before in
@@ -50,33 +17,14 @@ returns-4 c =
     let c₁ = c .before in
     rw (c₁ .enum-told4 .given .1) (c .is-base3 .ensures)
 
-returns-5 : tie.Need-returns-5
-returns-5 c = search needs
-
-returns-6 : tie.Need-returns-6
-returns-6 c = search needs
-
-returns-7 : tie.Need-returns-7
-returns-7 c = search needs
-
 pub base-touched-spec : {M : Type 1} → statement M
 base-touched-spec =
     tie.close
     (tie.spec
-    enum-told
-    enum-told-2
-    is-base-requires
-    enum-told-3
-    is-base-requires-2
-    enum-told-4
-    is-base-requires-3
-    enum-told-5
-    enum-told-6
-    enum-told-7
-    returns
+    (λ c. search needs) (λ c. search needs) (λ c κs. search needs) (λ c. search needs) (λ c κs. search needs)
+    (λ c. search needs) (λ c κs. search needs) (λ c. search needs) (λ c. search needs) (λ c. search needs)
+    (λ c. search needs)
     returns-2
     returns-3
     returns-4
-    returns-5
-    returns-6
-    returns-7)
+    (λ c. search needs) (λ c. search needs) (λ c. search needs))

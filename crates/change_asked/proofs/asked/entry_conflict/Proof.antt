@@ -5,24 +5,6 @@ use Rattle.change_asked.proofs.asked.entry_conflict.Statement.{statemen
 use Rattle.change_rows.specs.RowsLaws.{wide-row}
 use Rattle.change_asked.proofs.asked.entry_conflict.Tie as tie
 
-enum-told : tie.Need-enum-told
-enum-told c = search needs
-
-enum-told-2 : tie.Need-enum-told-2
-enum-told-2 c = search needs
-
-enum-told-3 : tie.Need-enum-told-3
-enum-told-3 c = search needs
-
-enum-told-4 : tie.Need-enum-told-4
-enum-told-4 c = search needs
-
-enum-told-5 : tie.Need-enum-told-5
-enum-told-5 c = search needs
-
-enum-told-6 : tie.Need-enum-told-6
-enum-told-6 c = search needs
-
 in-open-requires : tie.Need-in-open-requires
 in-open-requires c κs =
     let start = c .before .before .before .before in
@@ -40,28 +22,10 @@ in-fixed-requires c κs =
     let start = c₁ .before .before .before .before in
     (start .pre .0, wide-row (start .args .row .now) (c₁ .enum-told6 .given .1) (start .pre .1))
 
-enum-told-7 : tie.Need-enum-told-7
-enum-told-7 c = search needs
-
 in-open-requires-2 : tie.Need-in-open-requires-2
 in-open-requires-2 c κs =
     let start = c .before .before .before .before in
     (start .pre .0, wide-row (start .args .row .now) (c .enum-told7 .given .1) (start .pre .1))
-
-returns-2 : tie.Need-returns-2
-returns-2 c = search needs
-
-returns-3 : tie.Need-returns-3
-returns-3 c = search needs
-
-returns-4 : tie.Need-returns-4
-returns-4 c = search needs
-
-returns-5 : tie.Need-returns-5
-returns-5 c = search needs
-
-returns-6 : tie.Need-returns-6
-returns-6 c = search needs
 
 returns-7 : tie.Need-returns-7
 returns-7 c =
@@ -79,21 +43,13 @@ pub entry-conflict-spec : {M : Type 1} → statement M
 entry-conflict-spec =
     tie.close
     (tie.spec
-    enum-told
-    enum-told-2
-    enum-told-3
-    enum-told-4
-    enum-told-5
-    enum-told-6
+    (λ c. search needs) (λ c. search needs) (λ c. search needs) (λ c. search needs) (λ c. search needs)
+    (λ c. search needs)
     in-open-requires
     returns
     in-fixed-requires
-    enum-told-7
+    (λ c. search needs)
     in-open-requires-2
-    returns-2
-    returns-3
-    returns-4
-    returns-5
-    returns-6
+    (λ c. search needs) (λ c. search needs) (λ c. search needs) (λ c. search needs) (λ c. search needs)
     returns-7
     returns-8)

@@ -9,15 +9,6 @@ use Rattle.tables.specs.ShapedLaws.{shaped-table}
 use Rattle.change_rows.specs.Rows.{tableFor}
 use Rattle.change_asked.proofs.asked.first_asked.Tie as tie
 
-table-for-requires : tie.Need-table-for-requires
-table-for-requires c κs = search needs
-
-store-of-requires : tie.Need-store-of-requires
-store-of-requires c κs = search needs
-
-is-addition-requires : tie.Need-is-addition-requires
-is-addition-requires c κs = search needs
-
 addition-asked-requires : tie.Need-addition-asked-requires
 addition-asked-requires c κs =
     let c₁ = c .before .before in
@@ -34,18 +25,6 @@ returns c =
     let start = c₄ .before .before .before .before in
     c .addition-asked .ensures ∙ addition-found (start .args .change) (start .args .scratch .now) (start .args .attributes .now)
     (start .args .classes .now) (c₄ .table-for .ensures) (c₃ .store-of .ensures) (sym (c₂ .is-addition .ensures) ∙ c₁ .if1 .taken)
-
-target-of-requires : tie.Need-target-of-requires
-target-of-requires c κs = search needs
-
-cast-number-read : tie.Need-cast-number-read
-cast-number-read c = search needs
-
-number-read-requires : tie.Need-number-read-requires
-number-read-requires c κs = search needs
-
-enum-known-id : tie.Need-enum-known-id
-enum-known-id c = search needs
 
 enum-told : tie.Need-enum-told
 enum-told c = search needs
@@ -69,9 +48,6 @@ row-count-requires c κs =
     let c₂ = c₁ .before in
     let start = c₂ .before .before .before .before in
     rw (c₁ .store-of .ensures, c₂ .table-for .ensures) (shaped-table (tableFor (start .args .change)) (start .pre .0) .long)
-
-number-of-requires : tie.Need-number-of-requires
-number-of-requires c κs = search needs
 
 returns-3 : tie.Need-returns-3
 returns-3 c =
@@ -134,19 +110,14 @@ pub first-asked-spec : {M : Type 1} → statement M
 first-asked-spec =
     tie.close
     (tie.spec
-    table-for-requires
-    store-of-requires
-    is-addition-requires
+    (λ c κs. search needs) (λ c κs. search needs) (λ c κs. search needs)
     addition-asked-requires
     returns
-    target-of-requires
-    cast-number-read
-    number-read-requires
-    enum-known-id
+    (λ c κs. search needs) (λ c. search needs) (λ c κs. search needs) (λ c. search needs)
     enum-told
     returns-2
     row-count-requires
-    number-of-requires
+    (λ c κs. search needs)
     returns-3
     target-asked-requires
     returns-4)

@@ -10,12 +10,6 @@ use borrow.Author.Needs.{needs}
 use Rattle.change_asked.proofs.asked.in_open.Statement.{statement}
 use Rattle.change_asked.proofs.asked.in_open.Tie as tie
 
-entry-read-requires : tie.Need-entry-read-requires
-entry-read-requires c κs = search needs
-
-enum-known-id : tie.Need-enum-known-id
-enum-known-id c = search needs
-
 enum-told : tie.Need-enum-told
 enum-told c = search needs
 
@@ -26,27 +20,12 @@ returns c =
     let r = start .args .scratch .now in
     sym (entry-absent r (sym (c₁ .entry-read .ensures) ∙ c .enum-told .given .1) (openAt (listOf r)) (start .args .row .now))
 
-list-of-requires : tie.Need-list-of-requires
-list-of-requires c κs = search needs
-
-open-at-requires : tie.Need-open-at-requires
-open-at-requires c κs = search needs
-
-list-width-requires : tie.Need-list-width-requires
-list-width-requires c κs = search needs
-
 part-of-requires : tie.Need-part-of-requires
 part-of-requires c κs =
     let c₁ = c .before in
     let c₂ = c₁ .before in
     let start = c₂ .before .before .before .before .before .before .before in
     omega (arith, c₁ .open-at .ensures, c .list-width .ensures, list-inside (c₂ .list-of .result), start .pre .1)
-
-number-of-requires : tie.Need-number-of-requires
-number-of-requires c κs = search needs
-
-has-requires : tie.Need-has-requires
-has-requires c κs = search needs
 
 returns-2 : tie.Need-returns-2
 returns-2 c =
@@ -67,14 +46,10 @@ pub in-open-spec : {M : Type 1} → statement M
 in-open-spec =
     tie.close
     (tie.spec
-    entry-read-requires
-    enum-known-id
+    (λ c κs. search needs) (λ c. search needs)
     enum-told
     returns
-    list-of-requires
-    open-at-requires
-    list-width-requires
+    (λ c κs. search needs) (λ c κs. search needs) (λ c κs. search needs)
     part-of-requires
-    number-of-requires
-    has-requires
+    (λ c κs. search needs) (λ c κs. search needs)
     returns-2)

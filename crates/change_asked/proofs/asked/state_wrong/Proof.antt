@@ -4,48 +4,6 @@ use borrow.Author.Needs.{needs}
 use Rattle.change_asked.proofs.asked.state_wrong.Statement.{statement}
 use Rattle.change_asked.proofs.asked.state_wrong.Tie as tie
 
-enum-told : tie.Need-enum-told
-enum-told c = search needs
-
-enum-told-2 : tie.Need-enum-told-2
-enum-told-2 c = search needs
-
-is-defunct-requires : tie.Need-is-defunct-requires
-is-defunct-requires c κs = search needs
-
-enum-told-3 : tie.Need-enum-told-3
-enum-told-3 c = search needs
-
-is-defunct-requires-2 : tie.Need-is-defunct-requires-2
-is-defunct-requires-2 c κs = search needs
-
-enum-told-4 : tie.Need-enum-told-4
-enum-told-4 c = search needs
-
-is-defunct-requires-3 : tie.Need-is-defunct-requires-3
-is-defunct-requires-3 c κs = search needs
-
-enum-told-5 : tie.Need-enum-told-5
-enum-told-5 c = search needs
-
-is-defunct-requires-4 : tie.Need-is-defunct-requires-4
-is-defunct-requires-4 c κs = search needs
-
-enum-told-6 : tie.Need-enum-told-6
-enum-told-6 c = search needs
-
-is-defunct-requires-5 : tie.Need-is-defunct-requires-5
-is-defunct-requires-5 c κs = search needs
-
-enum-told-7 : tie.Need-enum-told-7
-enum-told-7 c = search needs
-
-is-defunct-requires-6 : tie.Need-is-defunct-requires-6
-is-defunct-requires-6 c κs = search needs
-
-returns : tie.Need-returns
-returns c = search needs
-
 returns-2 : tie.Need-returns-2
 returns-2 c =
     let c₁ = c .before in
@@ -80,20 +38,9 @@ pub state-wrong-spec : {M : Type 1} → statement M
 state-wrong-spec =
     tie.close
     (tie.spec
-    enum-told
-    enum-told-2
-    is-defunct-requires
-    enum-told-3
-    is-defunct-requires-2
-    enum-told-4
-    is-defunct-requires-3
-    enum-told-5
-    is-defunct-requires-4
-    enum-told-6
-    is-defunct-requires-5
-    enum-told-7
-    is-defunct-requires-6
-    returns
+    (λ c. search needs) (λ c. search needs) (λ c κs. search needs) (λ c. search needs) (λ c κs. search needs)
+    (λ c. search needs) (λ c κs. search needs) (λ c. search needs) (λ c κs. search needs) (λ c. search needs)
+    (λ c κs. search needs) (λ c. search needs) (λ c κs. search needs) (λ c. search needs)
     returns-2
     returns-3
     returns-4

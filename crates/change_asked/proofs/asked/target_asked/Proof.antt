@@ -95,9 +95,6 @@ returns-3 c =
           (c₁ .entry-conflict .ensures) ∙ c .if3 .taken),
     )
 
-still-needed-requires : tie.Need-still-needed-requires
-still-needed-requires c κs = search needs
-
 returns-4 : tie.Need-returns-4
 unfolding targetAsked firstOf
 returns-4 c =
@@ -157,6 +154,6 @@ target-asked-spec =
     returns-2
     entry-conflict-requires
     returns-3
-    still-needed-requires
+    (λ c κs. search needs)
     returns-4
     returns-5)

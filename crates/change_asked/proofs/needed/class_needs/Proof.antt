@@ -7,17 +7,11 @@ use Rattle.schema.specs.StoreLaws.{table-row-length}
 use Rattle.change_asked.specs.Needed.{classNeeds}
 use Rattle.change_asked.proofs.needed.class_needs.Tie as tie
 
-same-row-requires : tie.Need-same-row-requires
-same-row-requires c κs = search needs
-
 returns : tie.Need-returns
 unfolding classNeeds
 returns c =
     let c₁ = c .before in
     rw (sym (c₁ .same-row .ensures) ∙ c .if1 .taken)
-
-class-row-requires : tie.Need-class-row-requires
-class-row-requires c κs = search needs
 
 is-defunct-requires : tie.Need-is-defunct-requires
 is-defunct-requires c κs =
@@ -64,9 +58,9 @@ pub class-needs-spec : {M : Type 1} → statement M
 class-needs-spec =
     tie.close
     (tie.spec
-    same-row-requires
+    (λ c κs. search needs)
     returns
-    class-row-requires
+    (λ c κs. search needs)
     is-defunct-requires
     returns-2
     is-naming-requires

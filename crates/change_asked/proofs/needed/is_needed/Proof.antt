@@ -23,9 +23,6 @@ returns c =
     needed-by-class (start .args .id) (schemaIn (start .args .attributes .now) (start .args .classes .now)) (sym (c₁ .some-class-needs .ensures)
     ∙ c .if1 .taken)
 
-enum-known-id : tie.Need-enum-known-id
-enum-known-id c = search needs
-
 attribute-row-requires : tie.Need-attribute-row-requires
 attribute-row-requires c κs =
     let c₁ = c .before in
@@ -77,7 +74,7 @@ is-needed-spec =
     (tie.spec
     some-class-needs-requires
     returns
-    enum-known-id
+    (λ c. search needs)
     attribute-row-requires
     some-link-needs-requires
     enum-told

@@ -9,9 +9,6 @@ use Rattle.rules_attribute.specs.Links.{isBackLink}
 use Rattle.change_asked.specs.Needed.{linkNeeds}
 use Rattle.change_asked.proofs.needed.link_needs.Tie as tie
 
-attribute-row-requires : tie.Need-attribute-row-requires
-attribute-row-requires c κs = search needs
-
 is-defunct-requires : tie.Need-is-defunct-requires
 is-defunct-requires c κs =
     let start = c .before .before .before in
@@ -85,7 +82,7 @@ pub link-needs-spec : {M : Type 1} → statement M
 link-needs-spec =
     tie.close
     (tie.spec
-    attribute-row-requires
+    (λ c κs. search needs)
     is-defunct-requires
     returns
     link-requires

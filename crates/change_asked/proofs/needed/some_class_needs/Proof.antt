@@ -49,12 +49,6 @@ returns c =
     (c₄ .loop .j) _ (omega (arith, c₅ .row-count .ensures, c₃ .loop-test .taken))
     (sym (rw (c₂ .class-at .ensures) at (c₁ .class-needs .ensures)) ∙ c .if1 .taken))
 
-add-j : tie.Need-add-j Inv-loop μ-loop
-add-j c = search needs
-
-loop-less : tie.Need-loop-less Inv-loop μ-loop
-loop-less c = search needs
-
 loop-again : tie.Need-loop-again Inv-loop μ-loop
 loop-again c =
     let c₁ = c .before in
@@ -86,7 +80,6 @@ some-class-needs-spec =
     class-at-requires
     class-needs-requires
     returns
-    add-j
-    loop-less
+    (λ c. search needs) (λ c. search needs)
     loop-again
     returns-2)

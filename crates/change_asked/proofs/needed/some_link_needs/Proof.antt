@@ -50,12 +50,6 @@ returns c =
       c₃ .loop-test .taken,
     )) (sym (rw (c₂ .attribute-at .ensures) at (c₁ .link-needs .ensures)) ∙ c .if1 .taken))
 
-add-j : tie.Need-add-j Inv-loop μ-loop
-add-j c = search needs
-
-loop-less : tie.Need-loop-less Inv-loop μ-loop
-loop-less c = search needs
-
 loop-again : tie.Need-loop-again Inv-loop μ-loop
 loop-again c =
     let c₁ = c .before in
@@ -90,7 +84,6 @@ some-link-needs-spec =
     attribute-at-requires
     link-needs-requires
     returns
-    add-j
-    loop-less
+    (λ c. search needs) (λ c. search needs)
     loop-again
     returns-2)

@@ -5,12 +5,6 @@ use borrow.Author.Needs.{needs}
 use Rattle.change_read.proofs.carried.added_row.Statement.{statement}
 use Rattle.change_read.proofs.carried.added_row.Tie as tie
 
-row-width-requires : tie.Need-row-width-requires
-row-width-requires c κs = search needs
-
-part-of-requires : tie.Need-part-of-requires
-part-of-requires c κs = search needs
-
 returns : tie.Need-returns
 returns c =
     let c₁ = c .before in
@@ -19,4 +13,6 @@ returns c =
     (c₁ .row-width .ensures)
 
 pub added-row-spec : {M : Type 1} → statement M
-added-row-spec = tie.close (tie.spec row-width-requires part-of-requires returns)
+added-row-spec = tie.close (tie.spec
+    (λ c κs. search needs) (λ c κs. search needs)
+    returns)

@@ -4,9 +4,6 @@ use Rattle.change_read.specs.Carried.{openList}
 use Rattle.change_read.proofs.carried.list_of.Statement.{statement}
 use Rattle.change_read.proofs.carried.list_of.Tie as tie
 
-byte-at-requires : tie.Need-byte-at-requires
-byte-at-requires c κs = search needs
-
 returns : tie.Need-returns
 unfolding openList
 returns c = rw (← (c .before .byte-at .ensures), eq-eqb _ 21 (c .if1 .taken))
@@ -26,4 +23,8 @@ returns-3 c =
     rw (← (c₂ .byte-at .ensures), ne-eqb _ 21 (c₁ .if1 .left), ne-eqb _ 23 (c .if2 .left))
 
 pub list-of-spec : {M : Type 1} → statement M
-list-of-spec = tie.close (tie.spec byte-at-requires returns returns-2 returns-3)
+list-of-spec = tie.close (tie.spec
+    (λ c κs. search needs)
+    returns
+    returns-2
+    returns-3)

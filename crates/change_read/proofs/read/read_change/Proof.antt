@@ -8,24 +8,12 @@ use borrow.Author.Needs.{needs}
 use Rattle.change_read.proofs.read.read_change.Statement.{statement}
 use Rattle.change_read.proofs.read.read_change.Tie as tie
 
-step-at-requires : tie.Need-step-at-requires
-step-at-requires c κs = search needs
-
-enum-known-field : tie.Need-enum-known-field
-enum-known-field c = search needs
-
 returns : tie.Need-returns
 returns c =
     let c₁ = c .before in
     let start = c₁ .before .before .before in
     let s = start .args .s .now in
     front-none s _ (step-field s 0 _ (c₁ .step-at .ensures)) (start .args .row .now) (start .pre) (c .match .keys2)
-
-change-of-requires : tie.Need-change-of-requires
-change-of-requires c κs = search needs
-
-enum-known-change : tie.Need-enum-known-change
-enum-known-change c = search needs
 
 enum-told : tie.Need-enum-told
 enum-told c = search needs
@@ -49,9 +37,6 @@ read-value-requires c κs =
     let w = field-is s 0 (length s) _ _ _ (sym (step-field s 0 _ (c₂ .step-at .ensures)) ∙ c₁ .field .given .1) in
     (omega (arith, w .start-is, w .stop-is), w .within, begin .pre, step-last s 0 _ (c₂ .step-at .ensures) _ _ _ (c₁ .field .given .1))
 
-same-length : tie.Need-same-length
-same-length c = search needs
-
 returns-3 : tie.Need-returns-3
 returns-3 c =
     let c₁ = c .before .before in
@@ -68,13 +53,11 @@ pub read-change-spec : {M : Type 1} → statement M
 read-change-spec =
     tie.close
     (tie.spec
-    step-at-requires
-    enum-known-field
+    (λ c κs. search needs) (λ c. search needs)
     returns
-    change-of-requires
-    enum-known-change
+    (λ c κs. search needs) (λ c. search needs)
     enum-told
     returns-2
     read-value-requires
-    same-length
+    (λ c. search needs)
     returns-3)

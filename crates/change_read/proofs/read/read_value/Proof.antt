@@ -8,9 +8,6 @@ use borrow.Author.Needs.{needs}
 use Rattle.change_read.proofs.read.read_value.Statement.{statement}
 use Rattle.change_read.proofs.read.read_value.Tie as tie
 
-format-of-requires : tie.Need-format-of-requires
-format-of-requires c κs = search needs
-
 read-row-requires : tie.Need-read-row-requires
 read-row-requires c κs =
     let c₁ = c .before in
@@ -30,15 +27,6 @@ read-row-requires c κs =
 enum-told : tie.Need-enum-told
 enum-told c = search needs
 
-enum-told-2 : tie.Need-enum-told-2
-enum-told-2 c = search needs
-
-place-of-requires : tie.Need-place-of-requires
-place-of-requires c κs = search needs
-
-same-length : tie.Need-same-length
-same-length c = search needs
-
 returns : tie.Need-returns
 returns c =
     let c₁ = c .before in
@@ -48,9 +36,6 @@ returns c =
     value-bad (begin .args .change) (begin .args .s .now) (begin .args .start) (begin .args .stop) (begin .args .row .now) (begin .pre .2) _
     (c₃ .format-of .ensures) _ _ (c₂ .read-row .ensures) _ _ (c₁ .enum-told2 .given .1) (c .place-of .ensures)
 
-same-length-2 : tie.Need-same-length-2
-same-length-2 c = search needs
-
 returns-2 : tie.Need-returns-2
 returns-2 c =
     let c₁ = c .before in
@@ -59,9 +44,6 @@ returns-2 c =
     let begin = c₃ .before .before .before in
     value-read (begin .args .change) (begin .args .s .now) (begin .args .start) (begin .args .stop) (begin .args .row .now) (begin .pre .2) _
     (c₃ .format-of .ensures) _ _ (c₂ .read-row .ensures) (c₁ .enum-told .given .1) (sym (begin .pre .3) ∙ c .if1 .taken)
-
-same-length-3 : tie.Need-same-length-3
-same-length-3 c = search needs
 
 returns-3 : tie.Need-returns-3
 returns-3 c =
@@ -76,14 +58,12 @@ pub read-value-spec : {M : Type 1} → statement M
 read-value-spec =
     tie.close
     (tie.spec
-    format-of-requires
+    (λ c κs. search needs)
     read-row-requires
     enum-told
-    enum-told-2
-    place-of-requires
-    same-length
+    (λ c. search needs) (λ c κs. search needs) (λ c. search needs)
     returns
-    same-length-2
+    (λ c. search needs)
     returns-2
-    same-length-3
+    (λ c. search needs)
     returns-3)

@@ -9,12 +9,6 @@ use borrow.Author.Needs.{needs}
 use Rattle.change_rows.proofs.apply.apply.Statement.{statement}
 use Rattle.change_rows.proofs.apply.apply.Tie as tie
 
-table-for-requires : tie.Need-table-for-requires
-table-for-requires c κs = search needs
-
-is-addition-requires : tie.Need-is-addition-requires
-is-addition-requires c κs = search needs
-
 added-row-requires : tie.Need-added-row-requires
 added-row-requires c κs =
     let c₁ = c .before .before .before in
@@ -47,9 +41,6 @@ row-start-requires c κs =
     let is = row-target change r s fixed (start .pre .1) in
     rw (is .0) (omega (arith, is .1, ok .within fixed))
 
-row-width-requires : tie.Need-row-width-requires
-row-width-requires c κs = search needs
-
 add-end : tie.Need-add-end
 add-end c =
     let c₁ = c .before in
@@ -65,12 +56,6 @@ add-end c =
     let wide = c .row-width .ensures ∙ ap rowWidth (c₄ .table-for .ensures) in
     let begins = target-start change r s fixed (start .pre .1) (c₁ .row-start .ensures) in
     omega (arith, row-inside change r s ok fixed (c .row-width .result) (c₁ .row-start .result) wide begins, start .good)
-
-sub-edit-row : tie.Need-sub-edit-row
-sub-edit-row c = search needs
-
-part-edit-row-start : tie.Need-part-edit-row-start
-part-edit-row-start c = search needs
 
 part-edit-row-end : tie.Need-part-edit-row-end
 part-edit-row-end c =
@@ -105,9 +90,6 @@ edit-row-requires c κs =
     let begins = target-start change r s fixed (start .pre .1) (c₂ .row-start .ensures) in
     (fixed, ok .carried, lent-wide change r s ok fixed (c₁ .row-width .result) (c₂ .row-start .result) wide begins)
 
-same-length : tie.Need-same-length
-same-length c = search needs
-
 returns : tie.Need-returns
 returns c =
     let c₁ = c .before .before in
@@ -118,9 +100,6 @@ returns c =
     let start = c₅ .before .before .before in
     added-store (start .args .change) (start .args .scratch .now) (start .args .store .now) (sym (c₄ .is-addition .ensures) ∙ c₃ .if1 .taken)
     (c₅ .table-for .ensures) (c₂ .added-row .ensures) (c₁ .push-row .ensures)
-
-same-length-2 : tie.Need-same-length-2
-same-length-2 c = search needs
 
 returns-2 : tie.Need-returns-2
 returns-2 c =
@@ -144,18 +123,16 @@ pub apply-spec : {M : Type 1} → statement M
 apply-spec =
     tie.close
     (tie.spec
-    table-for-requires
-    is-addition-requires
+    (λ c κs. search needs) (λ c κs. search needs)
     added-row-requires
     push-row-requires
     row-start-requires
-    row-width-requires
+    (λ c κs. search needs)
     add-end
-    sub-edit-row
-    part-edit-row-start
+    (λ c. search needs) (λ c. search needs)
     part-edit-row-end
     edit-row-requires
-    same-length
+    (λ c. search needs)
     returns
-    same-length-2
+    (λ c. search needs)
     returns-2)

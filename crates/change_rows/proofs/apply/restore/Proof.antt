@@ -13,12 +13,6 @@ use Rattle.prelude.specs.PartLaws.{part-length}
 use Rattle.change_rows.specs.Stores.{restored}
 use Rattle.change_rows.proofs.apply.restore.Tie as tie
 
-table-of-requires : tie.Need-table-of-requires
-table-of-requires c κs = search needs
-
-row-width-requires : tie.Need-row-width-requires
-row-width-requires c κs = search needs
-
 part-of-requires : tie.Need-part-of-requires
 part-of-requires c κs =
     let c₁ = c .before .before in
@@ -66,9 +60,6 @@ write-count-requires c κs =
       start .pre .2,
     )
 
-same-length : tie.Need-same-length
-same-length c = search needs
-
 returns : tie.Need-returns
 unfolding restored
 returns c =
@@ -86,10 +77,9 @@ pub restore-spec : {M : Type 1} → statement M
 restore-spec =
     tie.close
     (tie.spec
-    table-of-requires
-    row-width-requires
+    (λ c κs. search needs) (λ c κs. search needs)
     part-of-requires
     put-row-requires
     write-count-requires
-    same-length
+    (λ c. search needs)
     returns)

@@ -11,12 +11,6 @@ use borrow.Author.Needs.{needs}
 use Rattle.change_rows.proofs.apply.row_changed.Statement.{statement}
 use Rattle.change_rows.proofs.apply.row_changed.Tie as tie
 
-table-for-requires : tie.Need-table-for-requires
-table-for-requires c κs = search needs
-
-is-addition-requires : tie.Need-is-addition-requires
-is-addition-requires c κs = search needs
-
 row-count-requires : tie.Need-row-count-requires
 row-count-requires c κs =
     let c₁ = c .before .before in
@@ -45,18 +39,6 @@ returns c =
     let count = c₁ .row-count .ensures ∙ ap (λ t. countIn t s) (c₄ .table-for .ensures) in
     c .row-id .ensures ∙ ap₂ rowId (c₄ .table-for .ensures) (count
     ∙ sym (ap (λ b. cond b (countIn (tableFor (start .args .change)) s) (targetOf (start .args .scratch .now))) add))
-
-target-of-requires : tie.Need-target-of-requires
-target-of-requires c κs = search needs
-
-cast-number-read : tie.Need-cast-number-read
-cast-number-read c = search needs
-
-number-read-requires : tie.Need-number-read-requires
-number-read-requires c κs = search needs
-
-enum-known-id : tie.Need-enum-known-id
-enum-known-id c = search needs
 
 enum-told : tie.Need-enum-told
 enum-told c = search needs
@@ -106,15 +88,11 @@ pub row-changed-spec : {M : Type 1} → statement M
 row-changed-spec =
     tie.close
     (tie.spec
-    table-for-requires
-    is-addition-requires
+    (λ c κs. search needs) (λ c κs. search needs)
     row-count-requires
     row-id-requires
     returns
-    target-of-requires
-    cast-number-read
-    number-read-requires
-    enum-known-id
+    (λ c κs. search needs) (λ c. search needs) (λ c κs. search needs) (λ c. search needs)
     enum-told
     row-id-requires-2
     returns-2

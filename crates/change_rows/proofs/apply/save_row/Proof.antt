@@ -8,9 +8,6 @@ use Rattle.schema.specs.StoreLaws.{table-row-length}
 use Rattle.prelude.specs.Part.{padded}
 use Rattle.change_rows.proofs.apply.save_row.Tie as tie
 
-row-requires : tie.Need-row-requires
-row-requires c κs = search needs
-
 copy-padded-requires : tie.Need-copy-padded-requires
 copy-padded-requires c κs =
     let start = c .before .before .before .before in
@@ -22,9 +19,6 @@ copy-padded-requires c κs =
           (start .args .store .now) (numberOf (start .args .id)) (start .pre .0) (start .pre .1),
     ))
 
-same-length : tie.Need-same-length
-same-length c = search needs
-
 returns : tie.Need-returns
 returns c =
     let c₁ = c .before .before in
@@ -33,4 +27,8 @@ returns c =
     c₁ .copy-padded .ensures ∙ ap₂ padded (start .pre .2) (c₂ .row .ensures)
 
 pub save-row-spec : {M : Type 1} → statement M
-save-row-spec = tie.close (tie.spec row-requires copy-padded-requires same-length returns)
+save-row-spec = tie.close (tie.spec
+    (λ c κs. search needs)
+    copy-padded-requires
+    (λ c. search needs)
+    returns)

@@ -16,12 +16,6 @@ use Rattle.change_rows.proofs.edit.edit_row.Tie as tie
 enum-told : tie.Need-enum-told
 enum-told c = search needs
 
-enum-told-2 : tie.Need-enum-told-2
-enum-told-2 c = search needs
-
-new-range-requires : tie.Need-new-range-requires
-new-range-requires c κs = search needs
-
 put-bytes-requires : tie.Need-put-bytes-requires
 put-bytes-requires c κs =
     let c₁ = c .before in
@@ -34,12 +28,6 @@ put-bytes-requires c κs =
           (c₂ .enum-told2 .given .1) (start .pre .2),
     ))
 
-enum-told-3 : tie.Need-enum-told-3
-enum-told-3 c = search needs
-
-new-name-requires : tie.Need-new-name-requires
-new-name-requires c κs = search needs
-
 put-bytes-requires-2 : tie.Need-put-bytes-requires-2
 put-bytes-requires-2 c κs =
     let c₁ = c .before in
@@ -51,33 +39,21 @@ put-bytes-requires-2 c κs =
           (start .args .row .now) (start .pre .2),
     ))
 
-enum-told-4 : tie.Need-enum-told-4
-enum-told-4 c = search needs
-
 slice-write-row : tie.Need-slice-write-row
 slice-write-row c =
     let start = c .before .before .before .before in
     omega (arith, common-row (start .args .change) (start .args .row .now) (start .pre .2))
-
-enum-told-5 : tie.Need-enum-told-5
-enum-told-5 c = search needs
 
 slice-write-row-2 : tie.Need-slice-write-row-2
 slice-write-row-2 c =
     let start = c .before .before .before .before in
     omega (arith, common-row (start .args .change) (start .args .row .now) (start .pre .2))
 
-enum-told-6 : tie.Need-enum-told-6
-enum-told-6 c = search needs
-
 add-entry-requires : tie.Need-add-entry-requires
 add-entry-requires c κs =
     let c₁ = c .before in
     let start = c₁ .before .before .before .before in
     (start .pre .1, wide-row (start .args .row .now) (c₁ .enum-told6 .given .1) (start .pre .2))
-
-enum-told-7 : tie.Need-enum-told-7
-enum-told-7 c = search needs
 
 remove-entry-requires : tie.Need-remove-entry-requires
 remove-entry-requires c κs =
@@ -90,9 +66,6 @@ returns c =
     let start = c .before .before .before .before in
     absurd (true≢false (sym (ap isAddition (c .enum-told .given .1)) ∙ start .pre .0))
 
-same-length : tie.Need-same-length
-same-length c = search needs
-
 returns-2 : tie.Need-returns-2
 unfolding editedRow
 returns-2 c =
@@ -101,9 +74,6 @@ returns-2 c =
     let c₃ = c₂ .before in
     rw (c₃ .enum-told2 .given .1, ← (c₂ .new-range .ensures)) (c₁ .put-bytes .ensures .bytes)
 
-same-length-2 : tie.Need-same-length-2
-same-length-2 c = search needs
-
 returns-3 : tie.Need-returns-3
 unfolding editedRow
 returns-3 c =
@@ -111,9 +81,6 @@ returns-3 c =
     let c₂ = c₁ .before .before in
     let c₃ = c₂ .before in
     rw (c₃ .enum-told3 .given .1, ← (c₂ .new-name .ensures)) (c₁ .put-bytes2 .ensures .bytes)
-
-same-length-3 : tie.Need-same-length-3
-same-length-3 c = search needs
 
 returns-4 : tie.Need-returns-4
 unfolding editedRow
@@ -125,9 +92,6 @@ returns-4 c =
           (start .args .row .now) (start .pre .2),
     )))
 
-same-length-4 : tie.Need-same-length-4
-same-length-4 c = search needs
-
 returns-5 : tie.Need-returns-5
 unfolding editedRow
 returns-5 c =
@@ -138,17 +102,11 @@ returns-5 c =
           (start .args .row .now) (start .pre .2),
     )))
 
-same-length-5 : tie.Need-same-length-5
-same-length-5 c = search needs
-
 returns-6 : tie.Need-returns-6
 returns-6 c =
     let c₁ = c .before .before in
     let c₂ = c₁ .before .before in
     rw (c₂ .enum-told6 .given .1) (c₁ .add-entry .ensures)
-
-same-length-6 : tie.Need-same-length-6
-same-length-6 c = search needs
 
 returns-7 : tie.Need-returns-7
 returns-7 c =
@@ -161,30 +119,28 @@ edit-row-spec =
     tie.close
     (tie.spec
     enum-told
-    enum-told-2
-    new-range-requires
+    (λ c. search needs) (λ c κs. search needs)
     put-bytes-requires
-    enum-told-3
-    new-name-requires
+    (λ c. search needs) (λ c κs. search needs)
     put-bytes-requires-2
-    enum-told-4
+    (λ c. search needs)
     slice-write-row
-    enum-told-5
+    (λ c. search needs)
     slice-write-row-2
-    enum-told-6
+    (λ c. search needs)
     add-entry-requires
-    enum-told-7
+    (λ c. search needs)
     remove-entry-requires
     returns
-    same-length
+    (λ c. search needs)
     returns-2
-    same-length-2
+    (λ c. search needs)
     returns-3
-    same-length-3
+    (λ c. search needs)
     returns-4
-    same-length-4
+    (λ c. search needs)
     returns-5
-    same-length-5
+    (λ c. search needs)
     returns-6
-    same-length-6
+    (λ c. search needs)
     returns-7)

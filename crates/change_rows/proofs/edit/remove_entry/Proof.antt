@@ -14,12 +14,6 @@ use borrow.Author.Needs.{needs}
 use Rattle.change_rows.proofs.edit.remove_entry.Statement.{statement}
 use Rattle.change_rows.proofs.edit.remove_entry.Tie as tie
 
-entry-read-requires : tie.Need-entry-read-requires
-entry-read-requires c κs = search needs
-
-enum-known-id : tie.Need-enum-known-id
-enum-known-id c = search needs
-
 enum-told : tie.Need-enum-told
 enum-told c = search needs
 
@@ -36,41 +30,17 @@ returns c =
     list-kept (listOf r) row (start .pre .1)
     (without-beyond (openOf (listOf r) row) (entryOf r) bytes (entry-beyond r e (openAt (listOf r)) row))
 
-list-of-requires : tie.Need-list-of-requires
-list-of-requires c κs = search needs
-
-open-at-requires : tie.Need-open-at-requires
-open-at-requires c κs = search needs
-
-list-width-requires : tie.Need-list-width-requires
-list-width-requires c κs = search needs
-
 add-end : tie.Need-add-end
 add-end c =
     let c₁ = c .before in
     let c₂ = c₁ .before in
     omega (arith, c₁ .open-at .ensures, c .list-width .ensures, list-inside (c₂ .list-of .result))
 
-sub-remove : tie.Need-sub-remove
-sub-remove c = search needs
-
-part-remove-start : tie.Need-part-remove-start
-part-remove-start c = search needs
-
 part-remove-end : tie.Need-part-remove-end
 part-remove-end c =
     let c₁ = c .before in
     let c₂ = c₁ .before in
     omega (arith, c₁ .open-at .ensures, c .list-width .ensures, list-inside (c₂ .list-of .result))
-
-number-of-requires : tie.Need-number-of-requires
-number-of-requires c κs = search needs
-
-remove-requires : tie.Need-remove-requires
-remove-requires c κs = search needs
-
-same-length : tie.Need-same-length
-same-length c = search needs
 
 returns-2 : tie.Need-returns-2
 unfolding editedRow
@@ -95,18 +65,12 @@ pub remove-entry-spec : {M : Type 1} → statement M
 remove-entry-spec =
     tie.close
     (tie.spec
-    entry-read-requires
-    enum-known-id
+    (λ c κs. search needs) (λ c. search needs)
     enum-told
     returns
-    list-of-requires
-    open-at-requires
-    list-width-requires
+    (λ c κs. search needs) (λ c κs. search needs) (λ c κs. search needs)
     add-end
-    sub-remove
-    part-remove-start
+    (λ c. search needs) (λ c. search needs)
     part-remove-end
-    number-of-requires
-    remove-requires
-    same-length
+    (λ c κs. search needs) (λ c κs. search needs) (λ c. search needs)
     returns-2)

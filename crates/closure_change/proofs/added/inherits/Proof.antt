@@ -6,9 +6,6 @@ use Rattle.graph.specs.Graph.{inherits}
 use Rattle.closure_change.proofs.added.inherits.Statement.{statement}
 use Rattle.closure_change.proofs.added.inherits.Tie as tie
 
-class-row-requires : tie.Need-class-row-requires
-class-row-requires c κs = search needs
-
 is-superclass-requires : tie.Need-is-superclass-requires
 is-superclass-requires c κs =
     let start = c .before .before in (
@@ -39,5 +36,4 @@ returns-2 c =
 
 pub inherits-spec : {M : Type 1} → statement M
 inherits-spec =
-    tie.close
-    (tie.spec class-row-requires is-superclass-requires returns is-listed-requires returns-2)
+    tie.close (tie.spec (λ c κs. search needs) is-superclass-requires returns is-listed-requires returns-2)

@@ -8,20 +8,11 @@ use borrow.Author.Needs.{needs}
 use Rattle.closure_change.proofs.added.join_named.Statement.{statement}
 use Rattle.closure_change.proofs.added.join_named.Tie as tie
 
-inherits-requires : tie.Need-inherits-requires
-inherits-requires c κs = search needs
-
-closure-row-requires : tie.Need-closure-row-requires
-closure-row-requires c κs = search needs
-
 join-requires : tie.Need-join-requires
 join-requires c κs =
     let start = c .before .before .before .before .before .before .before in
     ap length (c .closure-row .ensures) ∙ kept-length (start .args .closure .now) (start .pre .0 .1) (start .args .y .0) (start .pre .1 .1) ∙ sym
     (start .pre .1 .2)
-
-same-length : tie.Need-same-length
-same-length c = search needs
 
 returns : tie.Need-returns
 returns c =
@@ -44,4 +35,9 @@ returns-2 c =
 pub join-named-spec : {M : Type 1} → statement M
 join-named-spec =
     tie.close
-    (tie.spec inherits-requires closure-row-requires join-requires same-length returns returns-2)
+    (tie.spec
+    (λ c κs. search needs) (λ c κs. search needs)
+    join-requires
+    (λ c. search needs)
+    returns
+    returns-2)

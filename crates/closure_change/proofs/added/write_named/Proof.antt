@@ -19,9 +19,6 @@ Inv-loop classes closure n out₀ y₀ out y = (y ≤ classLimit) × (length out
 abbrev μ-loop : tie.MeasureT-loop
 μ-loop classes closure n out₀ y₀ out y = classLimit - y
 
-clear-requires : tie.Need-clear-requires Inv-loop μ-loop
-clear-requires c κs = search needs
-
 loop-holds : tie.Need-loop-holds Inv-loop μ-loop
 loop-holds c =
     let c₁ = c .before .before in
@@ -31,18 +28,6 @@ loop-holds c =
       named-none (tableIn Classes (start .args .classes .now))
           (start .args .closure .now) (start .args .n .0) _ (c₁ .clear .ensures ∙ ap zeros (start .pre .1 .1)),
     )
-
-class-at-requires : tie.Need-class-at-requires Inv-loop μ-loop
-class-at-requires c κs = search needs
-
-join-named-requires : tie.Need-join-named-requires Inv-loop μ-loop
-join-named-requires c κs = search needs
-
-add-y : tie.Need-add-y Inv-loop μ-loop
-add-y c = search needs
-
-loop-less : tie.Need-loop-less Inv-loop μ-loop
-loop-less c = search needs
 
 loop-again : tie.Need-loop-again Inv-loop μ-loop
 loop-again c =
@@ -76,12 +61,9 @@ write-named-spec =
     (tie.spec
     Inv-loop
     μ-loop
-    clear-requires
+    (λ c κs. search needs)
     loop-holds
-    class-at-requires
-    join-named-requires
-    add-y
-    loop-less
+    (λ c κs. search needs) (λ c κs. search needs) (λ c. search needs) (λ c. search needs)
     loop-again
     same-length
     returns)

@@ -9,18 +9,6 @@ use borrow.Author.Needs.{needs}
 use Rattle.closure_change.proofs.added.write_new.Statement.{statement}
 use Rattle.closure_change.proofs.added.write_new.Tie as tie
 
-slice-aggregate-write-named : tie.Need-slice-aggregate-write-named
-slice-aggregate-write-named c = search needs
-
-write-named-requires : tie.Need-write-named-requires
-write-named-requires c κs = search needs
-
-class-row-requires : tie.Need-class-row-requires
-class-row-requires c κs = search needs
-
-slice-aggregate-write-own : tie.Need-slice-aggregate-write-own
-slice-aggregate-write-own c = search needs
-
 write-own-requires : tie.Need-write-own-requires
 write-own-requires c κs =
     let c₁ = c .before in
@@ -29,27 +17,6 @@ write-own-requires c κs =
           (start .pre .2),
       refl,
     )
-
-slice-aggregate-join : tie.Need-slice-aggregate-join
-slice-aggregate-join c = search needs
-
-slice-aggregate-join-2 : tie.Need-slice-aggregate-join-2
-slice-aggregate-join-2 c = search needs
-
-join-requires : tie.Need-join-requires
-join-requires c κs = search needs
-
-slice-aggregate-put-bytes : tie.Need-slice-aggregate-put-bytes
-slice-aggregate-put-bytes c = search needs
-
-closure-start-requires : tie.Need-closure-start-requires
-closure-start-requires c κs = search needs
-
-put-bytes-requires : tie.Need-put-bytes-requires
-put-bytes-requires c κs = search needs
-
-same-length : tie.Need-same-length
-same-length c = search needs
 
 returns : tie.Need-returns
 unfolding withNew newRow
@@ -68,16 +35,8 @@ pub write-new-spec : {M : Type 1} → statement M
 write-new-spec =
     tie.close
     (tie.spec
-    slice-aggregate-write-named
-    write-named-requires
-    class-row-requires
-    slice-aggregate-write-own
+    (λ c. search needs) (λ c κs. search needs) (λ c κs. search needs) (λ c. search needs)
     write-own-requires
-    slice-aggregate-join
-    slice-aggregate-join-2
-    join-requires
-    slice-aggregate-put-bytes
-    closure-start-requires
-    put-bytes-requires
-    same-length
+    (λ c. search needs) (λ c. search needs) (λ c κs. search needs) (λ c. search needs) (λ c κs. search needs)
+    (λ c κs. search needs) (λ c. search needs)
     returns)

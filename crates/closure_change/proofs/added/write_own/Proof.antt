@@ -10,18 +10,6 @@ use borrow.Author.Needs.{needs}
 use Rattle.closure_change.proofs.added.write_own.Statement.{statement}
 use Rattle.closure_change.proofs.added.write_own.Tie as tie
 
-slice-aggregate-insert : tie.Need-slice-aggregate-insert
-slice-aggregate-insert c = search needs
-
-insert-requires : tie.Need-insert-requires
-insert-requires c κs = search needs
-
-slice-aggregate-copy-padded : tie.Need-slice-aggregate-copy-padded
-slice-aggregate-copy-padded c = search needs
-
-fixed-optional-requires : tie.Need-fixed-optional-requires
-fixed-optional-requires c κs = search needs
-
 copy-padded-requires : tie.Need-copy-padded-requires
 copy-padded-requires c κs =
     let start = c .before .before .before .before .before .before .before in
@@ -31,12 +19,6 @@ copy-padded-requires c κs =
       part-length fixedOptionalAt attributeSet (start .args .row .now) (omega
           (arith, start .pre .0)),
     )
-
-slice-aggregate-join : tie.Need-slice-aggregate-join
-slice-aggregate-join c = search needs
-
-open-optional-requires : tie.Need-open-optional-requires
-open-optional-requires c κs = search needs
 
 join-requires : tie.Need-join-requires
 join-requires c κs =
@@ -50,15 +32,6 @@ join-requires c κs =
           (c₂ .fixed-optional .ensures),
       part-length fixedOptionalAt attributeSet (start .args .row .now) (omega (arith, start .pre .0)),
     )))
-
-slice-aggregate-put-bytes : tie.Need-slice-aggregate-put-bytes
-slice-aggregate-put-bytes c = search needs
-
-put-bytes-requires : tie.Need-put-bytes-requires
-put-bytes-requires c κs = search needs
-
-mandatory-requires : tie.Need-mandatory-requires
-mandatory-requires c κs = search needs
 
 put-bytes-requires-2 : tie.Need-put-bytes-requires-2
 unfolding zeros
@@ -75,9 +48,6 @@ put-bytes-requires-2 c κs =
     (c₁ .mandatory .ensures) (c₆ .fixed-optional .ensures) (c₅ .copy-padded .ensures) (c₄ .open-optional .ensures) (c₃ .join .ensures)
     (c₂ .put-bytes .ensures)
 
-slice-aggregate-put-bytes-2 : tie.Need-slice-aggregate-put-bytes-2
-slice-aggregate-put-bytes-2 c = search needs
-
 put-bytes-requires-3 : tie.Need-put-bytes-requires-3
 unfolding zeros
 put-bytes-requires-3 c κs =
@@ -93,9 +63,6 @@ put-bytes-requires-3 c κs =
     third-fits (start .args .n .0) (start .args .row .now) (start .args .out .now) (start .pre .1) (start .pre .0) refl (c₈ .insert .ensures)
     (c₂ .mandatory .ensures) (c₇ .fixed-optional .ensures) (c₆ .copy-padded .ensures) (c₅ .open-optional .ensures) (c₄ .join .ensures)
     (c₃ .put-bytes .ensures) (c₁ .put-bytes2 .ensures)
-
-same-length : tie.Need-same-length
-same-length c = search needs
 
 returns : tie.Need-returns
 unfolding zeros
@@ -118,19 +85,13 @@ pub write-own-spec : {M : Type 1} → statement M
 write-own-spec =
     tie.close
     (tie.spec
-    slice-aggregate-insert
-    insert-requires
-    slice-aggregate-copy-padded
-    fixed-optional-requires
+    (λ c. search needs) (λ c κs. search needs) (λ c. search needs) (λ c κs. search needs)
     copy-padded-requires
-    slice-aggregate-join
-    open-optional-requires
+    (λ c. search needs) (λ c κs. search needs)
     join-requires
-    slice-aggregate-put-bytes
-    put-bytes-requires
-    mandatory-requires
+    (λ c. search needs) (λ c κs. search needs) (λ c κs. search needs)
     put-bytes-requires-2
-    slice-aggregate-put-bytes-2
+    (λ c. search needs)
     put-bytes-requires-3
-    same-length
+    (λ c. search needs)
     returns)

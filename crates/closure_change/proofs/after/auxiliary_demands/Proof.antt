@@ -11,16 +11,10 @@ use borrow.Author.Needs.{needs}
 use Rattle.closure_change.proofs.after.auxiliary_demands.Statement.{statement}
 use Rattle.closure_change.proofs.after.auxiliary_demands.Tie as tie
 
-closure-row-requires : tie.Need-closure-row-requires
-closure-row-requires c κs = search needs
-
 part-of-requires : tie.Need-part-of-requires
 part-of-requires c κs =
     let start = c .before .before in
     rw (c .closure-row .ensures) (omega (arith, kept-length (start .args .closure .now) (start .pre .0) (start .args .a .0) (start .pre .1)))
-
-closure-row-requires-2 : tie.Need-closure-row-requires-2
-closure-row-requires-2 c κs = search needs
 
 part-of-requires-2 : tie.Need-part-of-requires-2
 part-of-requires-2 c κs =
@@ -57,9 +51,9 @@ pub auxiliary-demands-spec : {M : Type 1} → statement M
 auxiliary-demands-spec =
     tie.close
     (tie.spec
-    closure-row-requires
+    (λ c κs. search needs)
     part-of-requires
-    closure-row-requires-2
+    (λ c κs. search needs)
     part-of-requires-2
     is-subset-requires
     returns)

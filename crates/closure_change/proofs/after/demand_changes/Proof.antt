@@ -14,39 +14,6 @@ use borrow.Author.Needs.{needs}
 use Rattle.closure_change.proofs.after.demand_changes.Statement.{statement}
 use Rattle.closure_change.proofs.after.demand_changes.Tie as tie
 
-enum-told : tie.Need-enum-told
-enum-told c = search needs
-
-enum-told-2 : tie.Need-enum-told-2
-enum-told-2 c = search needs
-
-enum-told-3 : tie.Need-enum-told-3
-enum-told-3 c = search needs
-
-enum-told-4 : tie.Need-enum-told-4
-enum-told-4 c = search needs
-
-enum-told-5 : tie.Need-enum-told-5
-enum-told-5 c = search needs
-
-enum-told-6 : tie.Need-enum-told-6
-enum-told-6 c = search needs
-
-target-of-requires : tie.Need-target-of-requires
-target-of-requires c κs = search needs
-
-cast-new : tie.Need-cast-new
-cast-new c = search needs
-
-new-requires : tie.Need-new-requires
-new-requires c κs = search needs
-
-enum-known-k : tie.Need-enum-known-k
-enum-known-k c = search needs
-
-enum-told-7 : tie.Need-enum-told-7
-enum-told-7 c = search needs
-
 returns : tie.Need-returns
 returns c =
     let c₁ = c .before .before in
@@ -60,15 +27,6 @@ returns c =
       start .pre .target (c₃ .enum-told6 .given .1),
     ))
 
-entry-read-requires : tie.Need-entry-read-requires
-entry-read-requires c κs = search needs
-
-enum-known-entry : tie.Need-enum-known-entry
-enum-known-entry c = search needs
-
-enum-told-8 : tie.Need-enum-told-8
-enum-told-8 c = search needs
-
 returns-2 : tie.Need-returns-2
 returns-2 c =
     let c₁ = c .before .before in
@@ -80,9 +38,6 @@ returns-2 c =
       number-beyond (listTable (listOf r)) (entryOf r) (sym (c₁ .entry-read .ensures) ∙ c .enum-told8 .given .1),
       start .pre .entry (c₂ .enum-told6 .given .1),
     ))
-
-list-of-requires : tie.Need-list-of-requires
-list-of-requires c κs = search needs
 
 entry-demands-requires : tie.Need-entry-demands-requires
 entry-demands-requires c κs =
@@ -96,24 +51,6 @@ entry-demands-requires c κs =
     let target = class-is (c₅ .target-of .result) _ (sym (c₄ .new .ensures) ∙ c₃ .k .given .1) in
     (start .pre .long, entry .table ∙ ap listTable (sym (c .list-of .ensures)), entry .below, omega (arith, target .0, target .1))
 
-enum-told-9 : tie.Need-enum-told-9
-enum-told-9 c = search needs
-
-target-of-requires-2 : tie.Need-target-of-requires-2
-target-of-requires-2 c κs = search needs
-
-cast-new-2 : tie.Need-cast-new-2
-cast-new-2 c = search needs
-
-new-requires-2 : tie.Need-new-requires-2
-new-requires-2 c κs = search needs
-
-enum-known-k-2 : tie.Need-enum-known-k-2
-enum-known-k-2 c = search needs
-
-enum-told-10 : tie.Need-enum-told-10
-enum-told-10 c = search needs
-
 returns-3 : tie.Need-returns-3
 returns-3 c =
     let c₁ = c .before .before in
@@ -126,24 +63,6 @@ returns-3 c =
       c₂ .target-of2 .ensures,
       start .pre .removed (c₃ .enum-told9 .given .1),
     ))
-
-demand-differs-requires : tie.Need-demand-differs-requires
-demand-differs-requires c κs = search needs
-
-returns-4 : tie.Need-returns-4
-returns-4 c = search needs
-
-returns-5 : tie.Need-returns-5
-returns-5 c = search needs
-
-returns-6 : tie.Need-returns-6
-returns-6 c = search needs
-
-returns-7 : tie.Need-returns-7
-returns-7 c = search needs
-
-returns-8 : tie.Need-returns-8
-returns-8 c = search needs
 
 returns-9 : tie.Need-returns-9
 returns-9 c =
@@ -175,36 +94,18 @@ pub demand-changes-spec : {M : Type 1} → statement M
 demand-changes-spec =
     tie.close
     (tie.spec
-    enum-told
-    enum-told-2
-    enum-told-3
-    enum-told-4
-    enum-told-5
-    enum-told-6
-    target-of-requires
-    cast-new
-    new-requires
-    enum-known-k
-    enum-told-7
+    (λ c. search needs) (λ c. search needs) (λ c. search needs) (λ c. search needs) (λ c. search needs)
+    (λ c. search needs) (λ c κs. search needs) (λ c. search needs) (λ c κs. search needs) (λ c. search needs)
+    (λ c. search needs)
     returns
-    entry-read-requires
-    enum-known-entry
-    enum-told-8
+    (λ c κs. search needs) (λ c. search needs) (λ c. search needs)
     returns-2
-    list-of-requires
+    (λ c κs. search needs)
     entry-demands-requires
-    enum-told-9
-    target-of-requires-2
-    cast-new-2
-    new-requires-2
-    enum-known-k-2
-    enum-told-10
+    (λ c. search needs) (λ c κs. search needs) (λ c. search needs) (λ c κs. search needs) (λ c. search needs)
+    (λ c. search needs)
     returns-3
-    demand-differs-requires
-    returns-4
-    returns-5
-    returns-6
-    returns-7
-    returns-8
+    (λ c κs. search needs) (λ c. search needs) (λ c. search needs) (λ c. search needs) (λ c. search needs)
+    (λ c. search needs)
     returns-9
     returns-10)

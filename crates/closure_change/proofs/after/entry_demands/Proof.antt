@@ -7,18 +7,6 @@ use borrow.Author.Needs.{needs}
 use Rattle.closure_change.proofs.after.entry_demands.Statement.{statement}
 use Rattle.closure_change.proofs.after.entry_demands.Tie as tie
 
-enum-told : tie.Need-enum-told
-enum-told c = search needs
-
-enum-told-2 : tie.Need-enum-told-2
-enum-told-2 c = search needs
-
-enum-known-entry : tie.Need-enum-known-entry
-enum-known-entry c = search needs
-
-enum-told-3 : tie.Need-enum-told-3
-enum-told-3 c = search needs
-
 returns : tie.Need-returns
 returns c =
     let c₁ = c .before .before in
@@ -31,32 +19,19 @@ auxiliary-demands-requires c κs =
     let start = c₁ .before .before .before .before .before in
     (start .pre .0, subst (λ x. numberOf x < limit (tableOf x)) (c₁ .entry .given .1) (start .pre .2), start .pre .3)
 
-enum-told-4 : tie.Need-enum-told-4
-enum-told-4 c = search needs
-
-returns-2 : tie.Need-returns-2
-returns-2 c = search needs
-
 returns-3 : tie.Need-returns-3
 returns-3 c =
     let c₁ = c .before .before in
     let c₂ = c₁ .before .before in
     rw (c₂ .enum-told2 .given .1, c₁ .entry .given .1) (c .auxiliary-demands .ensures)
 
-returns-4 : tie.Need-returns-4
-returns-4 c = search needs
-
 pub entry-demands-spec : {M : Type 1} → statement M
 entry-demands-spec =
     tie.close
     (tie.spec
-    enum-told
-    enum-told-2
-    enum-known-entry
-    enum-told-3
+    (λ c. search needs) (λ c. search needs) (λ c. search needs) (λ c. search needs)
     returns
     auxiliary-demands-requires
-    enum-told-4
-    returns-2
+    (λ c. search needs) (λ c. search needs)
     returns-3
-    returns-4)
+    (λ c. search needs))

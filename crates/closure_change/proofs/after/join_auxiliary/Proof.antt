@@ -8,25 +8,10 @@ use borrow.Author.Needs.{needs}
 use Rattle.closure_change.proofs.after.join_auxiliary.Statement.{statement}
 use Rattle.closure_change.proofs.after.join_auxiliary.Tie as tie
 
-slice-aggregate-copy-padded : tie.Need-slice-aggregate-copy-padded
-slice-aggregate-copy-padded c = search needs
-
-closure-row-requires : tie.Need-closure-row-requires
-closure-row-requires c κs = search needs
-
 copy-padded-requires : tie.Need-copy-padded-requires
 copy-padded-requires c κs =
     let start = c .before .before .before .before in
     omega (arith, ap length (c .closure-row .ensures), kept-length (start .args .closure .now) (start .pre .0) (start .args .a .0) (start .pre .1))
-
-slice-aggregate-join-all : tie.Need-slice-aggregate-join-all
-slice-aggregate-join-all c = search needs
-
-join-all-requires : tie.Need-join-all-requires
-join-all-requires c κs = search needs
-
-same-length : tie.Need-same-length
-same-length c = search needs
 
 returns : tie.Need-returns
 returns c =
@@ -42,10 +27,7 @@ pub join-auxiliary-spec : {M : Type 1} → statement M
 join-auxiliary-spec =
     tie.close
     (tie.spec
-    slice-aggregate-copy-padded
-    closure-row-requires
+    (λ c. search needs) (λ c κs. search needs)
     copy-padded-requires
-    slice-aggregate-join-all
-    join-all-requires
-    same-length
+    (λ c. search needs) (λ c κs. search needs) (λ c. search needs)
     returns)

@@ -10,29 +10,11 @@ use Rattle.closure_change.proofs.after.join_entry.Tie as tie
 enum-told : tie.Need-enum-told
 enum-told c = search needs
 
-enum-known-entry : tie.Need-enum-known-entry
-enum-known-entry c = search needs
-
-enum-told-2 : tie.Need-enum-told-2
-enum-told-2 c = search needs
-
 returns : tie.Need-returns
 returns c =
     let c₁ = c .before .before in
     let start = c₁ .before .before .before in
     absurd (not-same (sym (ap tableOf (c .enum-told2 .given .1)) ∙ start .pre .1 ∙ ap listTable (c₁ .enum-told .given .1)))
-
-join-option-requires : tie.Need-join-option-requires
-join-option-requires c κs = search needs
-
-enum-told-3 : tie.Need-enum-told-3
-enum-told-3 c = search needs
-
-enum-known-entry-2 : tie.Need-enum-known-entry-2
-enum-known-entry-2 c = search needs
-
-enum-told-4 : tie.Need-enum-told-4
-enum-told-4 c = search needs
 
 returns-2 : tie.Need-returns-2
 returns-2 c =
@@ -46,21 +28,12 @@ join-auxiliary-requires c κs =
     let start = c₁ .before .before .before .before .before in
     (start .pre .0, subst (λ x. numberOf x < limit (tableOf x)) (c₁ .entry2 .given .1) (start .pre .2))
 
-enum-told-5 : tie.Need-enum-told-5
-enum-told-5 c = search needs
-
-same-length : tie.Need-same-length
-same-length c = search needs
-
 returns-3 : tie.Need-returns-3
 returns-3 c =
     let c₁ = c .before .before in
     let c₂ = c₁ .before .before .before in
     let c₃ = c₂ .before .before in
     rw (c₃ .enum-told .given .1, c₂ .entry .given .1) (c₁ .join-option .ensures)
-
-same-length-2 : tie.Need-same-length-2
-same-length-2 c = search needs
 
 returns-4 : tie.Need-returns-4
 returns-4 c =
@@ -69,26 +42,18 @@ returns-4 c =
     let c₃ = c₂ .before .before in
     rw (c₃ .enum-told3 .given .1, c₂ .entry2 .given .1) (c₁ .join-auxiliary .ensures)
 
-returns-5 : tie.Need-returns-5
-returns-5 c = search needs
-
 pub join-entry-spec : {M : Type 1} → statement M
 join-entry-spec =
     tie.close
     (tie.spec
     enum-told
-    enum-known-entry
-    enum-told-2
+    (λ c. search needs) (λ c. search needs)
     returns
-    join-option-requires
-    enum-told-3
-    enum-known-entry-2
-    enum-told-4
+    (λ c κs. search needs) (λ c. search needs) (λ c. search needs) (λ c. search needs)
     returns-2
     join-auxiliary-requires
-    enum-told-5
-    same-length
+    (λ c. search needs) (λ c. search needs)
     returns-3
-    same-length-2
+    (λ c. search needs)
     returns-4
-    returns-5)
+    (λ c. search needs))

@@ -4,21 +4,6 @@ use borrow.Author.Needs.{needs}
 use Rattle.closure_change.proofs.after.join_option.Statement.{statement}
 use Rattle.closure_change.proofs.after.join_option.Tie as tie
 
-slice-aggregate-write-option : tie.Need-slice-aggregate-write-option
-slice-aggregate-write-option c = search needs
-
-write-option-requires : tie.Need-write-option-requires
-write-option-requires c κs = search needs
-
-slice-aggregate-join-all : tie.Need-slice-aggregate-join-all
-slice-aggregate-join-all c = search needs
-
-join-all-requires : tie.Need-join-all-requires
-join-all-requires c κs = search needs
-
-same-length : tie.Need-same-length
-same-length c = search needs
-
 returns : tie.Need-returns
 returns c =
     let c₁ = c .before .before in
@@ -30,9 +15,5 @@ pub join-option-spec : {M : Type 1} → statement M
 join-option-spec =
     tie.close
     (tie.spec
-    slice-aggregate-write-option
-    write-option-requires
-    slice-aggregate-join-all
-    join-all-requires
-    same-length
+    (λ c. search needs) (λ c κs. search needs) (λ c. search needs) (λ c κs. search needs) (λ c. search needs)
     returns)

@@ -13,24 +13,6 @@ use borrow.Author.Needs.{needs}
 use Rattle.closure_change.proofs.after.update.Statement.{statement}
 use Rattle.closure_change.proofs.after.update.Tie as tie
 
-enum-known-change : tie.Need-enum-known-change
-enum-known-change c = search needs
-
-enum-told : tie.Need-enum-told
-enum-told c = search needs
-
-enum-told-2 : tie.Need-enum-told-2
-enum-told-2 c = search needs
-
-new-requires : tie.Need-new-requires
-new-requires c κs = search needs
-
-enum-known-c : tie.Need-enum-known-c
-enum-known-c c = search needs
-
-enum-told-3 : tie.Need-enum-told-3
-enum-told-3 c = search needs
-
 returns : tie.Need-returns
 returns c =
     let c₁ = c .before .before in
@@ -52,36 +34,6 @@ write-new-requires c κs =
     let w = class-is (start .args .n) _ (sym (c₂ .new .ensures) ∙ (c₁ .before) .c .given .1) in
     (start .pre .0 .readable, start .pre .0 .long, omega (arith, w .0, w .1))
 
-enum-told-4 : tie.Need-enum-told-4
-enum-told-4 c = search needs
-
-enum-told-5 : tie.Need-enum-told-5
-enum-told-5 c = search needs
-
-enum-told-6 : tie.Need-enum-told-6
-enum-told-6 c = search needs
-
-enum-told-7 : tie.Need-enum-told-7
-enum-told-7 c = search needs
-
-enum-told-8 : tie.Need-enum-told-8
-enum-told-8 c = search needs
-
-target-of-requires : tie.Need-target-of-requires
-target-of-requires c κs = search needs
-
-cast-new : tie.Need-cast-new
-cast-new c = search needs
-
-new-requires-2 : tie.Need-new-requires-2
-new-requires-2 c κs = search needs
-
-enum-known-k : tie.Need-enum-known-k
-enum-known-k c = search needs
-
-enum-told-9 : tie.Need-enum-told-9
-enum-told-9 c = search needs
-
 returns-2 : tie.Need-returns-2
 returns-2 c =
     let c₁ = c .before .before in
@@ -95,15 +47,6 @@ returns-2 c =
       start .pre .0 .target (c₃ .enum-told8 .given .1),
     ))
 
-entry-read-requires : tie.Need-entry-read-requires
-entry-read-requires c κs = search needs
-
-enum-known-entry : tie.Need-enum-known-entry
-enum-known-entry c = search needs
-
-enum-told-10 : tie.Need-enum-told-10
-enum-told-10 c = search needs
-
 returns-3 : tie.Need-returns-3
 returns-3 c =
     let c₁ = c .before .before in
@@ -116,9 +59,6 @@ returns-3 c =
       start .pre .0 .entry (c₂ .enum-told8 .given .1),
     ))
 
-list-of-requires : tie.Need-list-of-requires
-list-of-requires c κs = search needs
-
 join-entry-requires : tie.Need-join-entry-requires
 join-entry-requires c κs =
     let c₁ = c .before in
@@ -127,24 +67,6 @@ join-entry-requires c κs =
     let start = c₃ .before .before .before .before .before .before .before .before .before .before .before in
     let w = entry-is (start .args .scratch .now) (sym (c₃ .entry-read .ensures) ∙ c₂ .entry .given .1) in
     (start .pre .0 .long, w .table ∙ ap listTable (sym (c₁ .list-of .ensures)), w .below)
-
-enum-told-11 : tie.Need-enum-told-11
-enum-told-11 c = search needs
-
-target-of-requires-2 : tie.Need-target-of-requires-2
-target-of-requires-2 c κs = search needs
-
-cast-new-2 : tie.Need-cast-new-2
-cast-new-2 c = search needs
-
-new-requires-3 : tie.Need-new-requires-3
-new-requires-3 c κs = search needs
-
-enum-known-k-2 : tie.Need-enum-known-k-2
-enum-known-k-2 c = search needs
-
-enum-told-12 : tie.Need-enum-told-12
-enum-told-12 c = search needs
 
 returns-4 : tie.Need-returns-4
 returns-4 c =
@@ -159,15 +81,6 @@ returns-4 c =
       start .pre .0 .removed (c₃ .enum-told11 .given .1),
     ))
 
-refresh-holding-requires : tie.Need-refresh-holding-requires
-refresh-holding-requires c κs = search needs
-
-returns-5 : tie.Need-returns-5
-returns-5 c = search needs
-
-same-length : tie.Need-same-length
-same-length c = search needs
-
 returns-6 : tie.Need-returns-6
 returns-6 c =
     let c₁ = c .before .before in
@@ -180,21 +93,6 @@ returns-6 c =
     rw (c₅ .change .given .1, c₄ .enum-told2 .given .1) (c₁ .write-new .ensures ∙ ap (λ k. withNew (tableIn Classes (start .args .classes .now)) k
     (start .args .closure .now))
     (sym (w .0)))
-
-returns-7 : tie.Need-returns-7
-returns-7 c = search needs
-
-returns-8 : tie.Need-returns-8
-returns-8 c = search needs
-
-returns-9 : tie.Need-returns-9
-returns-9 c = search needs
-
-returns-10 : tie.Need-returns-10
-returns-10 c = search needs
-
-same-length-2 : tie.Need-same-length-2
-same-length-2 c = search needs
 
 returns-11 : tie.Need-returns-11
 returns-11 c =
@@ -212,9 +110,6 @@ returns-11 c =
     rw (c₈ .enum-told8 .given .1) (c₁ .join-entry .ensures ∙ joined-same (c₂ .list-of .ensures) (entry .number) (start .args .n)
     (sym (target .0) ∙ c₇ .target-of .ensures) (start .args .closure .now))
 
-same-length-3 : tie.Need-same-length-3
-same-length-3 c = search needs
-
 returns-12 : tie.Need-returns-12
 returns-12 c =
     let c₁ = c .before .before in
@@ -231,47 +126,23 @@ pub update-spec : {M : Type 1} → statement M
 update-spec =
     tie.close
     (tie.spec
-    enum-known-change
-    enum-told
-    enum-told-2
-    new-requires
-    enum-known-c
-    enum-told-3
+    (λ c. search needs) (λ c. search needs) (λ c. search needs) (λ c κs. search needs) (λ c. search needs)
+    (λ c. search needs)
     returns
     write-new-requires
-    enum-told-4
-    enum-told-5
-    enum-told-6
-    enum-told-7
-    enum-told-8
-    target-of-requires
-    cast-new
-    new-requires-2
-    enum-known-k
-    enum-told-9
+    (λ c. search needs) (λ c. search needs) (λ c. search needs) (λ c. search needs) (λ c. search needs)
+    (λ c κs. search needs) (λ c. search needs) (λ c κs. search needs) (λ c. search needs) (λ c. search needs)
     returns-2
-    entry-read-requires
-    enum-known-entry
-    enum-told-10
+    (λ c κs. search needs) (λ c. search needs) (λ c. search needs)
     returns-3
-    list-of-requires
+    (λ c κs. search needs)
     join-entry-requires
-    enum-told-11
-    target-of-requires-2
-    cast-new-2
-    new-requires-3
-    enum-known-k-2
-    enum-told-12
+    (λ c. search needs) (λ c κs. search needs) (λ c. search needs) (λ c κs. search needs) (λ c. search needs)
+    (λ c. search needs)
     returns-4
-    refresh-holding-requires
-    returns-5
-    same-length
+    (λ c κs. search needs) (λ c. search needs) (λ c. search needs)
     returns-6
-    returns-7
-    returns-8
-    returns-9
-    returns-10
-    same-length-2
+    (λ c. search needs) (λ c. search needs) (λ c. search needs) (λ c. search needs) (λ c. search needs)
     returns-11
-    same-length-3
+    (λ c. search needs)
     returns-12)

@@ -14,16 +14,10 @@ returns c =
     let start = c .before .before .before in
     held-beyond (start .args .n) (start .args .k .0) (start .args .c .0) _ (c .if1 .taken)
 
-closure-row-requires : tie.Need-closure-row-requires
-closure-row-requires c κs = search needs
-
 part-of-requires : tie.Need-part-of-requires
 part-of-requires c κs =
     let start = c .before .before .before .before in
     rw (c .closure-row .ensures) (omega (arith, kept-length (start .args .closure .now) (start .pre .0) (start .args .c .0) (start .pre .1)))
-
-has-requires : tie.Need-has-requires
-has-requires c κs = search needs
 
 returns-2 : tie.Need-returns-2
 returns-2 c =
@@ -36,4 +30,4 @@ returns-2 c =
 
 pub holds-spec : {M : Type 1} → statement M
 holds-spec =
-    tie.close (tie.spec returns closure-row-requires part-of-requires has-requires returns-2)
+    tie.close (tie.spec returns (λ c κs. search needs) part-of-requires (λ c κs. search needs) returns-2)

@@ -27,18 +27,6 @@ loop-holds c =
           (start .pre .0) (joined-wide (start .args .closure .now) (start .pre .0) (start .args .more .now)),
     )
 
-class-at-requires : tie.Need-class-at-requires Inv-loop μ-loop
-class-at-requires c κs = search needs
-
-join-where-requires : tie.Need-join-where-requires Inv-loop μ-loop
-join-where-requires c κs = search needs
-
-add-c : tie.Need-add-c Inv-loop μ-loop
-add-c c = search needs
-
-loop-less : tie.Need-loop-less Inv-loop μ-loop
-loop-less c = search needs
-
 loop-again : tie.Need-loop-again Inv-loop μ-loop
 loop-again c =
     let c₁ = c .before .before in
@@ -72,10 +60,7 @@ join-all-spec =
     Inv-loop
     μ-loop
     loop-holds
-    class-at-requires
-    join-where-requires
-    add-c
-    loop-less
+    (λ c κs. search needs) (λ c κs. search needs) (λ c. search needs) (λ c. search needs)
     loop-again
     same-length
     returns)

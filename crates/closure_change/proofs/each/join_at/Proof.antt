@@ -8,27 +8,6 @@ use borrow.Author.Needs.{needs}
 use Rattle.closure_change.proofs.each.join_at.Statement.{statement}
 use Rattle.closure_change.proofs.each.join_at.Tie as tie
 
-closure-start-requires : tie.Need-closure-start-requires
-closure-start-requires c κs = search needs
-
-add-end : tie.Need-add-end
-add-end c = search needs
-
-sub-join : tie.Need-sub-join
-sub-join c = search needs
-
-part-join-start : tie.Need-part-join-start
-part-join-start c = search needs
-
-part-join-end : tie.Need-part-join-end
-part-join-end c = search needs
-
-join-requires : tie.Need-join-requires
-join-requires c κs = search needs
-
-same-length : tie.Need-same-length
-same-length c = search needs
-
 returns : tie.Need-returns
 returns c =
     let c₁ = c .before .before in
@@ -44,11 +23,6 @@ pub join-at-spec : {M : Type 1} → statement M
 join-at-spec =
     tie.close
     (tie.spec
-    closure-start-requires
-    add-end
-    sub-join
-    part-join-start
-    part-join-end
-    join-requires
-    same-length
+    (λ c κs. search needs) (λ c. search needs) (λ c. search needs) (λ c. search needs) (λ c. search needs)
+    (λ c κs. search needs) (λ c. search needs)
     returns)

@@ -5,15 +5,6 @@ use borrow.Author.Needs.{needs}
 use Rattle.closure_change.proofs.each.join_where.Statement.{statement}
 use Rattle.closure_change.proofs.each.join_where.Tie as tie
 
-holds-requires : tie.Need-holds-requires
-holds-requires c κs = search needs
-
-join-at-requires : tie.Need-join-at-requires
-join-at-requires c κs = search needs
-
-same-length : tie.Need-same-length
-same-length c = search needs
-
 returns : tie.Need-returns
 returns c =
     let c₁ = c .before .before in
@@ -22,9 +13,6 @@ returns c =
     let start = c₃ .before .before .before .before in
     where-changed (start .args .closure .now) (start .pre .0) (start .args .c .0) (start .pre .1) (start .args .n) (start .args .k .0) (λ i row. union row
     (start .args .more .now)) _ (sym (c₃ .holds .ensures) ∙ c₂ .if1 .taken) (c₁ .join-at .ensures)
-
-same-length-2 : tie.Need-same-length-2
-same-length-2 c = search needs
 
 returns-2 : tie.Need-returns-2
 returns-2 c =
@@ -36,4 +24,8 @@ returns-2 c =
 pub join-where-spec : {M : Type 1} → statement M
 join-where-spec =
     tie.close
-    (tie.spec holds-requires join-at-requires same-length returns same-length-2 returns-2)
+    (tie.spec
+    (λ c κs. search needs) (λ c κs. search needs) (λ c. search needs)
+    returns
+    (λ c. search needs)
+    returns-2)

@@ -7,21 +7,6 @@ use borrow.Author.Needs.{needs}
 use Rattle.closure_change.proofs.each.refresh_holding.Statement.{statement}
 use Rattle.closure_change.proofs.each.refresh_holding.Tie as tie
 
-slice-aggregate-refresh-all : tie.Need-slice-aggregate-refresh-all
-slice-aggregate-refresh-all c = search needs
-
-refresh-all-requires : tie.Need-refresh-all-requires
-refresh-all-requires c κs = search needs
-
-slice-aggregate-take-all : tie.Need-slice-aggregate-take-all
-slice-aggregate-take-all c = search needs
-
-take-all-requires : tie.Need-take-all-requires
-take-all-requires c κs = search needs
-
-same-length : tie.Need-same-length
-same-length c = search needs
-
 returns : tie.Need-returns
 returns c =
     let c₁ = c .before .before in
@@ -35,9 +20,5 @@ pub refresh-holding-spec : {M : Type 1} → statement M
 refresh-holding-spec =
     tie.close
     (tie.spec
-    slice-aggregate-refresh-all
-    refresh-all-requires
-    slice-aggregate-take-all
-    take-all-requires
-    same-length
+    (λ c. search needs) (λ c κs. search needs) (λ c. search needs) (λ c κs. search needs) (λ c. search needs)
     returns)

@@ -28,18 +28,6 @@ loop-holds c =
           (start .pre .1) (kept-length (start .args .fresh .now) (start .pre .0)),
     )
 
-class-at-requires : tie.Need-class-at-requires Inv-loop μ-loop
-class-at-requires c κs = search needs
-
-take-where-requires : tie.Need-take-where-requires Inv-loop μ-loop
-take-where-requires c κs = search needs
-
-add-c : tie.Need-add-c Inv-loop μ-loop
-add-c c = search needs
-
-loop-less : tie.Need-loop-less Inv-loop μ-loop
-loop-less c = search needs
-
 loop-again : tie.Need-loop-again Inv-loop μ-loop
 loop-again c =
     let c₁ = c .before .before in
@@ -73,10 +61,7 @@ take-all-spec =
     Inv-loop
     μ-loop
     loop-holds
-    class-at-requires
-    take-where-requires
-    add-c
-    loop-less
+    (λ c κs. search needs) (λ c κs. search needs) (λ c. search needs) (λ c. search needs)
     loop-again
     same-length
     returns)

@@ -9,15 +9,6 @@ use borrow.Author.Needs.{needs}
 use Rattle.closure_change.proofs.each.take_where.Statement.{statement}
 use Rattle.closure_change.proofs.each.take_where.Tie as tie
 
-holds-requires : tie.Need-holds-requires
-holds-requires c κs = search needs
-
-closure-row-requires : tie.Need-closure-row-requires
-closure-row-requires c κs = search needs
-
-closure-start-requires : tie.Need-closure-start-requires
-closure-start-requires c κs = search needs
-
 put-bytes-requires : tie.Need-put-bytes-requires
 put-bytes-requires c κs =
     let c₁ = c .before .before in
@@ -29,9 +20,6 @@ put-bytes-requires c κs =
       kept-length (start .args .fresh .now) (start .pre .0) (start .args .c .0) (start .pre .2),
       row-there (start .args .closure .now) (start .pre .1) (start .args .c .0) (start .pre .2),
     )
-
-same-length : tie.Need-same-length
-same-length c = search needs
 
 returns : tie.Need-returns
 returns c =
@@ -46,9 +34,6 @@ returns c =
     (c₁ .put-bytes .ensures .bytes
     ∙ ap₂ (λ at row. splice at row (start .args .closure .now)) (c₂ .closure-start .ensures) (c₃ .closure-row .ensures))
 
-same-length-2 : tie.Need-same-length-2
-same-length-2 c = search needs
-
 returns-2 : tie.Need-returns-2
 returns-2 c =
     let c₁ = c .before in
@@ -60,11 +45,9 @@ pub take-where-spec : {M : Type 1} → statement M
 take-where-spec =
     tie.close
     (tie.spec
-    holds-requires
-    closure-row-requires
-    closure-start-requires
+    (λ c κs. search needs) (λ c κs. search needs) (λ c κs. search needs)
     put-bytes-requires
-    same-length
+    (λ c. search needs)
     returns
-    same-length-2
+    (λ c. search needs)
     returns-2)

@@ -65,12 +65,6 @@ pass-on-requires c κs =
       omega (arith, c₃ .row-count .ensures, start .pre .0 .few),
     )
 
-add-k : tie.Need-add-k Inv-loop μ-loop
-add-k c = search needs
-
-loop-less : tie.Need-loop-less Inv-loop μ-loop
-loop-less c = search needs
-
 loop-again : tie.Need-loop-again Inv-loop μ-loop
 loop-again c =
     let c₁ = c .before .before in
@@ -131,8 +125,7 @@ refresh-all-spec =
     loop-holds
     class-at-requires
     pass-on-requires
-    add-k
-    loop-less
+    (λ c. search needs) (λ c. search needs)
     loop-again
     same-length
     returns)

@@ -5,15 +5,6 @@ use Rattle.graph.proofs.Gather.{demanded-is}
 use Rattle.graph.proofs.closure.write_demanded.Statement.{statement}
 use Rattle.graph.proofs.closure.write_demanded.Tie as tie
 
-reached-requires : tie.Need-reached-requires
-reached-requires c κs = search needs
-
-write-mandatory-requires : tie.Need-write-mandatory-requires
-write-mandatory-requires c κs = search needs
-
-same-length : tie.Need-same-length
-same-length c = search needs
-
 returns : tie.Need-returns
 returns c =
     let c₁ = c .before .before in
@@ -24,4 +15,4 @@ returns c =
 
 pub write-demanded-spec : {M : Type 1} → statement M
 write-demanded-spec =
-    tie.close (tie.spec reached-requires write-mandatory-requires same-length returns)
+    tie.close (tie.spec (λ c κs. search needs) (λ c κs. search needs) (λ c. search needs) returns)

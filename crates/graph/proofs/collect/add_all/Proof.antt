@@ -16,9 +16,6 @@ Inv-loop classes chosen at out₀ n k₀ out k = (k ≤ n) × (length out ≡ at
 abbrev μ-loop : tie.MeasureT-loop
 μ-loop classes chosen at out₀ n k₀ out k = n - k
 
-row-count-requires : tie.Need-row-count-requires Inv-loop μ-loop
-row-count-requires c κs = search needs
-
 loop-holds : tie.Need-loop-holds Inv-loop μ-loop
 loop-holds c =
     let c₁ = c .before in
@@ -28,18 +25,6 @@ loop-holds c =
       add-none (tableIn Classes (start .args .classes .now)) (member (start .args .chosen .bits)) (start .args .at)
           (start .args .out .now) (start .pre .1 .1) (λ i. c₁ .slice-known .given i .fits),
     )
-
-class-at-requires : tie.Need-class-at-requires Inv-loop μ-loop
-class-at-requires c κs = search needs
-
-add-chosen-requires : tie.Need-add-chosen-requires Inv-loop μ-loop
-add-chosen-requires c κs = search needs
-
-add-k : tie.Need-add-k Inv-loop μ-loop
-add-k c = search needs
-
-loop-less : tie.Need-loop-less Inv-loop μ-loop
-loop-less c = search needs
 
 loop-again : tie.Need-loop-again Inv-loop μ-loop
 loop-again c =
@@ -75,12 +60,9 @@ add-all-spec =
     (tie.spec
     Inv-loop
     μ-loop
-    row-count-requires
+    (λ c κs. search needs)
     loop-holds
-    class-at-requires
-    add-chosen-requires
-    add-k
-    loop-less
+    (λ c κs. search needs) (λ c κs. search needs) (λ c. search needs) (λ c. search needs)
     loop-again
     same-length
     returns)

@@ -13,12 +13,6 @@ use Rattle.graph.proofs.Gather.{chosen-joined, not-chosen}
 use Rattle.graph.proofs.collect.add_chosen.Statement.{statement}
 use Rattle.graph.proofs.collect.add_chosen.Tie as tie
 
-has-requires : tie.Need-has-requires
-has-requires c κs = search needs
-
-class-row-requires : tie.Need-class-row-requires
-class-row-requires c κs = search needs
-
 part-of-requires : tie.Need-part-of-requires
 part-of-requires c κs =
     let c₁ = c .before in
@@ -34,9 +28,6 @@ join-requires c κs =
     let x = c₁ .class-row .result .now in
     let w : classWidth ≤ length x = table-row-wide Classes (start .args .classes .now) x (start .args .k .0) (start .pre .0 .long) (omega arith)
     (c₁ .class-row .ensures) in ap length (c .part-of .ensures) ∙ part-length (start .args .at) attributeSet x (omega arith) ∙ sym (start .pre .1 .2)
-
-same-length : tie.Need-same-length
-same-length c = search needs
 
 returns : tie.Need-returns
 returns c =
@@ -62,10 +53,9 @@ pub add-chosen-spec : {M : Type 1} → statement M
 add-chosen-spec =
     tie.close
     (tie.spec
-    has-requires
-    class-row-requires
+    (λ c κs. search needs) (λ c κs. search needs)
     part-of-requires
     join-requires
-    same-length
+    (λ c. search needs)
     returns
     returns-2)

@@ -9,15 +9,6 @@ use Rattle.graph.proofs.Gather.{from-empty}
 use Rattle.graph.proofs.collect.write_mandatory.Statement.{statement}
 use Rattle.graph.proofs.collect.write_mandatory.Tie as tie
 
-clear-requires : tie.Need-clear-requires
-clear-requires c κs = search needs
-
-add-all-requires : tie.Need-add-all-requires
-add-all-requires c κs = search needs
-
-same-length : tie.Need-same-length
-same-length c = search needs
-
 returns : tie.Need-returns
 returns c =
     let c₁ = c .before .before in
@@ -27,4 +18,6 @@ returns c =
     (c₂ .clear .ensures ∙ ap zeros (start .pre .1)) (c₁ .add-all .ensures)
 
 pub write-mandatory-spec : {M : Type 1} → statement M
-write-mandatory-spec = tie.close (tie.spec clear-requires add-all-requires same-length returns)
+write-mandatory-spec = tie.close (tie.spec
+    (λ c κs. search needs) (λ c κs. search needs) (λ c. search needs)
+    returns)

@@ -43,12 +43,6 @@ returns c =
     sym (any-here (λ x. not (sameBytes (demandedIn (start .args .closure .now) x) (demandedSet (tableIn Classes (start .args .classes .now)) x)))
     (c₄ .loop .c) (start .args .n) (c₃ .loop-test .taken) (sym (rw (c₂ .class-at .ensures) at (c₁ .demand-differs .ensures)) ∙ c .if1 .taken))
 
-add-c : tie.Need-add-c Inv-loop μ-loop
-add-c c = search needs
-
-loop-less : tie.Need-loop-less Inv-loop μ-loop
-loop-less c = search needs
-
 loop-again : tie.Need-loop-again Inv-loop μ-loop
 loop-again c =
     let c₁ = c .before in
@@ -80,7 +74,6 @@ demands-differ-spec =
     class-at-requires
     demand-differs-requires
     returns
-    add-c
-    loop-less
+    (λ c. search needs) (λ c. search needs)
     loop-again
     returns-2)

@@ -20,12 +20,6 @@ abbrev μ-loop : tie.MeasureT-loop
 loop-holds : tie.Need-loop-holds Inv-loop μ-loop
 loop-holds c = (search needs, from-before _ _)
 
-class-at-requires : tie.Need-class-at-requires Inv-loop μ-loop
-class-at-requires c κs = search needs
-
-is-unvisited-requires : tie.Need-is-unvisited-requires Inv-loop μ-loop
-is-unvisited-requires c κs = search needs
-
 returns : tie.Need-returns Inv-loop μ-loop
 returns c =
     let c₁ = c .before in
@@ -35,12 +29,6 @@ returns c =
     class-found _ _ _ _ (c₂ .class-at .ensures) (search needs) (c₃ .loop .inv .1)
     (from-past _ (unvisitedIn (start .args .fixed .now) (start .args .other .now) (start .args .seen .bits)) _ (c₃ .loop .inv .0) ∙ sym
     (rw (c₂ .class-at .ensures) at (c₁ .is-unvisited .ensures)) ∙ c .if1 .taken)
-
-add-d : tie.Need-add-d Inv-loop μ-loop
-add-d c = search needs
-
-loop-less : tie.Need-loop-less Inv-loop μ-loop
-loop-less c = search needs
 
 loop-again : tie.Need-loop-again Inv-loop μ-loop
 loop-again c =
@@ -64,10 +52,8 @@ first-unvisited-spec =
     Inv-loop
     μ-loop
     loop-holds
-    class-at-requires
-    is-unvisited-requires
+    (λ c κs. search needs) (λ c κs. search needs)
     returns
-    add-d
-    loop-less
+    (λ c. search needs) (λ c. search needs)
     loop-again
     returns-2)

@@ -24,9 +24,6 @@ listed-second false false false e f = refl
 listed-second false b true e f = absurd (true≢false f)
 listed-second true b v e f = absurd (true≢false e)
 
-has-requires : tie.Need-has-requires
-has-requires c κs = search needs
-
 returns : tie.Need-returns
 unfolding unvisitedIn
 returns c =
@@ -35,9 +32,6 @@ returns c =
     let d = start .args .d .0 in
     unseen-false (member (start .args .fixed .now) d) (member (start .args .other .now) d) _ (sym (c₁ .has .ensures) ∙ c .if1 .taken)
 
-has-requires-2 : tie.Need-has-requires-2
-has-requires-2 c κs = search needs
-
 returns-2 : tie.Need-returns-2
 unfolding unvisitedIn
 returns-2 c =
@@ -45,9 +39,6 @@ returns-2 c =
     let c₂ = c₁ .before in
     let c₃ = c₂ .before in
     listed-first _ _ _ (sym (c₁ .has2 .ensures) ∙ c .if2 .taken) (sym (c₃ .has .ensures) ∙ c₂ .if1 .left)
-
-has-requires-3 : tie.Need-has-requires-3
-has-requires-3 c κs = search needs
 
 returns-3 : tie.Need-returns-3
 unfolding unvisitedIn
@@ -60,4 +51,11 @@ returns-3 c =
 
 pub is-unvisited-spec : {M : Type 1} → statement M
 is-unvisited-spec =
-    tie.close (tie.spec has-requires returns has-requires-2 returns-2 has-requires-3 returns-3)
+    tie.close
+    (tie.spec
+    (λ c κs. search needs)
+    returns
+    (λ c κs. search needs)
+    returns-2
+    (λ c κs. search needs)
+    returns-3)

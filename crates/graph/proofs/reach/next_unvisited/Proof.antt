@@ -6,12 +6,6 @@ use Rattle.graph.proofs.Visit.{next-searched}
 use Rattle.graph.proofs.reach.next_unvisited.Statement.{statement}
 use Rattle.graph.proofs.reach.next_unvisited.Tie as tie
 
-class-row-requires : tie.Need-class-row-requires
-class-row-requires c κs = search needs
-
-row-count-requires : tie.Need-row-count-requires
-row-count-requires c κs = search needs
-
 fixed-auxiliary-requires : tie.Need-fixed-auxiliary-requires
 fixed-auxiliary-requires c κs =
     let c₁ = c .before in
@@ -23,9 +17,6 @@ open-auxiliary-requires c κs =
     let c₁ = c .before .before in
     let start = c₁ .before .before in
     table-row-wide Classes (start .args .classes .now) _ (start .args .c .0) (start .pre .0 .long) (omega arith) (c₁ .class-row .ensures)
-
-first-unvisited-requires : tie.Need-first-unvisited-requires
-first-unvisited-requires c κs = search needs
 
 returns : tie.Need-returns
 returns c =
@@ -40,9 +31,8 @@ pub next-unvisited-spec : {M : Type 1} → statement M
 next-unvisited-spec =
     tie.close
     (tie.spec
-    class-row-requires
-    row-count-requires
+    (λ c κs. search needs) (λ c κs. search needs)
     fixed-auxiliary-requires
     open-auxiliary-requires
-    first-unvisited-requires
+    (λ c κs. search needs)
     returns)

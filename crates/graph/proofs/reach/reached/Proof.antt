@@ -11,12 +11,6 @@ use Rattle.graph.proofs.Visit.{visited-none}
 use Rattle.graph.proofs.reach.reached.Statement.{statement}
 use Rattle.graph.proofs.reach.reached.Tie as tie
 
-none-requires : tie.Need-none-requires
-none-requires c κs = search needs
-
-visit-requires : tie.Need-visit-requires
-visit-requires c κs = search needs
-
 returns : tie.Need-returns
 returns c =
     let c₁ = c .before in
@@ -27,4 +21,6 @@ returns c =
     (c₁ .none .ensures))
 
 pub reached-spec : {M : Type 1} → statement M
-reached-spec = tie.close (tie.spec none-requires visit-requires returns)
+reached-spec = tie.close (tie.spec
+    (λ c κs. search needs) (λ c κs. search needs)
+    returns)

@@ -7,20 +7,8 @@ use Rattle.schema.specs.NumbersLaws.{class-is, class-beyond}
 use Rattle.graph.proofs.stages.insert_superclass.Statement.{statement}
 use Rattle.graph.proofs.stages.insert_superclass.Tie as tie
 
-superclass-requires : tie.Need-superclass-requires
-superclass-requires c κs = search needs
-
-enum-known-read : tie.Need-enum-known-read
-enum-known-read c = search needs
-
-insert-requires : tie.Need-insert-requires
-insert-requires c κs = search needs
-
 enum-told : tie.Need-enum-told
 enum-told c = search needs
-
-same-length : tie.Need-same-length
-same-length c = search needs
 
 returns : tie.Need-returns
 returns c =
@@ -43,10 +31,8 @@ pub insert-superclass-spec : {M : Type 1} → statement M
 insert-superclass-spec =
     tie.close
     (tie.spec
-    superclass-requires
-    enum-known-read
-    insert-requires
+    (λ c κs. search needs) (λ c. search needs) (λ c κs. search needs)
     enum-told
-    same-length
+    (λ c. search needs)
     returns
     returns-2)

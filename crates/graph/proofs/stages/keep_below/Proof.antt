@@ -18,15 +18,6 @@ loop-holds c =
     let start = c .before in
     (omega arith, kept-none (start .args .s .now) (start .args .n) (start .pre) (λ i. c .slice-known .given i .fits))
 
-remove-requires : tie.Need-remove-requires Inv-loop μ-loop
-remove-requires c κs = search needs
-
-add-k : tie.Need-add-k Inv-loop μ-loop
-add-k c = search needs
-
-loop-less : tie.Need-loop-less Inv-loop μ-loop
-loop-less c = search needs
-
 loop-again : tie.Need-loop-again Inv-loop μ-loop
 loop-again c =
     let c₁ = c .before .before in
@@ -54,9 +45,7 @@ keep-below-spec =
     Inv-loop
     μ-loop
     loop-holds
-    remove-requires
-    add-k
-    loop-less
+    (λ c κs. search needs) (λ c. search needs) (λ c. search needs)
     loop-again
     same-length
     returns)

@@ -14,12 +14,6 @@ use borrow.Author.Needs.{needs}
 use Rattle.graph.proofs.stages.pass_on.Statement.{statement}
 use Rattle.graph.proofs.stages.pass_on.Tie as tie
 
-slice-aggregate-copy-padded : tie.Need-slice-aggregate-copy-padded
-slice-aggregate-copy-padded c = search needs
-
-closure-row-requires : tie.Need-closure-row-requires
-closure-row-requires c κs = search needs
-
 copy-padded-requires : tie.Need-copy-padded-requires
 copy-padded-requires c κs =
     let start = c .before .before .before .before in
@@ -29,9 +23,6 @@ copy-padded-requires c κs =
       row-length 0 closureWidth classLimit (start .args .k .0) (start .args .closure .now) (omega
           (arith, start .pre .0)) (start .pre .1),
     )
-
-slice-aggregate-pass-to-all : tie.Need-slice-aggregate-pass-to-all
-slice-aggregate-pass-to-all c = search needs
 
 pass-to-all-requires : tie.Need-pass-to-all-requires
 pass-to-all-requires c κs =
@@ -45,9 +36,6 @@ pass-to-all-requires c κs =
           (arith, start .pre .0)) (start .pre .1),
       start .pre .2,
     )
-
-same-length : tie.Need-same-length
-same-length c = search needs
 
 returns : tie.Need-returns
 returns c =
@@ -64,10 +52,9 @@ pub pass-on-spec : {M : Type 1} → statement M
 pass-on-spec =
     tie.close
     (tie.spec
-    slice-aggregate-copy-padded
-    closure-row-requires
+    (λ c. search needs) (λ c κs. search needs)
     copy-padded-requires
-    slice-aggregate-pass-to-all
+    (λ c. search needs)
     pass-to-all-requires
-    same-length
+    (λ c. search needs)
     returns)

@@ -17,9 +17,6 @@ use borrow.Author.Needs.{needs}
 use Rattle.graph.proofs.stages.pass_to.Statement.{statement}
 use Rattle.graph.proofs.stages.pass_to.Tie as tie
 
-closure-row-requires : tie.Need-closure-row-requires
-closure-row-requires c κs = search needs
-
 part-of-requires : tie.Need-part-of-requires
 part-of-requires c κs =
     let start = c .before .before .before .before in
@@ -28,30 +25,6 @@ part-of-requires c κs =
       row-length 0 closureWidth classLimit (start .args .c .0) (start .args .closure .now) (omega
           (arith, start .pre .0)) (start .pre .1),
     ))
-
-has-requires : tie.Need-has-requires
-has-requires c κs = search needs
-
-closure-start-requires : tie.Need-closure-start-requires
-closure-start-requires c κs = search needs
-
-add-end : tie.Need-add-end
-add-end c = search needs
-
-sub-join : tie.Need-sub-join
-sub-join c = search needs
-
-part-join-start : tie.Need-part-join-start
-part-join-start c = search needs
-
-part-join-end : tie.Need-part-join-end
-part-join-end c = search needs
-
-join-requires : tie.Need-join-requires
-join-requires c κs = search needs
-
-same-length : tie.Need-same-length
-same-length c = search needs
 
 returns : tie.Need-returns
 unfolding passedRow
@@ -71,9 +44,6 @@ returns c =
     (start .args .closure .now)) (sym (passed-test _ _ (start .args .k .0) _ _ (c₅ .closure-row .ensures) (c₄ .part-of .ensures) (c₃ .has .ensures)
     ∙ c₂ .if1 .taken))
 
-same-length-2 : tie.Need-same-length-2
-same-length-2 c = search needs
-
 returns-2 : tie.Need-returns-2
 unfolding passedRow
 returns-2 c =
@@ -90,16 +60,10 @@ pub pass-to-spec : {M : Type 1} → statement M
 pass-to-spec =
     tie.close
     (tie.spec
-    closure-row-requires
+    (λ c κs. search needs)
     part-of-requires
-    has-requires
-    closure-start-requires
-    add-end
-    sub-join
-    part-join-start
-    part-join-end
-    join-requires
-    same-length
+    (λ c κs. search needs) (λ c κs. search needs) (λ c. search needs) (λ c. search needs) (λ c. search needs)
+    (λ c. search needs) (λ c κs. search needs) (λ c. search needs)
     returns
-    same-length-2
+    (λ c. search needs)
     returns-2)

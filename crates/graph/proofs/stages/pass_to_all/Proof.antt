@@ -43,12 +43,6 @@ pass-to-requires c κs =
     let start = c₂ .before .before .before in
     (omega (arith, start .pre .0, c₂ .loop .inv .1), omega (arith, c .class-at .ensures, c₁ .loop-test .taken, start .pre .2), start .pre .1)
 
-add-c : tie.Need-add-c Inv-loop μ-loop
-add-c c = search needs
-
-loop-less : tie.Need-loop-less Inv-loop μ-loop
-loop-less c = search needs
-
 loop-again : tie.Need-loop-again Inv-loop μ-loop
 loop-again c =
     let c₁ = c .before .before in
@@ -93,8 +87,7 @@ pass-to-all-spec =
     loop-holds
     class-at-requires
     pass-to-requires
-    add-c
-    loop-less
+    (λ c. search needs) (λ c. search needs)
     loop-again
     same-length
     returns)

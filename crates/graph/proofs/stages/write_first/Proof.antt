@@ -16,12 +16,6 @@ row-count-requires c κs =
     let start = c .before .before in
     start .pre .0 .long
 
-clear-requires : tie.Need-clear-requires
-clear-requires c κs = search needs
-
-same-length : tie.Need-same-length
-same-length c = search needs
-
 returns : tie.Need-returns
 returns c =
     let c₁ = c .before .before in
@@ -31,30 +25,12 @@ returns c =
     c₁ .clear .ensures ∙ ap zeros (start .pre .2) ∙ sym (stage-none (tableIn Classes (start .args .classes .now)) 0 (start .args .c .0) (omega
     (arith, c₂ .if1 .taken, c₃ .row-count .ensures)))
 
-sub-write-named : tie.Need-sub-write-named
-sub-write-named c = search needs
-
-part-write-named-start : tie.Need-part-write-named-start
-part-write-named-start c = search needs
-
-part-write-named-end : tie.Need-part-write-named-end
-part-write-named-end c = search needs
-
 write-named-requires : tie.Need-write-named-requires
 write-named-requires c κs =
     let c₁ = c .before in
     let c₂ = c₁ .before .before in
     let start = c₂ .before .before .before in
     (start .pre .0, omega (arith, c₁ .if1 .left, c₂ .row-count .ensures), length-take-le classSet (start .args .row .now) (omega (arith, start .pre .2)))
-
-sub-write-own-mandatory : tie.Need-sub-write-own-mandatory
-sub-write-own-mandatory c = search needs
-
-part-write-own-mandatory-start : tie.Need-part-write-own-mandatory-start
-part-write-own-mandatory-start c = search needs
-
-part-write-own-mandatory-end : tie.Need-part-write-own-mandatory-end
-part-write-own-mandatory-end c = search needs
 
 write-own-mandatory-requires : tie.Need-write-own-mandatory-requires
 write-own-mandatory-requires c κs =
@@ -63,24 +39,12 @@ write-own-mandatory-requires c κs =
     let start = c₂ .before .before .before in
     (start .pre .0, omega (arith, c₁ .if1 .left, c₂ .row-count .ensures), omega (arith, start .pre .2))
 
-sub-write-own-optional : tie.Need-sub-write-own-optional
-sub-write-own-optional c = search needs
-
-part-write-own-optional-start : tie.Need-part-write-own-optional-start
-part-write-own-optional-start c = search needs
-
-part-write-own-optional-end : tie.Need-part-write-own-optional-end
-part-write-own-optional-end c = search needs
-
 write-own-optional-requires : tie.Need-write-own-optional-requires
 write-own-optional-requires c κs =
     let c₁ = c .before .before .before .before .before .before .before .before .before in
     let c₂ = c₁ .before .before in
     let start = c₂ .before .before .before in
     (start .pre .0, omega (arith, c₁ .if1 .left, c₂ .row-count .ensures), omega (arith, start .pre .2))
-
-same-length-2 : tie.Need-same-length-2
-same-length-2 c = search needs
 
 returns-2 : tie.Need-returns-2
 returns-2 c =
@@ -98,20 +62,13 @@ write-first-spec =
     tie.close
     (tie.spec
     row-count-requires
-    clear-requires
-    same-length
+    (λ c κs. search needs) (λ c. search needs)
     returns
-    sub-write-named
-    part-write-named-start
-    part-write-named-end
+    (λ c. search needs) (λ c. search needs) (λ c. search needs)
     write-named-requires
-    sub-write-own-mandatory
-    part-write-own-mandatory-start
-    part-write-own-mandatory-end
+    (λ c. search needs) (λ c. search needs) (λ c. search needs)
     write-own-mandatory-requires
-    sub-write-own-optional
-    part-write-own-optional-start
-    part-write-own-optional-end
+    (λ c. search needs) (λ c. search needs) (λ c. search needs)
     write-own-optional-requires
-    same-length-2
+    (λ c. search needs)
     returns-2)

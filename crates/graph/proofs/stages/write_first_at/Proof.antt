@@ -8,27 +8,6 @@ use borrow.Author.Needs.{needs}
 use Rattle.graph.proofs.stages.write_first_at.Statement.{statement}
 use Rattle.graph.proofs.stages.write_first_at.Tie as tie
 
-closure-start-requires : tie.Need-closure-start-requires
-closure-start-requires c κs = search needs
-
-add-end : tie.Need-add-end
-add-end c = search needs
-
-sub-write-first : tie.Need-sub-write-first
-sub-write-first c = search needs
-
-part-write-first-start : tie.Need-part-write-first-start
-part-write-first-start c = search needs
-
-part-write-first-end : tie.Need-part-write-first-end
-part-write-first-end c = search needs
-
-write-first-requires : tie.Need-write-first-requires
-write-first-requires c κs = search needs
-
-same-length : tie.Need-same-length
-same-length c = search needs
-
 returns : tie.Need-returns
 returns c =
     let c₁ = c .before .before in
@@ -42,11 +21,6 @@ pub write-first-at-spec : {M : Type 1} → statement M
 write-first-at-spec =
     tie.close
     (tie.spec
-    closure-start-requires
-    add-end
-    sub-write-first
-    part-write-first-start
-    part-write-first-end
-    write-first-requires
-    same-length
+    (λ c κs. search needs) (λ c. search needs) (λ c. search needs) (λ c. search needs) (λ c. search needs)
+    (λ c κs. search needs) (λ c. search needs)
     returns)

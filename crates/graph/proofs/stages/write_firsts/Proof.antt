@@ -29,18 +29,6 @@ loop-holds c =
           (λ i l. stage-length (tableIn Classes (start .args .classes .now)) 0 i),
     )
 
-class-at-requires : tie.Need-class-at-requires Inv-loop μ-loop
-class-at-requires c κs = search needs
-
-write-first-at-requires : tie.Need-write-first-at-requires Inv-loop μ-loop
-write-first-at-requires c κs = search needs
-
-add-c : tie.Need-add-c Inv-loop μ-loop
-add-c c = search needs
-
-loop-less : tie.Need-loop-less Inv-loop μ-loop
-loop-less c = search needs
-
 loop-again : tie.Need-loop-again Inv-loop μ-loop
 loop-again c =
     let c₁ = c .before .before in
@@ -78,10 +66,7 @@ write-firsts-spec =
     Inv-loop
     μ-loop
     loop-holds
-    class-at-requires
-    write-first-at-requires
-    add-c
-    loop-less
+    (λ c κs. search needs) (λ c κs. search needs) (λ c. search needs) (λ c. search needs)
     loop-again
     same-length
     returns)

@@ -70,18 +70,6 @@ insert-superclass-requires c κs =
       search needs,
     )
 
-row-count-requires : tie.Need-row-count-requires
-row-count-requires c κs = search needs
-
-keep-below-requires : tie.Need-keep-below-requires
-keep-below-requires c κs = search needs
-
-insert-requires : tie.Need-insert-requires
-insert-requires c κs = search needs
-
-same-length : tie.Need-same-length
-same-length c = search needs
-
 returns : tie.Need-returns
 returns c =
     let c₁ = c .before .before in
@@ -114,8 +102,5 @@ write-named-spec =
     open-auxiliary-requires
     join-requires
     insert-superclass-requires
-    row-count-requires
-    keep-below-requires
-    insert-requires
-    same-length
+    (λ c κs. search needs) (λ c κs. search needs) (λ c κs. search needs) (λ c. search needs)
     returns)

@@ -35,9 +35,6 @@ copy-padded-requires c κs =
           (c₁ .class-row .ensures),
     )) (start .pre .2) (c .mandatory .ensures) refl
 
-same-length : tie.Need-same-length
-same-length c = search needs
-
 returns : tie.Need-returns
 unfolding listsMandatory
 returns c =
@@ -60,5 +57,5 @@ write-own-mandatory-spec =
     class-row-requires
     mandatory-requires
     copy-padded-requires
-    same-length
+    (λ c. search needs)
     returns)

@@ -62,9 +62,6 @@ join-requires c κs =
           (c₃ .class-row .ensures),
     )) (c .open-optional .ensures)
 
-same-length : tie.Need-same-length
-same-length c = search needs
-
 returns : tie.Need-returns
 unfolding listsOptional
 returns c =
@@ -96,5 +93,5 @@ write-own-optional-spec =
     copy-padded-requires
     open-optional-requires
     join-requires
-    same-length
+    (λ c. search needs)
     returns)

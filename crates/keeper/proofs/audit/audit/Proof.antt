@@ -9,9 +9,6 @@ use Rattle.keeper.specs.CheckedLaws.{shape-refused, shape-onward, shaped
 use Rattle.keeper.proofs.audit.audit.Statement.{statement}
 use Rattle.keeper.proofs.audit.audit.Tie as tie
 
-check-shape-requires : tie.Need-check-shape-requires
-check-shape-requires c κs = search needs
-
 returns : tie.Need-returns
 unfolding audit
 returns c =
@@ -47,12 +44,6 @@ is-fresh-requires c κs =
     (start .args .attributes .now) (start .args .classes .now) (start .args .closure .now) in
     (readable-classes s (c₂ .check-shape .ensures) (c₁ .if1 .left), in-shape s (c₂ .check-shape .ensures) (c₁ .if1 .left) .long .closure)
 
-passed-requires : tie.Need-passed-requires
-passed-requires c κs = search needs
-
-refused-requires : tie.Need-refused-requires
-refused-requires c κs = search needs
-
 returns-3 : tie.Need-returns-3
 unfolding audit
 returns-3 c =
@@ -87,12 +78,11 @@ pub audit-spec : {M : Type 1} → statement M
 audit-spec =
     tie.close
     (tie.spec
-    check-shape-requires
+    (λ c κs. search needs)
     returns
     judge-requires
     returns-2
     is-fresh-requires
-    passed-requires
-    refused-requires
+    (λ c κs. search needs) (λ c κs. search needs)
     returns-3
     returns-4)

@@ -13,9 +13,6 @@ use Rattle.prelude.specs.SaysLaws.{says-eq, says-false, says-true}
 use Rattle.schema.specs.Store.{schemaOf, stores}
 use Rattle.keeper.proofs.check.check_order.Tie as tie
 
-check-shape-requires : tie.Need-check-shape-requires
-check-shape-requires c κs = search needs
-
 returns : tie.Need-returns
 returns c =
     let c₁ = c .before .before in
@@ -27,9 +24,6 @@ judge-requires c κs =
     let c₁ = c .before .before in
     let start = c₁ .before .before .before .before in
     shaped-stores (stores (start .args .attributes .now) (start .args .classes .now) (start .args .closure .now)) (c₁ .check-shape .ensures) (c .if1 .left)
-
-refused-requires : tie.Need-refused-requires
-refused-requires c κs = search needs
 
 returns-2 : tie.Need-returns-2
 unfolding inOrder
@@ -55,12 +49,6 @@ is-fresh-requires c κs =
       in-shape (stores (start .args .attributes .now) (start .args .classes .now) (start .args .closure .now))
           (c₂ .check-shape .ensures) (c₁ .if1 .left) .long .closure,
     )
-
-passed-requires : tie.Need-passed-requires
-passed-requires c κs = search needs
-
-refused-requires-2 : tie.Need-refused-requires-2
-refused-requires-2 c κs = search needs
 
 returns-3 : tie.Need-returns-3
 unfolding inOrder
@@ -98,13 +86,12 @@ pub check-order-spec : {M : Type 1} → statement M
 check-order-spec =
     tie.close
     (tie.spec
-    check-shape-requires
+    (λ c κs. search needs)
     returns
     judge-requires
-    refused-requires
+    (λ c κs. search needs)
     returns-2
     is-fresh-requires
-    passed-requires
-    refused-requires-2
+    (λ c κs. search needs) (λ c κs. search needs)
     returns-3
     returns-4)

@@ -6,12 +6,6 @@ use Rattle.keeper.specs.AnsweringLaws.{short-stores, formed-stores, brok
 use Rattle.keeper.proofs.check.check_shape.Statement.{statement}
 use Rattle.keeper.proofs.check.check_shape.Tie as tie
 
-any-short-requires : tie.Need-any-short-requires
-any-short-requires c κs = search needs
-
-refused-requires : tie.Need-refused-requires
-refused-requires c κs = search needs
-
 returns : tie.Need-returns
 returns c =
     let c₁ = c .before in
@@ -27,12 +21,6 @@ stores-formed-requires c κs =
     let l = long-enough
     (stores (start .args .attributes .now) (start .args .classes .now) (start .args .closure .now)) (sym (c₁ .any-short .ensures) ∙ c .if1 .left) in
     (l .attributes, l .classes)
-
-passed-requires : tie.Need-passed-requires
-passed-requires c κs = search needs
-
-refused-requires-2 : tie.Need-refused-requires-2
-refused-requires-2 c κs = search needs
 
 returns-2 : tie.Need-returns-2
 returns-2 c =
@@ -58,11 +46,9 @@ pub check-shape-spec : {M : Type 1} → statement M
 check-shape-spec =
     tie.close
     (tie.spec
-    any-short-requires
-    refused-requires
+    (λ c κs. search needs) (λ c κs. search needs)
     returns
     stores-formed-requires
-    passed-requires
-    refused-requires-2
+    (λ c κs. search needs) (λ c κs. search needs)
     returns-2
     returns-3)

@@ -10,9 +10,6 @@ use borrow.Author.Needs.{needs}
 use Rattle.keeper.proofs.depth.depth.Statement.{statement}
 use Rattle.keeper.proofs.depth.depth.Tie as tie
 
-check-shape-requires : tie.Need-check-shape-requires
-check-shape-requires c κs = search needs
-
 returns : tie.Need-returns
 returns c =
     let c₁ = c .before .before in
@@ -20,17 +17,8 @@ returns c =
     depth-refused (stores (start .args .attributes .now) (start .args .classes .now) (start .args .closure .now)) (start .args .class)
     (c₁ .check-shape .ensures) (c .if1 .taken)
 
-new-requires : tie.Need-new-requires
-new-requires c κs = search needs
-
-enum-known-c : tie.Need-enum-known-c
-enum-known-c c = search needs
-
 enum-told : tie.Need-enum-told
 enum-told c = search needs
-
-refused-requires : tie.Need-refused-requires
-refused-requires c κs = search needs
 
 returns-2 : tie.Need-returns-2
 returns-2 c =
@@ -54,9 +42,6 @@ row-count-requires c κs =
     let start = c₂ .before .before .before .before in
     in-shape (stores (start .args .attributes .now) (start .args .classes .now) (start .args .closure .now)) (c₂ .check-shape .ensures)
     (c₁ .if1 .left) .long .classes
-
-refused-requires-2 : tie.Need-refused-requires-2
-refused-requires-2 c κs = search needs
 
 returns-3 : tie.Need-returns-3
 returns-3 c =
@@ -85,18 +70,6 @@ depth-of-requires c κs =
       omega
           (arith, c .if2 .left, c₁ .row-count .ensures, readable-classes (stores attributes classes closure) (c₃ .check-shape .ensures) (c₂ .if1 .left) .few),
     )
-
-enum-known-steps : tie.Need-enum-known-steps
-enum-known-steps c = search needs
-
-done-requires : tie.Need-done-requires
-done-requires c κs = search needs
-
-enum-told-2 : tie.Need-enum-told-2
-enum-told-2 c = search needs
-
-refused-requires-3 : tie.Need-refused-requires-3
-refused-requires-3 c κs = search needs
 
 returns-4 : tie.Need-returns-4
 returns-4 c =
@@ -138,20 +111,16 @@ pub depth-spec : {M : Type 1} → statement M
 depth-spec =
     tie.close
     (tie.spec
-    check-shape-requires
+    (λ c κs. search needs)
     returns
-    new-requires
-    enum-known-c
+    (λ c κs. search needs) (λ c. search needs)
     enum-told
-    refused-requires
+    (λ c κs. search needs)
     returns-2
     row-count-requires
-    refused-requires-2
+    (λ c κs. search needs)
     returns-3
     depth-of-requires
-    enum-known-steps
-    done-requires
-    enum-told-2
-    refused-requires-3
+    (λ c. search needs) (λ c κs. search needs) (λ c. search needs) (λ c κs. search needs)
     returns-4
     returns-5)

@@ -7,30 +7,6 @@ use Rattle.keeper.specs.Load.{emptied}
 use Rattle.keeper.proofs.load.empty_all.Statement.{statement}
 use Rattle.keeper.proofs.load.empty_all.Tie as tie
 
-store-length-requires : tie.Need-store-length-requires
-store-length-requires c κs = search needs
-
-empty-requires : tie.Need-empty-requires
-empty-requires c κs = search needs
-
-store-length-requires-2 : tie.Need-store-length-requires-2
-store-length-requires-2 c κs = search needs
-
-empty-requires-2 : tie.Need-empty-requires-2
-empty-requires-2 c κs = search needs
-
-empty-requires-3 : tie.Need-empty-requires-3
-empty-requires-3 c κs = search needs
-
-same-length : tie.Need-same-length
-same-length c = search needs
-
-same-length-2 : tie.Need-same-length-2
-same-length-2 c = search needs
-
-same-length-3 : tie.Need-same-length-3
-same-length-3 c = search needs
-
 returns : tie.Need-returns
 unfolding emptied
 returns c =
@@ -48,12 +24,6 @@ pub empty-all-spec : {M : Type 1} → statement M
 empty-all-spec =
     tie.close
     (tie.spec
-    store-length-requires
-    empty-requires
-    store-length-requires-2
-    empty-requires-2
-    empty-requires-3
-    same-length
-    same-length-2
-    same-length-3
+    (λ c κs. search needs) (λ c κs. search needs) (λ c κs. search needs) (λ c κs. search needs) (λ c κs. search needs)
+    (λ c. search needs) (λ c. search needs) (λ c. search needs)
     returns)

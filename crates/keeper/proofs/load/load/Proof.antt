@@ -6,21 +6,6 @@ use Rattle.keeper.proofs.Loading.{stores-lent, short-ends, found-readab
 use Rattle.keeper.proofs.load.load.Statement.{statement}
 use Rattle.keeper.proofs.load.load.Tie as tie
 
-any-short-requires : tie.Need-any-short-requires
-any-short-requires c κs = search needs
-
-refused-requires : tie.Need-refused-requires
-refused-requires c κs = search needs
-
-same-length : tie.Need-same-length
-same-length c = search needs
-
-same-length-2 : tie.Need-same-length-2
-same-length-2 c = search needs
-
-same-length-3 : tie.Need-same-length-3
-same-length-3 c = search needs
-
 returns : tie.Need-returns
 returns c =
     let c₁ = c .before in
@@ -63,15 +48,6 @@ empty-all-requires c κs =
     (start .args .classes .now) (start .args .closure .now) in found-long (start .args .sheet .now) s (sym (c₃ .any-short .ensures) ∙ c₂ .if1 .left)
     (λ i. c₄ .shared-slice-known .given i .fits) (c₁ .read-and-judge .ensures)
 
-same-length-4 : tie.Need-same-length-4
-same-length-4 c = search needs
-
-same-length-5 : tie.Need-same-length-5
-same-length-5 c = search needs
-
-same-length-6 : tie.Need-same-length-6
-same-length-6 c = search needs
-
 returns-2 : tie.Need-returns-2
 returns-2 c =
     let c₁ = c .before .before in
@@ -84,15 +60,6 @@ returns-2 c =
     let s = stores (start .args .attributes .now) (start .args .classes .now) (start .args .closure .now) in filled-ends (start .args .sheet .now)
     s (sym (c₅ .any-short .ensures) ∙ c₄ .if1 .left) (λ i. c₆ .shared-slice-known .given i .fits) (c₃ .read-and-judge .ensures) (c₂ .if2 .taken)
     (c₁ .refresh-all .ensures)
-
-same-length-7 : tie.Need-same-length-7
-same-length-7 c = search needs
-
-same-length-8 : tie.Need-same-length-8
-same-length-8 c = search needs
-
-same-length-9 : tie.Need-same-length-9
-same-length-9 c = search needs
 
 returns-3 : tie.Need-returns-3
 returns-3 c =
@@ -111,20 +78,12 @@ pub load-spec : {M : Type 1} → statement M
 load-spec =
     tie.close
     (tie.spec
-    any-short-requires
-    refused-requires
-    same-length
-    same-length-2
-    same-length-3
+    (λ c κs. search needs) (λ c κs. search needs) (λ c. search needs) (λ c. search needs) (λ c. search needs)
     returns
     read-and-judge-requires
     refresh-all-requires
     empty-all-requires
-    same-length-4
-    same-length-5
-    same-length-6
+    (λ c. search needs) (λ c. search needs) (λ c. search needs)
     returns-2
-    same-length-7
-    same-length-8
-    same-length-9
+    (λ c. search needs) (λ c. search needs) (λ c. search needs)
     returns-3)

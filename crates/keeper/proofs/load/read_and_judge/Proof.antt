@@ -6,9 +6,6 @@ use Rattle.keeper.proofs.Loading.{read-shaped, read-ends, judge-ends}
 use Rattle.keeper.proofs.load.read_and_judge.Statement.{statement}
 use Rattle.keeper.proofs.load.read_and_judge.Tie as tie
 
-read-sheet-requires : tie.Need-read-sheet-requires
-read-sheet-requires c κs = search needs
-
 enum-told : tie.Need-enum-told
 enum-told c = search needs
 
@@ -19,24 +16,6 @@ judge-requires c κs =
     let start = c₂ .before in
     read-shaped (start .args .sheet .now) (λ i. c₂ .shared-slice-known .given i .fits) (start .args .attributes .now)
     (start .args .classes .now) (start .pre) (c₁ .read-sheet .ensures)
-
-enum-known-at : tie.Need-enum-known-at
-enum-known-at c = search needs
-
-unreadable-requires : tie.Need-unreadable-requires
-unreadable-requires c κs = search needs
-
-enum-known-table : tie.Need-enum-known-table
-enum-known-table c = search needs
-
-full-requires : tie.Need-full-requires
-full-requires c κs = search needs
-
-same-length : tie.Need-same-length
-same-length c = search needs
-
-same-length-2 : tie.Need-same-length-2
-same-length-2 c = search needs
 
 returns : tie.Need-returns
 returns c =
@@ -51,12 +30,6 @@ returns c =
     classes (start .pre) (c₂ .read-sheet .ensures) (c₁ .enum-told .given .1)
     (judge-ends sheet (λ i. c₃ .shared-slice-known .given i .fits) attributes classes (start .pre) (c₂ .read-sheet .ensures) (c .judge .ensures))
 
-same-length-3 : tie.Need-same-length-3
-same-length-3 c = search needs
-
-same-length-4 : tie.Need-same-length-4
-same-length-4 c = search needs
-
 returns-2 : tie.Need-returns-2
 returns-2 c =
     let c₁ = c .before .before in
@@ -67,12 +40,6 @@ returns-2 c =
     read-ends sheet (λ i. c₃ .shared-slice-known .given i .fits)
     (start .args .attributes .now) (start .args .classes .now) (start .pre) (c₂ .read-sheet .ensures) (c₁ .at .given .1)
     (c .unreadable .ensures ∙ read-bad (readSheet sheet .rows) _)
-
-same-length-5 : tie.Need-same-length-5
-same-length-5 c = search needs
-
-same-length-6 : tie.Need-same-length-6
-same-length-6 c = search needs
 
 returns-3 : tie.Need-returns-3
 returns-3 c =
@@ -89,19 +56,13 @@ pub read-and-judge-spec : {M : Type 1} → statement M
 read-and-judge-spec =
     tie.close
     (tie.spec
-    read-sheet-requires
+    (λ c κs. search needs)
     enum-told
     judge-requires
-    enum-known-at
-    unreadable-requires
-    enum-known-table
-    full-requires
-    same-length
-    same-length-2
+    (λ c. search needs) (λ c κs. search needs) (λ c. search needs) (λ c κs. search needs) (λ c. search needs)
+    (λ c. search needs)
     returns
-    same-length-3
-    same-length-4
+    (λ c. search needs) (λ c. search needs)
     returns-2
-    same-length-5
-    same-length-6
+    (λ c. search needs) (λ c. search needs)
     returns-3)

@@ -9,9 +9,6 @@ use Rattle.keeper.specs.EndLaws.{write-refused, write-short, write-done}
 use Rattle.keeper.proofs.write.write.Statement.{statement}
 use Rattle.keeper.proofs.write.write.Tie as tie
 
-check-shape-requires : tie.Need-check-shape-requires
-check-shape-requires c κs = search needs
-
 returns : tie.Need-returns
 returns c =
     let c₁ = c .before .before in
@@ -26,9 +23,6 @@ sheet-length-requires c κs =
     let start = c₁ .before .before .before .before .before in
     let s = stores (start .args .attributes .now)
     (start .args .classes .now) (start .args .closure .now) in writable s (in-shape s (c₁ .check-shape .ensures) (c .if1 .left))
-
-short-output-requires : tie.Need-short-output-requires
-short-output-requires c κs = search needs
 
 returns-2 : tie.Need-returns-2
 returns-2 c =
@@ -53,12 +47,6 @@ write-sheet-requires c κs =
     (start .args .closure .now) in let w = writable s (in-shape s (c₄ .check-shape .ensures) (c₃ .if1 .left)) in
     (w .0, w .1, omega (arith, c₁ .if2 .left, c₂ .sheet-length .ensures))
 
-done-requires : tie.Need-done-requires
-done-requires c κs = search needs
-
-same-length : tie.Need-same-length
-same-length c = search needs
-
 returns-3 : tie.Need-returns-3
 returns-3 c =
     let c₁ = c .before .before .before in
@@ -75,12 +63,11 @@ pub write-spec : {M : Type 1} → statement M
 write-spec =
     tie.close
     (tie.spec
-    check-shape-requires
+    (λ c κs. search needs)
     returns
     sheet-length-requires
-    short-output-requires
+    (λ c κs. search needs)
     returns-2
     write-sheet-requires
-    done-requires
-    same-length
+    (λ c κs. search needs) (λ c. search needs)
     returns-3)

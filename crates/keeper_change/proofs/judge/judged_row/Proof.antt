@@ -11,9 +11,6 @@ use borrow.Author.Needs.{needs}
 use Rattle.keeper_change.proofs.judge.judged_row.Statement.{statement}
 use Rattle.keeper_change.proofs.judge.judged_row.Tie as tie
 
-first-broken-requires : tie.Need-first-broken-requires
-first-broken-requires c κs = search needs
-
 returns : tie.Need-returns
 unfolding judgedRow
 returns c =
@@ -50,4 +47,4 @@ returns-3 c =
 
 pub judged-row-spec : {M : Type 1} → statement M
 judged-row-spec =
-    tie.close (tie.spec first-broken-requires returns demand-changes-requires returns-2 returns-3)
+    tie.close (tie.spec (λ c κs. search needs) returns demand-changes-requires returns-2 returns-3)

@@ -11,9 +11,6 @@ use Rattle.keeper_change.specs.Judged.{judgedWhole}
 use Rattle.schema.specs.Store.{schemaIn}
 use Rattle.keeper_change.proofs.judge.judged_whole.Tie as tie
 
-judge-requires : tie.Need-judge-requires
-judge-requires c κs = search needs
-
 returns : tie.Need-returns
 unfolding judgedWhole
 returns c =
@@ -23,9 +20,6 @@ returns c =
     (start .args .classes .now)) ∙ sym (append-first (brokenCases (schemaRules (start .args .added)) (schemaIn (start .args .attributes .now)
     (start .args .classes .now))) _ (λ z. c .if1 .taken (ap (λ a. a .number) (c₁ .judge .ensures) ∙ judged-number (start .args .added)
     (schemaIn (start .args .attributes .now) (start .args .classes .now)) ∙ z)))
-
-demands-differ-requires : tie.Need-demands-differ-requires
-demands-differ-requires c κs = search needs
 
 returns-2 : tie.Need-returns-2
 unfolding judgedWhole
@@ -53,4 +47,4 @@ returns-3 c =
 
 pub judged-whole-spec : {M : Type 1} → statement M
 judged-whole-spec =
-    tie.close (tie.spec judge-requires returns demands-differ-requires returns-2 returns-3)
+    tie.close (tie.spec (λ c κs. search needs) returns (λ c κs. search needs) returns-2 returns-3)

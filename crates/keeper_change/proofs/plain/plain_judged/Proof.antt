@@ -72,18 +72,6 @@ undo-requires c κs =
     subst₂ (λ b x. Restorable b (x .attributes) (x .classes)) (sym (c₂ .save .ensures)) (sym (c₁ .make .ensures (s .closure)))
     (restorable change r s (start .pre .allowed))
 
-refused-requires : tie.Need-refused-requires
-refused-requires c κs = search needs
-
-same-length : tie.Need-same-length
-same-length c = search needs
-
-same-length-2 : tie.Need-same-length-2
-same-length-2 c = search needs
-
-same-length-3 : tie.Need-same-length-3
-same-length-3 c = search needs
-
 returns : tie.Need-returns
 returns c =
     let c₁ = c .before .before .before .before .before in
@@ -115,18 +103,6 @@ refresh-all-requires c κs =
       closure-long change r s (start .pre .allowed),
     )
 
-changed-requires : tie.Need-changed-requires
-changed-requires c κs = search needs
-
-same-length-4 : tie.Need-same-length-4
-same-length-4 c = search needs
-
-same-length-5 : tie.Need-same-length-5
-same-length-5 c = search needs
-
-same-length-6 : tie.Need-same-length-6
-same-length-6 c = search needs
-
 returns-2 : tie.Need-returns-2
 returns-2 c =
     let c₁ = c .before .before .before in
@@ -154,14 +130,8 @@ plain-judged-spec =
     added-by-requires
     judged-whole-requires
     undo-requires
-    refused-requires
-    same-length
-    same-length-2
-    same-length-3
+    (λ c κs. search needs) (λ c. search needs) (λ c. search needs) (λ c. search needs)
     returns
     refresh-all-requires
-    changed-requires
-    same-length-4
-    same-length-5
-    same-length-6
+    (λ c κs. search needs) (λ c. search needs) (λ c. search needs) (λ c. search needs)
     returns-2)

@@ -13,15 +13,6 @@ first-asked-requires c κs =
     let r = start .args .scratch .now in
     plain-asked change r s (start .pre)
 
-refused-requires : tie.Need-refused-requires
-refused-requires c κs = search needs
-
-same-length : tie.Need-same-length
-same-length c = search needs
-
-same-length-2 : tie.Need-same-length-2
-same-length-2 c = search needs
-
 returns : tie.Need-returns
 returns c =
     let c₁ = c .before in
@@ -40,29 +31,12 @@ plain-judged-requires c κs =
     let s = stores (start .args .attributes .now) (start .args .classes .now) (start .args .closure .now) in
     to-judged (start .args .change) (start .args .scratch .now) s (start .pre) (sym (c₂ .first-asked .ensures) ∙ c₁ .if1 .left)
 
-same-length-3 : tie.Need-same-length-3
-same-length-3 c = search needs
-
-same-length-4 : tie.Need-same-length-4
-same-length-4 c = search needs
-
-same-length-5 : tie.Need-same-length-5
-same-length-5 c = search needs
-
-returns-2 : tie.Need-returns-2
-returns-2 c = search needs
-
 pub plain-read-spec : {M : Type 1} → statement M
 plain-read-spec =
     tie.close
     (tie.spec
     first-asked-requires
-    refused-requires
-    same-length
-    same-length-2
+    (λ c κs. search needs) (λ c. search needs) (λ c. search needs)
     returns
     plain-judged-requires
-    same-length-3
-    same-length-4
-    same-length-5
-    returns-2)
+    (λ c. search needs) (λ c. search needs) (λ c. search needs) (λ c. search needs))

@@ -20,12 +20,6 @@ save-requires c κs =
     let r = start .args .scratch .now in
     applicable change r s (start .pre)
 
-row-count-requires : tie.Need-row-count-requires
-row-count-requires c κs = search needs
-
-slice-aggregate-demand-before : tie.Need-slice-aggregate-demand-before
-slice-aggregate-demand-before c = search needs
-
 demand-before-requires : tie.Need-demand-before-requires
 demand-before-requires c κs =
     let start = c .before .before .before .before .before .before .before .before .before .before .before in
@@ -57,9 +51,6 @@ added-by-requires c κs =
     let r = start .args .scratch .now in
     addable change r s (start .pre) _ (c₁ .row-count .ensures)
 
-slice-aggregate-judged-row : tie.Need-slice-aggregate-judged-row
-slice-aggregate-judged-row c = search needs
-
 judged-row-requires : tie.Need-judged-row-requires
 judged-row-requires c κs =
     let c₁ = c .before .before .before .before in
@@ -82,18 +73,6 @@ undo-requires c κs =
     let r = start .args .scratch .now in
     subst₂ (λ b x. Restorable b (x .attributes) (x .classes)) (sym (c₂ .save .ensures)) (sym (c₁ .make .ensures (s .closure))) (restorable change r s
     (start .pre))
-
-refused-requires : tie.Need-refused-requires
-refused-requires c κs = search needs
-
-same-length : tie.Need-same-length
-same-length c = search needs
-
-same-length-2 : tie.Need-same-length-2
-same-length-2 c = search needs
-
-same-length-3 : tie.Need-same-length-3
-same-length-3 c = search needs
 
 returns : tie.Need-returns
 unfolding zeros
@@ -134,18 +113,6 @@ update-requires c κs =
     to-update change r s (start .pre) (c₃ .added-by .ensures) (c₆ .row-count .ensures) (c₄ .make .ensures (s .closure)) (c₇ .save .ensures)
     (zeros attributeSet) (c₅ .demand-before .ensures) _ (c₂ .judged-row .ensures) (c₁ .if1 .left)
 
-changed-requires : tie.Need-changed-requires
-changed-requires c κs = search needs
-
-same-length-4 : tie.Need-same-length-4
-same-length-4 c = search needs
-
-same-length-5 : tie.Need-same-length-5
-same-length-5 c = search needs
-
-same-length-6 : tie.Need-same-length-6
-same-length-6 c = search needs
-
 returns-2 : tie.Need-returns-2
 unfolding zeros
 returns-2 c =
@@ -169,22 +136,15 @@ quick-judged-spec =
     tie.close
     (tie.spec
     save-requires
-    row-count-requires
-    slice-aggregate-demand-before
+    (λ c κs. search needs) (λ c. search needs)
     demand-before-requires
     make-requires
     added-by-requires
-    slice-aggregate-judged-row
+    (λ c. search needs)
     judged-row-requires
     undo-requires
-    refused-requires
-    same-length
-    same-length-2
-    same-length-3
+    (λ c κs. search needs) (λ c. search needs) (λ c. search needs) (λ c. search needs)
     returns
     update-requires
-    changed-requires
-    same-length-4
-    same-length-5
-    same-length-6
+    (λ c κs. search needs) (λ c. search needs) (λ c. search needs) (λ c. search needs)
     returns-2)

@@ -7,9 +7,6 @@ use Rattle.schema.specs.Store.{storeOf, stores}
 use Rattle.keeper_change.specs.MadeLaws.{made-in}
 use Rattle.keeper_change.proofs.rows.make.Tie as tie
 
-table-for-requires : tie.Need-table-for-requires
-table-for-requires c κs = search needs
-
 enum-told : tie.Need-enum-told
 enum-told c = search needs
 
@@ -25,9 +22,6 @@ apply-requires c κs =
     subst (λ t. Applicable change r (storeOf t a k) × (start .args .id ≡ rowChanged change r (storeOf t a k)))
     (sym (c₂ .table-for .ensures) ∙ c₁ .enum-told .given .1) (start .pre)
 
-enum-told-2 : tie.Need-enum-told-2
-enum-told-2 c = search needs
-
 apply-requires-2 : tie.Need-apply-requires-2
 apply-requires-2 c κs =
     let c₁ = c .before in
@@ -40,9 +34,6 @@ apply-requires-2 c κs =
     subst (λ t. Applicable change r (storeOf t a k) × (start .args .id ≡ rowChanged change r (storeOf t a k)))
     (sym (c₂ .table-for .ensures) ∙ c₁ .enum-told2 .given .1) (start .pre)
 
-same-length : tie.Need-same-length
-same-length c = search needs
-
 returns : tie.Need-returns
 returns c =
     let c₁ = c .before .before in
@@ -52,9 +43,6 @@ returns c =
     λ k. ap (λ x. stores x (start .args .classes .now) k) (c₁ .apply .ensures) ∙ made-in Attributes (start .args .change)
     (start .args .scratch .now) (stores (start .args .attributes .now) (start .args .classes .now) k) (sym (c₃ .table-for .ensures)
     ∙ c₂ .enum-told .given .1)
-
-same-length-2 : tie.Need-same-length-2
-same-length-2 c = search needs
 
 returns-2 : tie.Need-returns-2
 returns-2 c =
@@ -70,12 +58,12 @@ pub make-spec : {M : Type 1} → statement M
 make-spec =
     tie.close
     (tie.spec
-    table-for-requires
+    (λ c κs. search needs)
     enum-told
     apply-requires
-    enum-told-2
+    (λ c. search needs)
     apply-requires-2
-    same-length
+    (λ c. search needs)
     returns
-    same-length-2
+    (λ c. search needs)
     returns-2)

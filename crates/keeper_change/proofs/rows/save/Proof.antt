@@ -10,20 +10,11 @@ use Rattle.change_rows.specs.Rows.{tableFor}
 use Rattle.prelude.specs.Part.{padded}
 use Rattle.keeper_change.proofs.rows.save.Tie as tie
 
-table-for-requires : tie.Need-table-for-requires
-table-for-requires c κs = search needs
-
-store-of-requires : tie.Need-store-of-requires
-store-of-requires c κs = search needs
-
 row-changed-requires : tie.Need-row-changed-requires
 row-changed-requires c κs =
     let c₁ = c .before in
     let start = c₁ .before .before .before .before in
     rw (c .store-of .ensures, c₁ .table-for .ensures) (start .pre)
-
-slice-aggregate-save-row : tie.Need-slice-aggregate-save-row
-slice-aggregate-save-row c = search needs
 
 save-row-requires : tie.Need-save-row-requires
 save-row-requires c κs =
@@ -65,10 +56,9 @@ pub save-spec : {M : Type 1} → statement M
 save-spec =
     tie.close
     (tie.spec
-    table-for-requires
-    store-of-requires
+    (λ c κs. search needs) (λ c κs. search needs)
     row-changed-requires
-    slice-aggregate-save-row
+    (λ c. search needs)
     save-row-requires
     row-count-requires
     returns)

@@ -12,14 +12,8 @@ use Rattle.prelude.specs.Part.{part}
 use Rattle.change_rows.specs.Stores.{restored}
 use Rattle.keeper_change.proofs.rows.undo.Tie as tie
 
-table-of-requires : tie.Need-table-of-requires
-table-of-requires c κs = search needs
-
 enum-told : tie.Need-enum-told
 enum-told c = search needs
-
-slice-aggregate-restore : tie.Need-slice-aggregate-restore
-slice-aggregate-restore c = search needs
 
 restore-requires : tie.Need-restore-requires
 restore-requires c κs =
@@ -33,12 +27,6 @@ restore-requires c κs =
       start .pre .wide,
     )
 
-enum-told-2 : tie.Need-enum-told-2
-enum-told-2 c = search needs
-
-slice-aggregate-restore-2 : tie.Need-slice-aggregate-restore-2
-slice-aggregate-restore-2 c = search needs
-
 restore-requires-2 : tie.Need-restore-requires-2
 restore-requires-2 c κs =
     let c₁ = c .before .before in
@@ -51,9 +39,6 @@ restore-requires-2 c κs =
       start .pre .wide,
     )
 
-same-length : tie.Need-same-length
-same-length c = search needs
-
 returns : tie.Need-returns
 returns c =
     let c₁ = c .before .before in
@@ -64,9 +49,6 @@ returns c =
     ((start .args .before) .count) (part 0 (rowWidth t) ((start .args .before) .row)) (start .args .attributes .now)) (sym
     (c₃ .table-of .ensures) ∙ c₂ .enum-told .given .1)) ∙ back-in Attributes (start .args .before) (stores (start .args .attributes .now)
     (start .args .classes .now) k) (sym (c₃ .table-of .ensures) ∙ c₂ .enum-told .given .1)
-
-same-length-2 : tie.Need-same-length-2
-same-length-2 c = search needs
 
 returns-2 : tie.Need-returns-2
 returns-2 c =
@@ -83,14 +65,13 @@ pub undo-spec : {M : Type 1} → statement M
 undo-spec =
     tie.close
     (tie.spec
-    table-of-requires
+    (λ c κs. search needs)
     enum-told
-    slice-aggregate-restore
+    (λ c. search needs)
     restore-requires
-    enum-told-2
-    slice-aggregate-restore-2
+    (λ c. search needs) (λ c. search needs)
     restore-requires-2
-    same-length
+    (λ c. search needs)
     returns
-    same-length-2
+    (λ c. search needs)
     returns-2)

@@ -13,9 +13,6 @@ use Rattle.list_text.specs.Listing.{keptCount}
 use Rattle.list_text.proofs.class.kept_count.Statement.{statement}
 use Rattle.list_text.proofs.class.kept_count.Tie as tie
 
-closure-row-requires : tie.Need-closure-row-requires
-closure-row-requires c κs = search needs
-
 part-of-requires : tie.Need-part-of-requires
 part-of-requires c κs =
     let start = c .before .before in
@@ -38,4 +35,8 @@ returns c =
     (c₂ .closure-row .ensures)
 
 pub kept-count-spec : {M : Type 1} → statement M
-kept-count-spec = tie.close (tie.spec closure-row-requires part-of-requires count-requires returns)
+kept-count-spec = tie.close (tie.spec
+    (λ c κs. search needs)
+    part-of-requires
+    count-requires
+    returns)

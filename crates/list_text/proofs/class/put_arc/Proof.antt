@@ -9,21 +9,12 @@ use Rattle.list_text.proofs.Lines.{first-arc, later-arc}
 use Rattle.list_text.proofs.class.put_arc.Statement.{statement}
 use Rattle.list_text.proofs.class.put_arc.Tie as tie
 
-arc-requires : tie.Need-arc-requires
-arc-requires c κs = search needs
-
-cast-number : tie.Need-cast-number
-cast-number c = search needs
-
 put-decimal-requires : tie.Need-put-decimal-requires
 put-decimal-requires c κs =
     let c₁ = c .before in
     let c₂ = c₁ .before in
     let start = c₂ .before .before .before in
     omega (arith, start .pre .2, ap length (first-arc (start .args .row .now) (start .args .k) (c₁ .if1 .taken) (c₂ .arc .ensures)))
-
-same-length : tie.Need-same-length
-same-length c = search needs
 
 returns : tie.Need-returns
 returns c =
@@ -60,9 +51,6 @@ put-decimal-requires-2 c κs =
       c₁ .put-byte .kept .1 .0,
     )
 
-same-length-2 : tie.Need-same-length-2
-same-length-2 c = search needs
-
 returns-2 : tie.Need-returns-2
 returns-2 c =
     let c₁ = c .before .before in
@@ -81,12 +69,11 @@ pub put-arc-spec : {M : Type 1} → statement M
 put-arc-spec =
     tie.close
     (tie.spec
-    arc-requires
-    cast-number
+    (λ c κs. search needs) (λ c. search needs)
     put-decimal-requires
-    same-length
+    (λ c. search needs)
     returns
     put-byte-requires
     put-decimal-requires-2
-    same-length-2
+    (λ c. search needs)
     returns-2)

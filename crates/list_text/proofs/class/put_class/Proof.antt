@@ -15,9 +15,6 @@ use Rattle.list_text.proofs.Lines.{five-written, listed-row, class-leng
 use Rattle.list_text.proofs.class.put_class.Statement.{statement}
 use Rattle.list_text.proofs.class.put_class.Tie as tie
 
-class-row-requires : tie.Need-class-row-requires
-class-row-requires c κs = search needs
-
 put-number-requires : tie.Need-put-number-requires
 put-number-requires c κs =
     let start = c .before .before .before .before .before in
@@ -189,9 +186,6 @@ put-number-requires-3 c κs =
       c₂ .put-number2 .kept .1 .1 .0,
     )
 
-same-length : tie.Need-same-length
-same-length c = search needs
-
 returns : tie.Need-returns
 returns c =
     let c₁ = c .before .before in
@@ -215,7 +209,7 @@ pub put-class-spec : {M : Type 1} → statement M
 put-class-spec =
     tie.close
     (tie.spec
-    class-row-requires
+    (λ c κs. search needs)
     put-number-requires
     name-requires
     put-word-requires
@@ -225,5 +219,5 @@ put-class-spec =
     put-number-requires-2
     kept-count-requires-2
     put-number-requires-3
-    same-length
+    (λ c. search needs)
     returns)

@@ -26,9 +26,6 @@ Inv-loop row out₀ at n next₀ k₀ out next k = Writing (arcText row) n at ou
 abbrev μ-loop : tie.MeasureT-loop
 μ-loop row out₀ at n next₀ k₀ out next k = n - k
 
-arc-count-requires : tie.Need-arc-count-requires Inv-loop μ-loop
-arc-count-requires c κs = search needs
-
 loop-holds : tie.Need-loop-holds Inv-loop μ-loop
 loop-holds c = writing-none
 
@@ -83,7 +80,7 @@ put-identifier-spec =
     (tie.spec
     Inv-loop
     μ-loop
-    arc-count-requires
+    (λ c κs. search needs)
     loop-holds
     put-arc-requires
     add-k

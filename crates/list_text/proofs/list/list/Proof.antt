@@ -6,21 +6,12 @@ use Rattle.list_text.specs.ListingLaws.{listed-long, listed-loaded}
 use Rattle.list_text.proofs.list.list.Statement.{statement}
 use Rattle.list_text.proofs.list.list.Tie as tie
 
-slice-aggregate-put-bytes : tie.Need-slice-aggregate-put-bytes
-slice-aggregate-put-bytes c = search needs
-
-put-bytes-requires : tie.Need-put-bytes-requires
-put-bytes-requires c κs = search needs
-
 returns : tie.Need-returns
 unfolding tooLong ascii
 returns c =
     let c₁ = c .before .before .before in
     let start = c₁ .before .before in
     written-as (listed-long (start .args .sheet .now) (c₁ .if1 .taken)) (c .put-bytes .ensures)
-
-list-loaded-requires : tie.Need-list-loaded-requires
-list-loaded-requires c κs = search needs
 
 returns-2 : tie.Need-returns-2
 returns-2 c =
@@ -30,5 +21,4 @@ returns-2 c =
 
 pub list-spec : {M : Type 1} → statement M
 list-spec =
-    tie.close
-    (tie.spec slice-aggregate-put-bytes put-bytes-requires returns list-loaded-requires returns-2)
+    tie.close (tie.spec (λ c. search needs) (λ c κs. search needs) returns (λ c κs. search needs) returns-2)

@@ -7,12 +7,6 @@ use Rattle.list_text.proofs.Room.{head-length, lines-short}
 use Rattle.list_text.proofs.list.put_listing.Statement.{statement}
 use Rattle.list_text.proofs.list.put_listing.Tie as tie
 
-slice-aggregate-put-bytes : tie.Need-slice-aggregate-put-bytes
-slice-aggregate-put-bytes c = search needs
-
-put-bytes-requires : tie.Need-put-bytes-requires
-put-bytes-requires c κs = search needs
-
 put-classes-requires : tie.Need-put-classes-requires
 put-classes-requires c κs =
     let c₁ = c .before .before .before in
@@ -31,9 +25,6 @@ put-classes-requires c κs =
       ),
     )
 
-same-length : tie.Need-same-length
-same-length c = search needs
-
 returns : tie.Need-returns
 unfolding listing headLine ascii
 returns c =
@@ -46,8 +37,7 @@ pub put-listing-spec : {M : Type 1} → statement M
 put-listing-spec =
     tie.close
     (tie.spec
-    slice-aggregate-put-bytes
-    put-bytes-requires
+    (λ c. search needs) (λ c κs. search needs)
     put-classes-requires
-    same-length
+    (λ c. search needs)
     returns)

@@ -8,15 +8,9 @@ use Rattle.list_text.proofs.Room.{refused-short}
 use Rattle.list_text.proofs.list.put_refused.Statement.{statement}
 use Rattle.list_text.proofs.list.put_refused.Tie as tie
 
-slice-aggregate-put-word : tie.Need-slice-aggregate-put-word
-slice-aggregate-put-word c = search needs
-
 put-word-requires : tie.Need-put-word-requires
 unfolding ascii
 put-word-requires c κs = omega (arith, c .before .before .before .pre, word-length (ascii "refused") 32)
-
-cast-put-number : tie.Need-cast-put-number
-cast-put-number c = search needs
 
 put-number-requires : tie.Need-put-number-requires
 unfolding ascii
@@ -34,9 +28,6 @@ put-number-requires c κs =
       c₁ .put-word .ensures .place,
       c₁ .put-word .kept .1 .1 .0,
     )
-
-cast-put-number-2 : tie.Need-cast-put-number-2
-cast-put-number-2 c = search needs
 
 put-number-requires-2 : tie.Need-put-number-requires-2
 unfolding ascii
@@ -85,9 +76,6 @@ put-number-requires-3 c κs =
       c₁ .put-number2 .kept .1 .1 .0,
     )
 
-same-length : tie.Need-same-length
-same-length c = search needs
-
 returns : tie.Need-returns
 unfolding ascii
 returns c =
@@ -105,12 +93,12 @@ pub put-refused-spec : {M : Type 1} → statement M
 put-refused-spec =
     tie.close
     (tie.spec
-    slice-aggregate-put-word
+    (λ c. search needs)
     put-word-requires
-    cast-put-number
+    (λ c. search needs)
     put-number-requires
-    cast-put-number-2
+    (λ c. search needs)
     put-number-requires-2
     put-number-requires-3
-    same-length
+    (λ c. search needs)
     returns)

@@ -18,9 +18,6 @@ put-byte-requires c κs =
     omega
     (arith, start .pre, word-length (decimal (start .args .n)) (start .args .behind), c₁ .put-decimal .ensures .place, c₁ .put-decimal .kept .1 .0)
 
-same-length : tie.Need-same-length
-same-length c = search needs
-
 returns : tie.Need-returns
 unfolding word
 returns c =
@@ -31,4 +28,8 @@ returns c =
     (c₁ .put-byte .ensures)
 
 pub put-number-spec : {M : Type 1} → statement M
-put-number-spec = tie.close (tie.spec put-decimal-requires put-byte-requires same-length returns)
+put-number-spec = tie.close (tie.spec
+    put-decimal-requires
+    put-byte-requires
+    (λ c. search needs)
+    returns)

@@ -17,9 +17,6 @@ put-byte-requires c κs =
     let start = c₁ .before .before .before .before in
     omega (arith, start .pre, word-length (start .args .v .now) (start .args .behind), c₁ .put-bytes .ensures .place, c₁ .put-bytes .kept .1 .0)
 
-same-length : tie.Need-same-length
-same-length c = search needs
-
 returns : tie.Need-returns
 unfolding word
 returns c =
@@ -29,4 +26,8 @@ returns c =
     written-then (omega (arith, start .pre, word-length (start .args .v .now) (start .args .behind))) (c₂ .put-bytes .ensures) (c₁ .put-byte .ensures)
 
 pub put-word-spec : {M : Type 1} → statement M
-put-word-spec = tie.close (tie.spec put-bytes-requires put-byte-requires same-length returns)
+put-word-spec = tie.close (tie.spec
+    put-bytes-requires
+    put-byte-requires
+    (λ c. search needs)
+    returns)

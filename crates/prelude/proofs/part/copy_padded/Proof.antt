@@ -9,24 +9,6 @@ use borrow.Author.Needs.{needs}
 use Rattle.prelude.proofs.part.copy_padded.Statement.{statement}
 use Rattle.prelude.proofs.part.copy_padded.Tie as tie
 
-copy-requires : tie.Need-copy-requires
-copy-requires c κs = search needs
-
-sub-clear : tie.Need-sub-clear
-sub-clear c = search needs
-
-part-clear-start : tie.Need-part-clear-start
-part-clear-start c = search needs
-
-part-clear-end : tie.Need-part-clear-end
-part-clear-end c = search needs
-
-clear-requires : tie.Need-clear-requires
-clear-requires c κs = search needs
-
-same-length : tie.Need-same-length
-same-length c = search needs
-
 -- the bytes of s and then zeros to the end: d after the copy is e, and its rest came back as `back`
 copied : (n : ℕ) (d s e back : List ℕ) → n ≡ length s → length s ≤ length d → e ≡ take (length s) s ++ drop (length s) d
     → back ≡ zeros (length (take (length e - n) (drop n e)))
@@ -52,10 +34,6 @@ pub copy-padded-spec : {M : Type 1} → statement M
 copy-padded-spec =
     tie.close
     (tie.spec
-    copy-requires
-    sub-clear
-    part-clear-start
-    part-clear-end
-    clear-requires
-    same-length
+    (λ c κs. search needs) (λ c. search needs) (λ c. search needs) (λ c. search needs) (λ c κs. search needs)
+    (λ c. search needs)
     returns)

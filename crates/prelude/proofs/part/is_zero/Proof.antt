@@ -40,24 +40,12 @@ returns : tie.Need-returns Inv-loop μ-loop
 unfolding isZero
 returns c = rw (c .if1 .taken) (sym (all-zero _))
 
-shared-slice-read-if2 : tie.Need-shared-slice-read-if2 Inv-loop μ-loop
-shared-slice-read-if2 c = search needs
-
 returns-2 : tie.Need-returns-2 Inv-loop μ-loop
 unfolding isZero
 returns-2 c = sym (all-not _ 0 _ (omega (arith, c .before .before .if1 .left)) (says-false (says-eq _ _) (c .if2 .taken)))
 
 loop-holds : tie.Need-loop-holds Inv-loop μ-loop
 loop-holds c = (search needs, sym (all-zero _))
-
-shared-slice-read-all : tie.Need-shared-slice-read-all Inv-loop μ-loop
-shared-slice-read-all c = search needs
-
-add-i : tie.Need-add-i Inv-loop μ-loop
-add-i c = search needs
-
-loop-less : tie.Need-loop-less Inv-loop μ-loop
-loop-less c = search needs
 
 loop-again : tie.Need-loop-again Inv-loop μ-loop
 loop-again c =
@@ -82,11 +70,9 @@ is-zero-spec =
     Inv-loop
     μ-loop
     returns
-    shared-slice-read-if2
+    (λ c. search needs)
     returns-2
     loop-holds
-    shared-slice-read-all
-    add-i
-    loop-less
+    (λ c. search needs) (λ c. search needs) (λ c. search needs)
     loop-again
     returns-3)

@@ -21,9 +21,6 @@ loop-holds c = (omega arith, refl)
 byte-at-requires : tie.Need-byte-at-requires Inv-loop μ-loop
 byte-at-requires c κs = omega arith
 
-mix-requires : tie.Need-mix-requires Inv-loop μ-loop
-mix-requires c κs = search needs
-
 add-i : tie.Need-add-i Inv-loop μ-loop
 add-i c = omega arith
 
@@ -55,7 +52,7 @@ fnv1a-spec =
     μ-loop
     loop-holds
     byte-at-requires
-    mix-requires
+    (λ c κs. search needs)
     add-i
     loop-less
     loop-again

@@ -5,24 +5,6 @@ use Rattle.replay.proofs.Prime.{in-parts}
 use Rattle.replay.proofs.hash.times_prime.Statement.{statement}
 use Rattle.replay.proofs.hash.times_prime.Tie as tie
 
-mul-far : tie.Need-mul-far
-mul-far c = search needs
-
-mul-middle : tie.Need-mul-middle
-mul-middle c = search needs
-
-mul-middle-2 : tie.Need-mul-middle-2
-mul-middle-2 c = search needs
-
-wrapping-add-u64-requires : tie.Need-wrapping-add-u64-requires
-wrapping-add-u64-requires c κs = search needs
-
-mul-wrapping-add-u64 : tie.Need-mul-wrapping-add-u64
-mul-wrapping-add-u64 c = search needs
-
-wrapping-add-u64-requires-2 : tie.Need-wrapping-add-u64-requires-2
-wrapping-add-u64-requires-2 c κs = search needs
-
 returns : tie.Need-returns
 returns c =
     let c₁ = c .before in
@@ -34,10 +16,6 @@ pub times-prime-spec : {M : Type 1} → statement M
 times-prime-spec =
     tie.close
     (tie.spec
-    mul-far
-    mul-middle
-    mul-middle-2
-    wrapping-add-u64-requires
-    mul-wrapping-add-u64
-    wrapping-add-u64-requires-2
+    (λ c. search needs) (λ c. search needs) (λ c. search needs) (λ c κs. search needs) (λ c. search needs)
+    (λ c κs. search needs)
     returns)

@@ -2,18 +2,6 @@ use borrow.Author.Needs.{needs}
 use Rattle.replay.proofs.play.audit_lent.Statement.{statement}
 use Rattle.replay.proofs.play.audit_lent.Tie as tie
 
-part-of-requires : tie.Need-part-of-requires
-part-of-requires c κs = search needs
-
-part-of-requires-2 : tie.Need-part-of-requires-2
-part-of-requires-2 c κs = search needs
-
-part-of-requires-3 : tie.Need-part-of-requires-3
-part-of-requires-3 c κs = search needs
-
-audit-requires : tie.Need-audit-requires
-audit-requires c κs = search needs
-
 returns : tie.Need-returns
 returns c =
     let c₁ = c .before in
@@ -24,4 +12,6 @@ returns c =
 pub audit-lent-spec : {M : Type 1} → statement M
 audit-lent-spec =
     tie.close
-    (tie.spec part-of-requires part-of-requires-2 part-of-requires-3 audit-requires returns)
+    (tie.spec
+    (λ c κs. search needs) (λ c κs. search needs) (λ c κs. search needs) (λ c κs. search needs)
+    returns)

@@ -4,12 +4,6 @@ use Rattle.replay.specs.Playing.{poked}
 use Rattle.replay.proofs.play.poke.Statement.{statement}
 use Rattle.replay.proofs.play.poke.Tie as tie
 
-slice-write-store : tie.Need-slice-write-store
-slice-write-store c = search needs
-
-same-length : tie.Need-same-length
-same-length c = search needs
-
 returns : tie.Need-returns
 unfolding poked
 returns c = rw (lt-ltb _ _ (c .if1 .taken))
@@ -19,4 +13,7 @@ unfolding poked
 returns-2 c = rw (le-ltb _ _ (c .if1 .left))
 
 pub poke-spec : {M : Type 1} → statement M
-poke-spec = tie.close (tie.spec slice-write-store same-length returns returns-2)
+poke-spec = tie.close (tie.spec
+    (λ c. search needs) (λ c. search needs)
+    returns
+    returns-2)

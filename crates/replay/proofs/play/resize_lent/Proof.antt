@@ -4,27 +4,12 @@ use Rattle.replay.specs.Playing.{resizeLent}
 use Rattle.replay.proofs.play.resize_lent.Statement.{statement}
 use Rattle.replay.proofs.play.resize_lent.Tie as tie
 
-lengthen-requires : tie.Need-lengthen-requires
-lengthen-requires c κs = search needs
-
-lengthen-requires-2 : tie.Need-lengthen-requires-2
-lengthen-requires-2 c κs = search needs
-
-lengthen-requires-3 : tie.Need-lengthen-requires-3
-lengthen-requires-3 c κs = search needs
-
-same-length : tie.Need-same-length
-same-length c = search needs
-
 returns : tie.Need-returns
 unfolding resizeLent
 returns c =
     let c₁ = c .before .before in
     let c₂ = c₁ .before .before in
     rw (eq-eqb _ _ (c₂ .if1 .taken), c₁ .lengthen .ensures)
-
-same-length-2 : tie.Need-same-length-2
-same-length-2 c = search needs
 
 returns-2 : tie.Need-returns-2
 unfolding resizeLent
@@ -33,9 +18,6 @@ returns-2 c =
     let c₂ = c₁ .before .before in
     let c₃ = c₂ .before in
     rw (ne-eqb _ _ (c₃ .if1 .left), eq-eqb _ _ (c₂ .if2 .taken), c₁ .lengthen2 .ensures)
-
-same-length-3 : tie.Need-same-length-3
-same-length-3 c = search needs
 
 returns-3 : tie.Need-returns-3
 unfolding resizeLent
@@ -49,12 +31,9 @@ pub resize-lent-spec : {M : Type 1} → statement M
 resize-lent-spec =
     tie.close
     (tie.spec
-    lengthen-requires
-    lengthen-requires-2
-    lengthen-requires-3
-    same-length
+    (λ c κs. search needs) (λ c κs. search needs) (λ c κs. search needs) (λ c. search needs)
     returns
-    same-length-2
+    (λ c. search needs)
     returns-2
-    same-length-3
+    (λ c. search needs)
     returns-3)

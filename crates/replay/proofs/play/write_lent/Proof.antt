@@ -4,33 +4,6 @@ use Rattle.replay.proofs.Lending.{write-back}
 use Rattle.replay.proofs.play.write_lent.Statement.{statement}
 use Rattle.replay.proofs.play.write_lent.Tie as tie
 
-lengthen-requires : tie.Need-lengthen-requires
-lengthen-requires c κs = search needs
-
-part-of-requires : tie.Need-part-of-requires
-part-of-requires c κs = search needs
-
-part-of-requires-2 : tie.Need-part-of-requires-2
-part-of-requires-2 c κs = search needs
-
-part-of-requires-3 : tie.Need-part-of-requires-3
-part-of-requires-3 c κs = search needs
-
-sub-write : tie.Need-sub-write
-sub-write c = search needs
-
-part-write-start : tie.Need-part-write-start
-part-write-start c = search needs
-
-part-write-end : tie.Need-part-write-end
-part-write-end c = search needs
-
-write-requires : tie.Need-write-requires
-write-requires c κs = search needs
-
-same-length : tie.Need-same-length
-same-length c = search needs
-
 returns : tie.Need-returns
 returns c =
     let c₁ = c .before .before in
@@ -50,13 +23,6 @@ pub write-lent-spec : {M : Type 1} → statement M
 write-lent-spec =
     tie.close
     (tie.spec
-    lengthen-requires
-    part-of-requires
-    part-of-requires-2
-    part-of-requires-3
-    sub-write
-    part-write-start
-    part-write-end
-    write-requires
-    same-length
+    (λ c κs. search needs) (λ c κs. search needs) (λ c κs. search needs) (λ c κs. search needs) (λ c. search needs)
+    (λ c. search needs) (λ c. search needs) (λ c κs. search needs) (λ c. search needs)
     returns)

@@ -5,27 +5,9 @@ use Rattle.replay.specs.Steps.{isCut, calledAt}
 use Rattle.replay.proofs.step.read_called.Statement.{statement}
 use Rattle.replay.proofs.step.read_called.Tie as tie
 
-sub-if1 : tie.Need-sub-if1
-sub-if1 c = search needs
-
 returns : tie.Need-returns
 unfolding calledAt isCut
 returns c = (rw (lt-ltb _ _ (c .if1 .taken)), tt)
-
-add-read-u32 : tie.Need-add-read-u32
-add-read-u32 c = search needs
-
-read-u32-requires : tie.Need-read-u32-requires
-read-u32-requires c κs = search needs
-
-cast-lent : tie.Need-cast-lent
-cast-lent c = search needs
-
-sub-if2 : tie.Need-sub-if2
-sub-if2 c = search needs
-
-sub-if2-2 : tie.Need-sub-if2-2
-sub-if2-2 c = search needs
 
 returns-2 : tie.Need-returns-2
 unfolding calledAt isCut
@@ -33,12 +15,6 @@ returns-2 c =
     let c₁ = c .before in
     let c₂ = c₁ .before in
     (rw (le-ltb _ _ (c₂ .if1 .left), ← (c₁ .read-u32 .ensures), lt-ltb _ _ (c .if2 .taken)), tt)
-
-add-start : tie.Need-add-start
-add-start c = search needs
-
-add-stop : tie.Need-add-stop
-add-stop c = search needs
 
 returns-3 : tie.Need-returns-3
 unfolding calledAt isCut
@@ -51,14 +27,9 @@ pub read-called-spec : {M : Type 1} → statement M
 read-called-spec =
     tie.close
     (tie.spec
-    sub-if1
+    (λ c. search needs)
     returns
-    add-read-u32
-    read-u32-requires
-    cast-lent
-    sub-if2
-    sub-if2-2
+    (λ c. search needs) (λ c κs. search needs) (λ c. search needs) (λ c. search needs) (λ c. search needs)
     returns-2
-    add-start
-    add-stop
+    (λ c. search needs) (λ c. search needs)
     returns-3)

@@ -5,18 +5,9 @@ use Rattle.replay.specs.Steps.{isCut, resizeAt}
 use Rattle.replay.proofs.step.read_resize.Statement.{statement}
 use Rattle.replay.proofs.step.read_resize.Tie as tie
 
-sub-if1 : tie.Need-sub-if1
-sub-if1 c = search needs
-
 returns : tie.Need-returns
 unfolding resizeAt isCut
 returns c = (rw (lt-ltb _ _ (c .if1 .taken)), tt)
-
-add-byte-at : tie.Need-add-byte-at
-add-byte-at c = search needs
-
-byte-at-requires : tie.Need-byte-at-requires
-byte-at-requires c κs = search needs
 
 returns-2 : tie.Need-returns-2
 unfolding resizeAt isCut
@@ -24,15 +15,6 @@ returns-2 c =
     let c₁ = c .before in
     let c₂ = c₁ .before in
     (rw (le-ltb _ _ (c₂ .if1 .left), ← (c₁ .byte-at .ensures), lt-ltb _ _ (c .if2 .taken)), tt)
-
-add-read-u32 : tie.Need-add-read-u32
-add-read-u32 c = search needs
-
-read-u32-requires : tie.Need-read-u32-requires
-read-u32-requires c κs = search needs
-
-cast-length : tie.Need-cast-length
-cast-length c = search needs
 
 returns-3 : tie.Need-returns-3
 unfolding resizeAt isCut
@@ -42,9 +24,6 @@ returns-3 c =
     let c₃ = c₂ .before in
     let c₄ = c₃ .before in
     (rw (le-ltb _ _ (c₄ .if1 .left), ← (c₃ .byte-at .ensures), le-ltb _ _ (c₂ .if2 .left), ← (c₁ .read-u32 .ensures), lt-ltb _ _ (c .if3 .taken)), tt)
-
-add-t5 : tie.Need-add-t5
-add-t5 c = search needs
 
 returns-4 : tie.Need-returns-4
 unfolding resizeAt isCut
@@ -61,14 +40,11 @@ pub read-resize-spec : {M : Type 1} → statement M
 read-resize-spec =
     tie.close
     (tie.spec
-    sub-if1
+    (λ c. search needs)
     returns
-    add-byte-at
-    byte-at-requires
+    (λ c. search needs) (λ c κs. search needs)
     returns-2
-    add-read-u32
-    read-u32-requires
-    cast-length
+    (λ c. search needs) (λ c κs. search needs) (λ c. search needs)
     returns-3
-    add-t5
+    (λ c. search needs)
     returns-4)

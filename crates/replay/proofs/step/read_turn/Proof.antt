@@ -5,21 +5,12 @@ use Rattle.replay.specs.Steps.{turnAt}
 use Rattle.replay.proofs.step.read_turn.Statement.{statement}
 use Rattle.replay.proofs.step.read_turn.Tie as tie
 
-byte-at-requires : tie.Need-byte-at-requires
-byte-at-requires c κs = search needs
-
-read-called-requires : tie.Need-read-called-requires
-read-called-requires c κs = search needs
-
 returns : tie.Need-returns
 unfolding turnAt
 returns c =
     let c₁ = c .before in
     let c₂ = c₁ .before in
     (rw (← (c₂ .byte-at .ensures), eq-eqb _ _ (c₁ .if1 .taken)) (c .read-called .ensures .0), c .read-called .ensures .1)
-
-read-called-requires-2 : tie.Need-read-called-requires-2
-read-called-requires-2 c κs = search needs
 
 returns-2 : tie.Need-returns-2
 unfolding turnAt
@@ -34,9 +25,6 @@ returns-2 c =
       ) (c .read-called2 .ensures .0),
       c .read-called2 .ensures .1,
     )
-
-read-called-requires-3 : tie.Need-read-called-requires-3
-read-called-requires-3 c κs = search needs
 
 returns-3 : tie.Need-returns-3
 unfolding turnAt
@@ -54,9 +42,6 @@ returns-3 c =
       c .read-called3 .ensures .1,
     )
 
-add-t9 : tie.Need-add-t9
-add-t9 c = search needs
-
 returns-4 : tie.Need-returns-4
 unfolding turnAt
 returns-4 c =
@@ -73,9 +58,6 @@ returns-4 c =
       ),
       (omega arith, omega arith, tt),
     )
-
-read-write-requires : tie.Need-read-write-requires
-read-write-requires c κs = search needs
 
 returns-5 : tie.Need-returns-5
 unfolding turnAt
@@ -96,9 +78,6 @@ returns-5 c =
       ) (c .read-write .ensures .0),
       c .read-write .ensures .1,
     )
-
-read-depth-requires : tie.Need-read-depth-requires
-read-depth-requires c κs = search needs
 
 returns-6 : tie.Need-returns-6
 unfolding turnAt
@@ -121,9 +100,6 @@ returns-6 c =
       ) (c .read-depth .ensures .0),
       c .read-depth .ensures .1,
     )
-
-read-poke-requires : tie.Need-read-poke-requires
-read-poke-requires c κs = search needs
 
 returns-7 : tie.Need-returns-7
 unfolding turnAt
@@ -148,9 +124,6 @@ returns-7 c =
       ) (c .read-poke .ensures .0),
       c .read-poke .ensures .1,
     )
-
-read-resize-requires : tie.Need-read-resize-requires
-read-resize-requires c κs = search needs
 
 returns-8 : tie.Need-returns-8
 unfolding turnAt
@@ -207,21 +180,20 @@ pub read-turn-spec : {M : Type 1} → statement M
 read-turn-spec =
     tie.close
     (tie.spec
-    byte-at-requires
-    read-called-requires
+    (λ c κs. search needs) (λ c κs. search needs)
     returns
-    read-called-requires-2
+    (λ c κs. search needs)
     returns-2
-    read-called-requires-3
+    (λ c κs. search needs)
     returns-3
-    add-t9
+    (λ c. search needs)
     returns-4
-    read-write-requires
+    (λ c κs. search needs)
     returns-5
-    read-depth-requires
+    (λ c κs. search needs)
     returns-6
-    read-poke-requires
+    (λ c κs. search needs)
     returns-7
-    read-resize-requires
+    (λ c κs. search needs)
     returns-8
     returns-9)

@@ -4,9 +4,6 @@ use borrow.Author.Needs.{needs}
 use Rattle.rows_format.proofs.column.column_width.Statement.{statement}
 use Rattle.rows_format.proofs.column.column_width.Tie as tie
 
-mark-of-requires : tie.Need-mark-of-requires
-mark-of-requires c κs = search needs
-
 room-of-requires : tie.Need-room-of-requires
 unfolding columnWidth
 room-of-requires c κs = omega arith
@@ -20,4 +17,8 @@ unfolding columnWidth
 returns c = cc
 
 pub column-width-spec : {M : Type 1} → statement M
-column-width-spec = tie.close (tie.spec mark-of-requires room-of-requires add-result returns)
+column-width-spec = tie.close (tie.spec
+    (λ c κs. search needs)
+    room-of-requires
+    add-result
+    returns)

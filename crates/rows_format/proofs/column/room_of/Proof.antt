@@ -5,21 +5,12 @@ use borrow.Author.Needs.{needs}
 use Rattle.rows_format.proofs.column.room_of.Statement.{statement}
 use Rattle.rows_format.proofs.column.room_of.Tie as tie
 
-enum-known-encoding : tie.Need-enum-known-encoding
-enum-known-encoding c = search needs
-
 enum-told : tie.Need-enum-told
 enum-told c = search needs
-
-enum-known-encoding-2 : tie.Need-enum-known-encoding-2
-enum-known-encoding-2 c = search needs
 
 add-result : tie.Need-add-result
 unfolding room
 add-result c = omega (arith, ap room (c .before .encoding2 .given .1))
-
-enum-known-encoding-3 : tie.Need-enum-known-encoding-3
-enum-known-encoding-3 c = search needs
 
 mul-result : tie.Need-mul-result
 unfolding room
@@ -28,12 +19,6 @@ mul-result c = omega (arith, ap room (c .before .encoding3 .given .1))
 add-result-2 : tie.Need-add-result-2
 unfolding room
 add-result-2 c = omega (arith, ap room (c .before .encoding3 .given .1))
-
-enum-known-encoding-4 : tie.Need-enum-known-encoding-4
-enum-known-encoding-4 c = search needs
-
-set-width-requires : tie.Need-set-width-requires
-set-width-requires c κs = search needs
 
 returns : tie.Need-returns
 unfolding room
@@ -59,15 +44,14 @@ pub room-of-spec : {M : Type 1} → statement M
 room-of-spec =
     tie.close
     (tie.spec
-    enum-known-encoding
+    (λ c. search needs)
     enum-told
-    enum-known-encoding-2
+    (λ c. search needs)
     add-result
-    enum-known-encoding-3
+    (λ c. search needs)
     mul-result
     add-result-2
-    enum-known-encoding-4
-    set-width-requires
+    (λ c. search needs) (λ c κs. search needs)
     returns
     returns-2
     returns-3

@@ -6,48 +6,6 @@ use borrow.Author.Needs.{needs}
 use Rattle.rows_format.proofs.format.attribute_column.Statement.{statement}
 use Rattle.rows_format.proofs.format.attribute_column.Tie as tie
 
-bytes-requires : tie.Need-bytes-requires
-bytes-requires c κs = search needs
-
-required-requires : tie.Need-required-requires
-required-requires c κs = search needs
-
-bytes-requires-2 : tie.Need-bytes-requires-2
-bytes-requires-2 c κs = search needs
-
-required-requires-2 : tie.Need-required-requires-2
-required-requires-2 c κs = search needs
-
-optional-requires : tie.Need-optional-requires
-optional-requires c κs = search needs
-
-bytes-requires-3 : tie.Need-bytes-requires-3
-bytes-requires-3 c κs = search needs
-
-marked-requires : tie.Need-marked-requires
-marked-requires c κs = search needs
-
-bytes-requires-4 : tie.Need-bytes-requires-4
-bytes-requires-4 c κs = search needs
-
-marked-requires-2 : tie.Need-marked-requires-2
-marked-requires-2 c κs = search needs
-
-bytes-requires-5 : tie.Need-bytes-requires-5
-bytes-requires-5 c κs = search needs
-
-marked-requires-3 : tie.Need-marked-requires-3
-marked-requires-3 c κs = search needs
-
-optional-requires-2 : tie.Need-optional-requires-2
-optional-requires-2 c κs = search needs
-
-optional-requires-3 : tie.Need-optional-requires-3
-optional-requires-3 c κs = search needs
-
-no-column-requires : tie.Need-no-column-requires
-no-column-requires c κs = search needs
-
 returns : tie.Need-returns
 unfolding attributeColumns
 returns c =
@@ -107,20 +65,9 @@ pub attribute-column-spec : {M : Type 1} → statement M
 attribute-column-spec =
     tie.close
     (tie.spec
-    bytes-requires
-    required-requires
-    bytes-requires-2
-    required-requires-2
-    optional-requires
-    bytes-requires-3
-    marked-requires
-    bytes-requires-4
-    marked-requires-2
-    bytes-requires-5
-    marked-requires-3
-    optional-requires-2
-    optional-requires-3
-    no-column-requires
+    (λ c κs. search needs) (λ c κs. search needs) (λ c κs. search needs) (λ c κs. search needs) (λ c κs. search needs)
+    (λ c κs. search needs) (λ c κs. search needs) (λ c κs. search needs) (λ c κs. search needs) (λ c κs. search needs)
+    (λ c κs. search needs) (λ c κs. search needs) (λ c κs. search needs) (λ c κs. search needs)
     returns
     returns-2
     returns-3

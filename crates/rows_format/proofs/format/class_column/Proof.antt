@@ -6,39 +6,6 @@ use borrow.Author.Needs.{needs}
 use Rattle.rows_format.proofs.format.class_column.Statement.{statement}
 use Rattle.rows_format.proofs.format.class_column.Tie as tie
 
-required-requires : tie.Need-required-requires
-required-requires c κs = search needs
-
-required-requires-2 : tie.Need-required-requires-2
-required-requires-2 c κs = search needs
-
-marked-requires : tie.Need-marked-requires
-marked-requires c κs = search needs
-
-attribute-set-requires : tie.Need-attribute-set-requires
-attribute-set-requires c κs = search needs
-
-attribute-set-requires-2 : tie.Need-attribute-set-requires-2
-attribute-set-requires-2 c κs = search needs
-
-attribute-set-requires-3 : tie.Need-attribute-set-requires-3
-attribute-set-requires-3 c κs = search needs
-
-class-set-requires : tie.Need-class-set-requires
-class-set-requires c κs = search needs
-
-class-set-requires-2 : tie.Need-class-set-requires-2
-class-set-requires-2 c κs = search needs
-
-class-set-requires-3 : tie.Need-class-set-requires-3
-class-set-requires-3 c κs = search needs
-
-class-set-requires-4 : tie.Need-class-set-requires-4
-class-set-requires-4 c κs = search needs
-
-no-column-requires : tie.Need-no-column-requires
-no-column-requires c κs = search needs
-
 returns : tie.Need-returns
 unfolding classColumns
 returns c = rw (c .before .match .keys1) (c .required .ensures)
@@ -91,17 +58,9 @@ pub class-column-spec : {M : Type 1} → statement M
 class-column-spec =
     tie.close
     (tie.spec
-    required-requires
-    required-requires-2
-    marked-requires
-    attribute-set-requires
-    attribute-set-requires-2
-    attribute-set-requires-3
-    class-set-requires
-    class-set-requires-2
-    class-set-requires-3
-    class-set-requires-4
-    no-column-requires
+    (λ c κs. search needs) (λ c κs. search needs) (λ c κs. search needs) (λ c κs. search needs) (λ c κs. search needs)
+    (λ c κs. search needs) (λ c κs. search needs) (λ c κs. search needs) (λ c κs. search needs) (λ c κs. search needs)
+    (λ c κs. search needs)
     returns
     returns-2
     returns-3

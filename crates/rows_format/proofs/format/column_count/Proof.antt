@@ -3,29 +3,8 @@ use borrow.Author.Needs.{needs}
 use Rattle.rows_format.proofs.format.column_count.Statement.{statement}
 use Rattle.rows_format.proofs.format.column_count.Tie as tie
 
-enum-known-format : tie.Need-enum-known-format
-enum-known-format c = search needs
-
-row-columns-requires : tie.Need-row-columns-requires
-row-columns-requires c κs = search needs
-
-enum-known-format-2 : tie.Need-enum-known-format-2
-enum-known-format-2 c = search needs
-
-row-columns-requires-2 : tie.Need-row-columns-requires-2
-row-columns-requires-2 c κs = search needs
-
 enum-told : tie.Need-enum-told
 enum-told c = search needs
-
-enum-told-2 : tie.Need-enum-told-2
-enum-told-2 c = search needs
-
-enum-told-3 : tie.Need-enum-told-3
-enum-told-3 c = search needs
-
-enum-told-4 : tie.Need-enum-told-4
-enum-told-4 c = search needs
 
 returns : tie.Need-returns
 unfolding columnsOf
@@ -55,14 +34,9 @@ pub column-count-spec : {M : Type 1} → statement M
 column-count-spec =
     tie.close
     (tie.spec
-    enum-known-format
-    row-columns-requires
-    enum-known-format-2
-    row-columns-requires-2
+    (λ c. search needs) (λ c κs. search needs) (λ c. search needs) (λ c κs. search needs)
     enum-told
-    enum-told-2
-    enum-told-3
-    enum-told-4
+    (λ c. search needs) (λ c. search needs) (λ c. search needs)
     returns
     returns-2
     returns-3

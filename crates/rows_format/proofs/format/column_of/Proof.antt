@@ -3,47 +3,8 @@ use borrow.Author.Needs.{needs}
 use Rattle.rows_format.proofs.format.column_of.Statement.{statement}
 use Rattle.rows_format.proofs.format.column_of.Tie as tie
 
-enum-known-format : tie.Need-enum-known-format
-enum-known-format c = search needs
-
-may-be-defunct-requires : tie.Need-may-be-defunct-requires
-may-be-defunct-requires c κs = search needs
-
-row-column-requires : tie.Need-row-column-requires
-row-column-requires c κs = search needs
-
-enum-known-format-2 : tie.Need-enum-known-format-2
-enum-known-format-2 c = search needs
-
-never-defunct-requires : tie.Need-never-defunct-requires
-never-defunct-requires c κs = search needs
-
-row-column-requires-2 : tie.Need-row-column-requires-2
-row-column-requires-2 c κs = search needs
-
 enum-told : tie.Need-enum-told
 enum-told c = search needs
-
-range-column-requires : tie.Need-range-column-requires
-range-column-requires c κs = search needs
-
-enum-told-2 : tie.Need-enum-told-2
-enum-told-2 c = search needs
-
-name-column-requires : tie.Need-name-column-requires
-name-column-requires c κs = search needs
-
-enum-told-3 : tie.Need-enum-told-3
-enum-told-3 c = search needs
-
-target-column-requires : tie.Need-target-column-requires
-target-column-requires c κs = search needs
-
-enum-told-4 : tie.Need-enum-told-4
-enum-told-4 c = search needs
-
-entry-column-requires : tie.Need-entry-column-requires
-entry-column-requires c κs = search needs
 
 returns : tie.Need-returns
 unfolding columnsOf
@@ -79,20 +40,11 @@ pub column-of-spec : {M : Type 1} → statement M
 column-of-spec =
     tie.close
     (tie.spec
-    enum-known-format
-    may-be-defunct-requires
-    row-column-requires
-    enum-known-format-2
-    never-defunct-requires
-    row-column-requires-2
+    (λ c. search needs) (λ c κs. search needs) (λ c κs. search needs) (λ c. search needs) (λ c κs. search needs)
+    (λ c κs. search needs)
     enum-told
-    range-column-requires
-    enum-told-2
-    name-column-requires
-    enum-told-3
-    target-column-requires
-    enum-told-4
-    entry-column-requires
+    (λ c κs. search needs) (λ c. search needs) (λ c κs. search needs) (λ c. search needs) (λ c κs. search needs)
+    (λ c. search needs) (λ c κs. search needs)
     returns
     returns-2
     returns-3

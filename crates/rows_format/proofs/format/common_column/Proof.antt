@@ -6,27 +6,6 @@ use borrow.Author.Needs.{needs}
 use Rattle.rows_format.proofs.format.common_column.Statement.{statement}
 use Rattle.rows_format.proofs.format.common_column.Tie as tie
 
-required-requires : tie.Need-required-requires
-required-requires c κs = search needs
-
-required-requires-2 : tie.Need-required-requires-2
-required-requires-2 c κs = search needs
-
-bytes-requires : tie.Need-bytes-requires
-bytes-requires c κs = search needs
-
-required-requires-3 : tie.Need-required-requires-3
-required-requires-3 c κs = search needs
-
-bytes-requires-2 : tie.Need-bytes-requires-2
-bytes-requires-2 c κs = search needs
-
-required-requires-4 : tie.Need-required-requires-4
-required-requires-4 c κs = search needs
-
-no-column-requires : tie.Need-no-column-requires
-no-column-requires c κs = search needs
-
 returns : tie.Need-returns
 unfolding commonColumns
 returns c = rw (c .before .match .keys1) (c .required .ensures)
@@ -66,13 +45,8 @@ pub common-column-spec : {M : Type 1} → statement M
 common-column-spec =
     tie.close
     (tie.spec
-    required-requires
-    required-requires-2
-    bytes-requires
-    required-requires-3
-    bytes-requires-2
-    required-requires-4
-    no-column-requires
+    (λ c κs. search needs) (λ c κs. search needs) (λ c κs. search needs) (λ c κs. search needs) (λ c κs. search needs)
+    (λ c κs. search needs) (λ c κs. search needs)
     returns
     returns-2
     returns-3

@@ -6,24 +6,6 @@ use borrow.Author.Needs.{needs}
 use Rattle.rows_format.proofs.format.entry_column.Statement.{statement}
 use Rattle.rows_format.proofs.format.entry_column.Tie as tie
 
-bytes-requires : tie.Need-bytes-requires
-bytes-requires c κs = search needs
-
-required-requires : tie.Need-required-requires
-required-requires c κs = search needs
-
-required-requires-2 : tie.Need-required-requires-2
-required-requires-2 c κs = search needs
-
-bytes-requires-2 : tie.Need-bytes-requires-2
-bytes-requires-2 c κs = search needs
-
-required-requires-3 : tie.Need-required-requires-3
-required-requires-3 c κs = search needs
-
-no-column-requires : tie.Need-no-column-requires
-no-column-requires c κs = search needs
-
 returns : tie.Need-returns
 unfolding entryColumns
 returns c =
@@ -54,12 +36,8 @@ pub entry-column-spec : {M : Type 1} → statement M
 entry-column-spec =
     tie.close
     (tie.spec
-    bytes-requires
-    required-requires
-    required-requires-2
-    bytes-requires-2
-    required-requires-3
-    no-column-requires
+    (λ c κs. search needs) (λ c κs. search needs) (λ c κs. search needs) (λ c κs. search needs) (λ c κs. search needs)
+    (λ c κs. search needs)
     returns
     returns-2
     returns-3

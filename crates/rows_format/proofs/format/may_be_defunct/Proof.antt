@@ -2,14 +2,10 @@ use borrow.Author.Needs.{needs}
 use Rattle.rows_format.proofs.format.may_be_defunct.Statement.{statement}
 use Rattle.rows_format.proofs.format.may_be_defunct.Tie as tie
 
-bytes-requires : tie.Need-bytes-requires
-bytes-requires c κs = search needs
-
-marked-requires : tie.Need-marked-requires
-marked-requires c κs = search needs
-
 returns : tie.Need-returns
 returns c = rw (c .before .bytes .ensures) at (c .marked .ensures)
 
 pub may-be-defunct-spec : {M : Type 1} → statement M
-may-be-defunct-spec = tie.close (tie.spec bytes-requires marked-requires returns)
+may-be-defunct-spec = tie.close (tie.spec
+    (λ c κs. search needs) (λ c κs. search needs)
+    returns)

@@ -2,14 +2,10 @@ use borrow.Author.Needs.{needs}
 use Rattle.rows_format.proofs.format.never_defunct.Statement.{statement}
 use Rattle.rows_format.proofs.format.never_defunct.Tie as tie
 
-bytes-requires : tie.Need-bytes-requires
-bytes-requires c κs = search needs
-
-never-requires : tie.Need-never-requires
-never-requires c κs = search needs
-
 returns : tie.Need-returns
 returns c = rw (c .before .bytes .ensures) at (c .never .ensures)
 
 pub never-defunct-spec : {M : Type 1} → statement M
-never-defunct-spec = tie.close (tie.spec bytes-requires never-requires returns)
+never-defunct-spec = tie.close (tie.spec
+    (λ c κs. search needs) (λ c κs. search needs)
+    returns)

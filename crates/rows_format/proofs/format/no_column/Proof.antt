@@ -3,15 +3,11 @@ use borrow.Author.Needs.{needs}
 use Rattle.rows_format.proofs.format.no_column.Statement.{statement}
 use Rattle.rows_format.proofs.format.no_column.Tie as tie
 
-bytes-requires : tie.Need-bytes-requires
-bytes-requires c κs = search needs
-
-never-requires : tie.Need-never-requires
-never-requires c κs = search needs
-
 returns : tie.Need-returns
 unfolding noColumn
 returns c = rw (c .before .bytes .ensures) at (c .never .ensures)
 
 pub no-column-spec : {M : Type 1} → statement M
-no-column-spec = tie.close (tie.spec bytes-requires never-requires returns)
+no-column-spec = tie.close (tie.spec
+    (λ c κs. search needs) (λ c κs. search needs)
+    returns)

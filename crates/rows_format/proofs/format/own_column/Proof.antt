@@ -6,15 +6,6 @@ use Rattle.rows_format.proofs.format.own_column.Tie as tie
 enum-told : tie.Need-enum-told
 enum-told c = search needs
 
-attribute-column-requires : tie.Need-attribute-column-requires
-attribute-column-requires c κs = search needs
-
-enum-told-2 : tie.Need-enum-told-2
-enum-told-2 c = search needs
-
-class-column-requires : tie.Need-class-column-requires
-class-column-requires c κs = search needs
-
 returns : tie.Need-returns
 unfolding ownColumns
 returns c = rw (c .before .enum-told .given .1) (c .attribute-column .ensures)
@@ -28,8 +19,6 @@ own-column-spec =
     tie.close
     (tie.spec
     enum-told
-    attribute-column-requires
-    enum-told-2
-    class-column-requires
+    (λ c κs. search needs) (λ c. search needs) (λ c κs. search needs)
     returns
     returns-2)

@@ -6,27 +6,6 @@ use borrow.Author.Needs.{needs}
 use Rattle.rows_format.proofs.format.range_column.Statement.{statement}
 use Rattle.rows_format.proofs.format.range_column.Tie as tie
 
-bytes-requires : tie.Need-bytes-requires
-bytes-requires c κs = search needs
-
-required-requires : tie.Need-required-requires
-required-requires c κs = search needs
-
-bytes-requires-2 : tie.Need-bytes-requires-2
-bytes-requires-2 c κs = search needs
-
-marked-requires : tie.Need-marked-requires
-marked-requires c κs = search needs
-
-bytes-requires-3 : tie.Need-bytes-requires-3
-bytes-requires-3 c κs = search needs
-
-marked-requires-2 : tie.Need-marked-requires-2
-marked-requires-2 c κs = search needs
-
-no-column-requires : tie.Need-no-column-requires
-no-column-requires c κs = search needs
-
 returns : tie.Need-returns
 unfolding rangeColumns
 returns c =
@@ -60,13 +39,8 @@ pub range-column-spec : {M : Type 1} → statement M
 range-column-spec =
     tie.close
     (tie.spec
-    bytes-requires
-    required-requires
-    bytes-requires-2
-    marked-requires
-    bytes-requires-3
-    marked-requires-2
-    no-column-requires
+    (λ c κs. search needs) (λ c κs. search needs) (λ c κs. search needs) (λ c κs. search needs) (λ c κs. search needs)
+    (λ c κs. search needs) (λ c κs. search needs)
     returns
     returns-2
     returns-3

@@ -6,9 +6,6 @@ use borrow.Author.Needs.{needs}
 use Rattle.rows_format.proofs.format.row_column.Statement.{statement}
 use Rattle.rows_format.proofs.format.row_column.Tie as tie
 
-common-column-requires : tie.Need-common-column-requires
-common-column-requires c κs = search needs
-
 returns : tie.Need-returns
 returns c =
     let c₁ = c .before in
@@ -16,9 +13,6 @@ returns c =
     c .common-column .ensures ∙ sym
     (List·getD-append (commonColumns (start .args .defunct)) (ownColumns (start .args .table)) noColumn (start .args .i)
     (common-long _ _ (c₁ .if1 .taken)))
-
-own-column-requires : tie.Need-own-column-requires
-own-column-requires c κs = search needs
 
 returns-2 : tie.Need-returns-2
 returns-2 c =
@@ -28,4 +22,8 @@ returns-2 c =
     (start .args .i) (c₁ .if1 .left)
 
 pub row-column-spec : {M : Type 1} → statement M
-row-column-spec = tie.close (tie.spec common-column-requires returns own-column-requires returns-2)
+row-column-spec = tie.close (tie.spec
+    (λ c κs. search needs)
+    returns
+    (λ c κs. search needs)
+    returns-2)

@@ -6,15 +6,6 @@ use borrow.Author.Needs.{needs}
 use Rattle.rows_format.proofs.format.target_column.Statement.{statement}
 use Rattle.rows_format.proofs.format.target_column.Tie as tie
 
-bytes-requires : tie.Need-bytes-requires
-bytes-requires c κs = search needs
-
-required-requires : tie.Need-required-requires
-required-requires c κs = search needs
-
-no-column-requires : tie.Need-no-column-requires
-no-column-requires c κs = search needs
-
 returns : tie.Need-returns
 unfolding targetColumns
 returns c =
@@ -28,4 +19,4 @@ returns-2 c = let n = c .before .match .rest in c .no-column .ensures ∙ sym (L
 
 pub target-column-spec : {M : Type 1} → statement M
 target-column-spec =
-    tie.close (tie.spec bytes-requires required-requires no-column-requires returns returns-2)
+    tie.close (tie.spec (λ c κs. search needs) (λ c κs. search needs) (λ c κs. search needs) returns returns-2)

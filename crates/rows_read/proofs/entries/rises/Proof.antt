@@ -31,17 +31,11 @@ loop-holds c = record { whole = c .before .pre; even = omega arith; within = ome
 read-u16-requires : tie.Need-read-u16-requires Inv-loop μ-loop
 read-u16-requires c κs = omega arith
 
-cast-n : tie.Need-cast-n Inv-loop μ-loop
-cast-n c = search needs
-
 returns : tie.Need-returns Inv-loop μ-loop
 returns c =
     let c₁ = c .before in
     let c₂ = c₁ .before .before in
     sym (sym (c₂ .loop .inv .same) ∙ rises-low _ _ (c₂ .loop .i) _ _ (omega arith) (c₁ .read-u16 .ensures) (c .if1 .taken))
-
-is-number-requires : tie.Need-is-number-requires Inv-loop μ-loop
-is-number-requires c κs = search needs
 
 add-low : tie.Need-add-low Inv-loop μ-loop
 add-low c = omega arith
@@ -90,9 +84,9 @@ rises-spec =
     μ-loop
     loop-holds
     read-u16-requires
-    cast-n
+    (λ c. search needs)
     returns
-    is-number-requires
+    (λ c κs. search needs)
     add-low
     add-i
     loop-less

@@ -26,9 +26,6 @@ Inv-loop v cell₀ i₀ cell i = Going v (length cell₀) (setOf (length cell₀
 abbrev μ-loop : tie.MeasureT-loop
 μ-loop v cell₀ i₀ cell i = length v - i
 
-clear-requires : tie.Need-clear-requires Inv-loop μ-loop
-clear-requires c κs = search needs
-
 loop-holds : tie.Need-loop-holds Inv-loop μ-loop
 loop-holds c =
     let c₁ = c .before .before in
@@ -38,12 +35,6 @@ loop-holds c =
 
 read-u16-requires : tie.Need-read-u16-requires Inv-loop μ-loop
 read-u16-requires c κs = omega arith
-
-cast-n : tie.Need-cast-n Inv-loop μ-loop
-cast-n c = search needs
-
-insert-requires : tie.Need-insert-requires Inv-loop μ-loop
-insert-requires c κs = search needs
 
 add-i : tie.Need-add-i Inv-loop μ-loop
 add-i c = omega arith
@@ -91,11 +82,10 @@ store-entries-spec =
     (tie.spec
     Inv-loop
     μ-loop
-    clear-requires
+    (λ c κs. search needs)
     loop-holds
     read-u16-requires
-    cast-n
-    insert-requires
+    (λ c. search needs) (λ c κs. search needs)
     add-i
     loop-less
     loop-again

@@ -7,24 +7,6 @@ use Rattle.rows_read.proofs.field.clear_cell.Tie as tie
 column-width-requires : tie.Need-column-width-requires
 column-width-requires c κs = width-small _ (c .before .pre .sound)
 
-add-stop : tie.Need-add-stop
-add-stop c = search needs
-
-sub-clear : tie.Need-sub-clear
-sub-clear c = search needs
-
-part-clear-start : tie.Need-part-clear-start
-part-clear-start c = search needs
-
-part-clear-end : tie.Need-part-clear-end
-part-clear-end c = search needs
-
-clear-requires : tie.Need-clear-requires
-clear-requires c κs = search needs
-
-same-length : tie.Need-same-length
-same-length c = search needs
-
 returns : tie.Need-returns
 returns c =
     let c₁ = c .before .before in
@@ -37,10 +19,6 @@ clear-cell-spec =
     tie.close
     (tie.spec
     column-width-requires
-    add-stop
-    sub-clear
-    part-clear-start
-    part-clear-end
-    clear-requires
-    same-length
+    (λ c. search needs) (λ c. search needs) (λ c. search needs) (λ c. search needs) (λ c κs. search needs)
+    (λ c. search needs)
     returns)

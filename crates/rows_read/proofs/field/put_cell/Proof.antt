@@ -8,24 +8,6 @@ use Rattle.rows_read.proofs.field.put_cell.Tie as tie
 column-width-requires : tie.Need-column-width-requires
 column-width-requires c κs = width-small _ (c .before .before .pre .0 .sound)
 
-add-stop : tie.Need-add-stop
-add-stop c = search needs
-
-sub-store-cell : tie.Need-sub-store-cell
-sub-store-cell c = search needs
-
-part-store-cell-start : tie.Need-part-store-cell-start
-part-store-cell-start c = search needs
-
-part-store-cell-end : tie.Need-part-store-cell-end
-part-store-cell-end c = search needs
-
-store-cell-requires : tie.Need-store-cell-requires
-store-cell-requires c κs = search needs
-
-same-length : tie.Need-same-length
-same-length c = search needs
-
 returns : tie.Need-returns
 returns c =
     let c₁ = c .before .before in
@@ -41,10 +23,6 @@ put-cell-spec =
     tie.close
     (tie.spec
     column-width-requires
-    add-stop
-    sub-store-cell
-    part-store-cell-start
-    part-store-cell-end
-    store-cell-requires
-    same-length
+    (λ c. search needs) (λ c. search needs) (λ c. search needs) (λ c. search needs) (λ c κs. search needs)
+    (λ c. search needs)
     returns)

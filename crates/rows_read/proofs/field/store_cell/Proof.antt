@@ -9,9 +9,6 @@ use Rattle.rows_read.proofs.Storing.{rest-long, rest-back, marked-cell,
 use Rattle.rows_read.proofs.field.store_cell.Statement.{statement}
 use Rattle.rows_read.proofs.field.store_cell.Tie as tie
 
-mark-of-requires : tie.Need-mark-of-requires
-mark-of-requires c κs = search needs
-
 slice-write-cell : tie.Need-slice-write-cell
 unfolding columnWidth
 slice-write-cell c = let m = (sym (c .before .mark-of .ensures) ∙ c .if1 .taken) in omega arith
@@ -23,9 +20,6 @@ sub-store-value c = let m = (sym (c .before .mark-of .ensures) ∙ c .if1 .taken
 part-store-value-start : tie.Need-part-store-value-start
 unfolding columnWidth
 part-store-value-start c = let m = (sym (c .before .mark-of .ensures) ∙ c .if1 .taken) in simp length-set (omega arith)
-
-part-store-value-end : tie.Need-part-store-value-end
-part-store-value-end c = search needs
 
 store-value-requires : tie.Need-store-value-requires
 unfolding columnWidth
@@ -68,9 +62,6 @@ returns c =
     (c₁ .store-value .kept .1 .1 .0) (c₁ .store-value .ensures) ∙ sym
     (marked-cell (start .args .column) (start .args .v .now) (c₃ .mark-of .ensures) (c₂ .if1 .taken))
 
-same-length-2 : tie.Need-same-length-2
-same-length-2 c = search needs
-
 returns-2 : tie.Need-returns-2
 returns-2 c =
     let c₁ = c .before .before in
@@ -83,14 +74,14 @@ pub store-cell-spec : {M : Type 1} → statement M
 store-cell-spec =
     tie.close
     (tie.spec
-    mark-of-requires
+    (λ c κs. search needs)
     slice-write-cell
     sub-store-value
     part-store-value-start
-    part-store-value-end
+    (λ c. search needs)
     store-value-requires
     store-value-requires-2
     same-length
     returns
-    same-length-2
+    (λ c. search needs)
     returns-2)

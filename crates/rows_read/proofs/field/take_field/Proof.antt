@@ -10,12 +10,6 @@ use Rattle.rows_read.proofs.Turning.{neither}
 use Rattle.rows_read.proofs.field.take_field.Statement.{statement}
 use Rattle.rows_read.proofs.field.take_field.Tie as tie
 
-turn-of-requires : tie.Need-turn-of-requires
-turn-of-requires c κs = search needs
-
-enum-known-turn : tie.Need-enum-known-turn
-enum-known-turn c = search needs
-
 enum-told : tie.Need-enum-told
 enum-told c = search needs
 
@@ -26,15 +20,6 @@ returns c =
     let start = c₂ .before .before .before in
     stepped-refused (start .args .s .now) (start .args .column) (start .args .at) (start .args .end) (start .args .missing) (start .args .row .now)
     (c₂ .turn-of .ensures) (neither _ (c₁ .match .keys2) (c .match2 .keys2))
-
-clear-cell-requires : tie.Need-clear-cell-requires
-clear-cell-requires c κs = search needs
-
-passed-requires : tie.Need-passed-requires
-passed-requires c κs = search needs
-
-same-length : tie.Need-same-length
-same-length c = search needs
 
 returns-2 : tie.Need-returns-2
 returns-2 c =
@@ -63,9 +48,6 @@ put-cell-requires c κs =
     let w = is-taken (start .args .s .now) (start .args .column) (start .args .at) (start .args .end) _ _ (sym (c₃ .turn-of .ensures) ∙ c₂ .turn .given .1) in
     (start .pre .2, ap (takes (start .args .column)) (c₁ .value-of .ensures) ∙ w .takes)
 
-same-length-2 : tie.Need-same-length-2
-same-length-2 c = search needs
-
 returns-3 : tie.Need-returns-3
 returns-3 c =
     let c₁ = c .before .before in
@@ -84,15 +66,12 @@ pub take-field-spec : {M : Type 1} → statement M
 take-field-spec =
     tie.close
     (tie.spec
-    turn-of-requires
-    enum-known-turn
+    (λ c κs. search needs) (λ c. search needs)
     enum-told
     returns
-    clear-cell-requires
-    passed-requires
-    same-length
+    (λ c κs. search needs) (λ c κs. search needs) (λ c. search needs)
     returns-2
     value-of-requires
     put-cell-requires
-    same-length-2
+    (λ c. search needs)
     returns-3)

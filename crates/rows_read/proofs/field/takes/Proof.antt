@@ -4,12 +4,6 @@ use Rattle.rows_format.specs.Columns.{takes}
 use Rattle.rows_read.proofs.field.takes.Statement.{statement}
 use Rattle.rows_read.proofs.field.takes.Tie as tie
 
-is-possible-requires : tie.Need-is-possible-requires
-is-possible-requires c κs = search needs
-
-accepts-requires : tie.Need-accepts-requires
-accepts-requires c κs = search needs
-
 returns : tie.Need-returns
 unfolding takes
 returns c =
@@ -22,4 +16,7 @@ unfolding takes
 returns-2 c = rw (sym (c .before .is-possible .ensures) ∙ c .if1 .left)
 
 pub takes-spec : {M : Type 1} → statement M
-takes-spec = tie.close (tie.spec is-possible-requires accepts-requires returns returns-2)
+takes-spec = tie.close (tie.spec
+    (λ c κs. search needs) (λ c κs. search needs)
+    returns
+    returns-2)

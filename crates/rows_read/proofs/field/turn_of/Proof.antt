@@ -14,12 +14,6 @@ returns c =
     turn-end (start .args .s .now) (start .args .column) (start .args .at) (start .args .end) (field-end (start .args .s .now) (start .args .at)
     (start .args .end) (c .if1 .taken)) refl
 
-field-within-requires : tie.Need-field-within-requires
-field-within-requires c κs = search needs
-
-enum-known-tag : tie.Need-enum-known-tag
-enum-known-tag c = search needs
-
 returns-2 : tie.Need-returns-2
 returns-2 c =
     let c₁ = c .before in
@@ -40,9 +34,6 @@ value-of-requires c κs =
     let c₂ = c₁ .before .before in
     let w = field-is _ _ _ _ _ _ (sym (c₂ .field-within .ensures) ∙ c₁ .tag .given .1) in
     omega (arith, w)
-
-takes-requires : tie.Need-takes-requires
-takes-requires c κs = search needs
 
 returns-4 : tie.Need-returns-4
 returns-4 c =
@@ -71,11 +62,10 @@ turn-of-spec =
     tie.close
     (tie.spec
     returns
-    field-within-requires
-    enum-known-tag
+    (λ c κs. search needs) (λ c. search needs)
     returns-2
     returns-3
     value-of-requires
-    takes-requires
+    (λ c κs. search needs)
     returns-4
     returns-5)

@@ -9,20 +9,8 @@ use Rattle.rows_read.proofs.FirstValue.{first-copied, first-missing}
 use Rattle.rows_read.proofs.object_class.first_cell.Statement.{statement}
 use Rattle.rows_read.proofs.object_class.first_cell.Tie as tie
 
-object-classes-requires : tie.Need-object-classes-requires
-object-classes-requires c κs = search needs
-
-slice-aggregate-first-entry : tie.Need-slice-aggregate-first-entry
-slice-aggregate-first-entry c = search needs
-
 first-entry-requires : tie.Need-first-entry-requires
 first-entry-requires c κs = rw (c .before .object-classes .ensures) entries-whole
-
-slice-aggregate-row-of : tie.Need-slice-aggregate-row-of
-slice-aggregate-row-of c = search needs
-
-row-of-requires : tie.Need-row-of-requires
-row-of-requires c κs = search needs
 
 part-of-requires : tie.Need-part-of-requires
 part-of-requires c κs =
@@ -34,9 +22,6 @@ part-of-requires c κs =
       entry-length (c₂ .object-classes .result) (c₁ .first-entry .result)
           (rw (c₂ .object-classes .ensures) entries-whole) (search needs),
     )
-
-slice-aggregate-copy : tie.Need-slice-aggregate-copy
-slice-aggregate-copy c = search needs
 
 copy-requires : tie.Need-copy-requires
 copy-requires c κs =
@@ -80,13 +65,11 @@ pub first-cell-spec : {M : Type 1} → statement M
 first-cell-spec =
     tie.close
     (tie.spec
-    object-classes-requires
-    slice-aggregate-first-entry
+    (λ c κs. search needs) (λ c. search needs)
     first-entry-requires
-    slice-aggregate-row-of
-    row-of-requires
+    (λ c. search needs) (λ c κs. search needs)
     part-of-requires
-    slice-aggregate-copy
+    (λ c. search needs)
     copy-requires
     returns
     returns-2)

@@ -3,12 +3,6 @@ use Rattle.rows_read.proofs.Checking.{settled-not-object, settled-given
 use Rattle.rows_read.proofs.object_class.is_settled.Statement.{statement}
 use Rattle.rows_read.proofs.object_class.is_settled.Tie as tie
 
-shared-slice-read-n : tie.Need-shared-slice-read-n
-shared-slice-read-n c = search needs
-
-om-syntax-requires : tie.Need-om-syntax-requires
-om-syntax-requires c κs = search needs
-
 returns : tie.Need-returns
 returns c =
     let c₁ = c .before in
@@ -21,15 +15,6 @@ returns-2 c =
     let c₂ = c₁ .before in
     let start = c₂ .before .before .before in
     settled-given (start .args .row .now) (c₂ .om-syntax .ensures) (c₁ .if1 .left) (c .if2 .taken)
-
-syntax-requires : tie.Need-syntax-requires
-syntax-requires c κs = search needs
-
-first-cell-requires : tie.Need-first-cell-requires
-first-cell-requires c κs = search needs
-
-array-read-result : tie.Need-array-read-result
-array-read-result c = search needs
 
 returns-3 : tie.Need-returns-3
 returns-3 c =
@@ -44,11 +29,8 @@ pub is-settled-spec : {M : Type 1} → statement M
 is-settled-spec =
     tie.close
     (tie.spec
-    shared-slice-read-n
-    om-syntax-requires
+    (λ c. search needs) (λ c κs. search needs)
     returns
     returns-2
-    syntax-requires
-    first-cell-requires
-    array-read-result
+    (λ c κs. search needs) (λ c κs. search needs) (λ c. search needs)
     returns-3)

@@ -15,24 +15,6 @@ use Rattle.rows_read.proofs.Storing.{cell-copied}
 use Rattle.rows_read.proofs.object_class.settle.Statement.{statement}
 use Rattle.rows_read.proofs.object_class.settle.Tie as tie
 
-om-syntax-requires : tie.Need-om-syntax-requires
-om-syntax-requires c κs = search needs
-
-sub-clear : tie.Need-sub-clear
-sub-clear c = search needs
-
-part-clear-start : tie.Need-part-clear-start
-part-clear-start c = search needs
-
-part-clear-end : tie.Need-part-clear-end
-part-clear-end c = search needs
-
-clear-requires : tie.Need-clear-requires
-clear-requires c κs = search needs
-
-same-length : tie.Need-same-length
-same-length c = search needs
-
 returns : tie.Need-returns
 returns c =
     let c₁ = c .before .before in
@@ -41,33 +23,6 @@ returns c =
     let start = c₃ .before .before .before in
     let row = start .args .row .now in
     lent-cleared 153 17 row _ (omega arith) (c₁ .clear .ensures) ∙ sym (settled-none row (λ e. c₂ .if1 .taken (c₃ .om-syntax .ensures ∙ e)))
-
-slice-read-if2 : tie.Need-slice-read-if2
-slice-read-if2 c = search needs
-
-syntax-requires : tie.Need-syntax-requires
-syntax-requires c κs = search needs
-
-first-cell-requires : tie.Need-first-cell-requires
-first-cell-requires c κs = search needs
-
-slice-aggregate-copy : tie.Need-slice-aggregate-copy
-slice-aggregate-copy c = search needs
-
-sub-copy : tie.Need-sub-copy
-sub-copy c = search needs
-
-part-copy-start : tie.Need-part-copy-start
-part-copy-start c = search needs
-
-part-copy-end : tie.Need-part-copy-end
-part-copy-end c = search needs
-
-copy-requires : tie.Need-copy-requires
-copy-requires c κs = search needs
-
-same-length-2 : tie.Need-same-length-2
-same-length-2 c = search needs
 
 returns-2 : tie.Need-returns-2
 returns-2 c =
@@ -84,9 +39,6 @@ returns-2 c =
     (ap length first ∙ cell-long _ (first-short _)) (omega arith) (c₁ .copy .ensures .1) ∙ ap (λ (v : List ℕ). splice 153 v row) first ∙ sym
     (settled-first row (sym (c₆ .om-syntax .ensures) ∙ c₅ .if1 .left) (c₄ .if2 .taken))
 
-same-length-3 : tie.Need-same-length-3
-same-length-3 c = search needs
-
 returns-3 : tie.Need-returns-3
 returns-3 c =
     let c₁ = c .before .before in
@@ -98,22 +50,11 @@ pub settle-spec : {M : Type 1} → statement M
 settle-spec =
     tie.close
     (tie.spec
-    om-syntax-requires
-    sub-clear
-    part-clear-start
-    part-clear-end
-    clear-requires
-    same-length
+    (λ c κs. search needs) (λ c. search needs) (λ c. search needs) (λ c. search needs) (λ c κs. search needs)
+    (λ c. search needs)
     returns
-    slice-read-if2
-    syntax-requires
-    first-cell-requires
-    slice-aggregate-copy
-    sub-copy
-    part-copy-start
-    part-copy-end
-    copy-requires
-    same-length-2
+    (λ c. search needs) (λ c κs. search needs) (λ c κs. search needs) (λ c. search needs) (λ c. search needs)
+    (λ c. search needs) (λ c. search needs) (λ c κs. search needs) (λ c. search needs)
     returns-2
-    same-length-3
+    (λ c. search needs)
     returns-3)

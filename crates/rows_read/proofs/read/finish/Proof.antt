@@ -4,15 +4,9 @@ use borrow.Author.Needs.{needs}
 use Rattle.rows_read.proofs.read.finish.Statement.{statement}
 use Rattle.rows_read.proofs.read.finish.Tie as tie
 
-enum-known-format : tie.Need-enum-known-format
-enum-known-format c = search needs
-
 finish-row-requires : tie.Need-finish-row-requires
 unfolding formatWidth
 finish-row-requires c κs = let c₁ = c .before .before in let start = c₁ .before .before .before in rw (c₁ .format .given .1) at (start .pre)
-
-enum-known-format-2 : tie.Need-enum-known-format-2
-enum-known-format-2 c = search needs
 
 finish-row-requires-2 : tie.Need-finish-row-requires-2
 unfolding formatWidth
@@ -21,24 +15,9 @@ finish-row-requires-2 c κs = let c₁ = c .before .before in let start = c₁ .
 enum-told : tie.Need-enum-told
 enum-told c = search needs
 
-enum-told-2 : tie.Need-enum-told-2
-enum-told-2 c = search needs
-
-enum-told-3 : tie.Need-enum-told-3
-enum-told-3 c = search needs
-
-enum-told-4 : tie.Need-enum-told-4
-enum-told-4 c = search needs
-
-same-length : tie.Need-same-length
-same-length c = search needs
-
 returns : tie.Need-returns
 unfolding finished
 returns c = let c₁ = c .before .before in let c₂ = c₁ .before .before .before in rw (c₂ .format .given .1) (c₁ .finish-row .ensures)
-
-same-length-2 : tie.Need-same-length-2
-same-length-2 c = search needs
 
 returns-2 : tie.Need-returns-2
 unfolding finished
@@ -64,17 +43,14 @@ pub finish-spec : {M : Type 1} → statement M
 finish-spec =
     tie.close
     (tie.spec
-    enum-known-format
+    (λ c. search needs)
     finish-row-requires
-    enum-known-format-2
+    (λ c. search needs)
     finish-row-requires-2
     enum-told
-    enum-told-2
-    enum-told-3
-    enum-told-4
-    same-length
+    (λ c. search needs) (λ c. search needs) (λ c. search needs) (λ c. search needs)
     returns
-    same-length-2
+    (λ c. search needs)
     returns-2
     returns-3
     returns-4

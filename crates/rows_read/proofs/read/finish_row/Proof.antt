@@ -9,12 +9,6 @@ enum-told c = search needs
 settle-requires : tie.Need-settle-requires
 settle-requires c κs = let c₁ = c .before in let start = c₁ .before .before .before in rw (c₁ .enum-told .given .1) at (start .pre)
 
-enum-told-2 : tie.Need-enum-told-2
-enum-told-2 c = search needs
-
-same-length : tie.Need-same-length
-same-length c = search needs
-
 returns : tie.Need-returns
 unfolding finishedRow
 returns c = let c₁ = c .before .before in let c₂ = c₁ .before .before in rw (c₂ .enum-told .given .1) (c₁ .settle .ensures)
@@ -25,4 +19,4 @@ returns-2 c = rw (c .enum-told2 .given .1)
 
 pub finish-row-spec : {M : Type 1} → statement M
 finish-row-spec =
-    tie.close (tie.spec enum-told settle-requires enum-told-2 same-length returns returns-2)
+    tie.close (tie.spec enum-told settle-requires (λ c. search needs) (λ c. search needs) returns returns-2)

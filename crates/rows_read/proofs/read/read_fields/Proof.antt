@@ -27,14 +27,8 @@ Inv-loop format s start end row₀ count at₀ missing₀ i₀ row at missing i 
 abbrev μ-loop : tie.MeasureT-loop
 μ-loop format s start end row₀ count at₀ missing₀ i₀ row at missing i = count - i
 
-column-count-requires : tie.Need-column-count-requires Inv-loop μ-loop
-column-count-requires c κs = search needs
-
 loop-holds : tie.Need-loop-holds Inv-loop μ-loop
 loop-holds c = record { few = omega arith; within = omega arith; long = refl; same = refl }
-
-column-of-requires : tie.Need-column-of-requires Inv-loop μ-loop
-column-of-requires c κs = search needs
 
 take-field-requires : tie.Need-take-field-requires Inv-loop μ-loop
 take-field-requires c κs =
@@ -46,9 +40,6 @@ take-field-requires c κs =
     let format = start .args .format in
     let l : c₃ .loop .i < length (columnsOf format) = omega (arith, c₄ .column-count .ensures, c₂ .loop-test .taken) in
     (omega arith, omega arith, fits-in format (c₃ .loop .i) (c₁ .column-of .ensures) l (omega (arith, c₃ .loop .inv .long, start .pre .2)))
-
-enum-known-next : tie.Need-enum-known-next Inv-loop μ-loop
-enum-known-next c = search needs
 
 enum-told : tie.Need-enum-told Inv-loop μ-loop
 enum-told c = search needs
@@ -146,11 +137,11 @@ read-fields-spec =
     (tie.spec
     Inv-loop
     μ-loop
-    column-count-requires
+    (λ c κs. search needs)
     loop-holds
-    column-of-requires
+    (λ c κs. search needs)
     take-field-requires
-    enum-known-next
+    (λ c. search needs)
     enum-told
     same-length
     returns

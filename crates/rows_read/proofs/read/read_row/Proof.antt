@@ -4,17 +4,8 @@ use Rattle.rows_read.specs.ObjectClassLaws.{finish-bad, finish-read}
 use Rattle.rows_read.proofs.read.read_row.Statement.{statement}
 use Rattle.rows_read.proofs.read.read_row.Tie as tie
 
-read-fields-requires : tie.Need-read-fields-requires
-read-fields-requires c κs = search needs
-
 enum-told : tie.Need-enum-told
 enum-told c = search needs
-
-enum-told-2 : tie.Need-enum-told-2
-enum-told-2 c = search needs
-
-same-length : tie.Need-same-length
-same-length c = search needs
 
 returns : tie.Need-returns
 returns c =
@@ -23,12 +14,6 @@ returns c =
     let w = finish-bad (begin .args .format) (begin .args .s .now) (begin .args .start) (begin .args .end) (begin .args .row .now)
     (c₁ .read-fields .ensures) (c .enum-told2 .given .1) in
     (c .enum-told2 .given .1 ∙ w .0, w .1)
-
-finish-requires : tie.Need-finish-requires
-finish-requires c κs = search needs
-
-same-length-2 : tie.Need-same-length-2
-same-length-2 c = search needs
 
 returns-2 : tie.Need-returns-2
 returns-2 c =
@@ -43,11 +28,9 @@ pub read-row-spec : {M : Type 1} → statement M
 read-row-spec =
     tie.close
     (tie.spec
-    read-fields-requires
+    (λ c κs. search needs)
     enum-told
-    enum-told-2
-    same-length
+    (λ c. search needs) (λ c. search needs)
     returns
-    finish-requires
-    same-length-2
+    (λ c κs. search needs) (λ c. search needs)
     returns-2)

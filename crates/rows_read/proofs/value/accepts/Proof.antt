@@ -4,39 +4,9 @@ use Rattle.rows_format.specs.Encodings.{accepts}
 use Rattle.rows_read.proofs.value.accepts.Statement.{statement}
 use Rattle.rows_read.proofs.value.accepts.Tie as tie
 
-enum-known-encoding : tie.Need-enum-known-encoding
-enum-known-encoding c = search needs
-
-passes-requires : tie.Need-passes-requires
-passes-requires c κs = search needs
-
-enum-known-encoding-2 : tie.Need-enum-known-encoding-2
-enum-known-encoding-2 c = search needs
-
-read-u16-requires : tie.Need-read-u16-requires
-read-u16-requires c κs = search needs
-
-cast-is-number : tie.Need-cast-is-number
-cast-is-number c = search needs
-
-is-number-requires : tie.Need-is-number-requires
-is-number-requires c κs = search needs
-
-enum-known-encoding-3 : tie.Need-enum-known-encoding-3
-enum-known-encoding-3 c = search needs
-
-enum-known-encoding-4 : tie.Need-enum-known-encoding-4
-enum-known-encoding-4 c = search needs
-
-enum-known-encoding-5 : tie.Need-enum-known-encoding-5
-enum-known-encoding-5 c = search needs
-
 returns : tie.Need-returns
 unfolding accepts
 returns c = rw (c .before .before .encoding5 .given .1, eq-eqb _ _ (c .if5 .taken))
-
-rises-requires : tie.Need-rises-requires
-rises-requires c κs = search needs
 
 returns-2 : tie.Need-returns-2
 unfolding accepts
@@ -96,17 +66,10 @@ pub accepts-spec : {M : Type 1} → statement M
 accepts-spec =
     tie.close
     (tie.spec
-    enum-known-encoding
-    passes-requires
-    enum-known-encoding-2
-    read-u16-requires
-    cast-is-number
-    is-number-requires
-    enum-known-encoding-3
-    enum-known-encoding-4
-    enum-known-encoding-5
+    (λ c. search needs) (λ c κs. search needs) (λ c. search needs) (λ c κs. search needs) (λ c. search needs)
+    (λ c κs. search needs) (λ c. search needs) (λ c. search needs) (λ c. search needs)
     returns
-    rises-requires
+    (λ c κs. search needs)
     returns-2
     returns-3
     returns-4

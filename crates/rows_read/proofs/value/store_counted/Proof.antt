@@ -5,17 +5,11 @@ use Rattle.rows_read.proofs.Storing.{rest-long, rest-back, counted-stor
 use Rattle.rows_read.proofs.value.store_counted.Statement.{statement}
 use Rattle.rows_read.proofs.value.store_counted.Tie as tie
 
-slice-write-cell : tie.Need-slice-write-cell
-slice-write-cell c = search needs
-
 sub-copy-padded : tie.Need-sub-copy-padded
 sub-copy-padded c = simp length-set (omega arith)
 
 part-copy-padded-start : tie.Need-part-copy-padded-start
 part-copy-padded-start c = simp length-set (omega arith)
-
-part-copy-padded-end : tie.Need-part-copy-padded-end
-part-copy-padded-end c = search needs
 
 copy-padded-requires : tie.Need-copy-padded-requires
 copy-padded-requires c κs =
@@ -38,10 +32,10 @@ pub store-counted-spec : {M : Type 1} → statement M
 store-counted-spec =
     tie.close
     (tie.spec
-    slice-write-cell
+    (λ c. search needs)
     sub-copy-padded
     part-copy-padded-start
-    part-copy-padded-end
+    (λ c. search needs)
     copy-padded-requires
     same-length
     returns)

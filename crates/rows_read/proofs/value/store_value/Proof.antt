@@ -15,9 +15,6 @@ copy-requires c κs =
     let start = c₁ .before .before .before .before in
     let t = plain-long (told (start .args .v .now) (length (start .args .cell .now)) (c₁ .enum-told .given .1) (start .pre)) in omega arith
 
-enum-told-2 : tie.Need-enum-told-2
-enum-told-2 c = search needs
-
 read-u16-requires : tie.Need-read-u16-requires
 read-u16-requires c κs =
     let start = c .before .before .before .before in
@@ -36,9 +33,6 @@ slice-write-cell c =
     let start = c₁ .before .before .before .before in
     let t = number-fits (told (start .args .v .now) (length (start .args .cell .now)) (c₁ .enum-told2 .given .1) (start .pre)) in omega arith
 
-enum-told-3 : tie.Need-enum-told-3
-enum-told-3 c = search needs
-
 cast-store-counted : tie.Need-cast-store-counted
 cast-store-counted c =
     let start = c .before .before .before .before in
@@ -49,9 +43,6 @@ store-counted-requires c κs =
     let c₁ = c .before in
     let start = c₁ .before .before .before .before in
     let t = counted-fits (told (start .args .v .now) (length (start .args .cell .now)) (c₁ .enum-told3 .given .1) (start .pre)) in omega arith
-
-enum-told-4 : tie.Need-enum-told-4
-enum-told-4 c = search needs
 
 cast-store-counted-2 : tie.Need-cast-store-counted-2
 cast-store-counted-2 c =
@@ -64,17 +55,11 @@ store-counted-requires-2 c κs =
     let start = c₁ .before .before .before .before in
     let t = arcs-fit (told (start .args .v .now) (length (start .args .cell .now)) (c₁ .enum-told4 .given .1) (start .pre)) in omega arith
 
-enum-told-5 : tie.Need-enum-told-5
-enum-told-5 c = search needs
-
 store-entries-requires : tie.Need-store-entries-requires
 store-entries-requires c κs =
     let c₁ = c .before in
     let start = c₁ .before .before .before .before in
     let t = entries-fit (told (start .args .v .now) (length (start .args .cell .now)) (c₁ .enum-told5 .given .1) (start .pre)) in (t .0, t .1)
-
-same-length : tie.Need-same-length
-same-length c = search needs
 
 returns : tie.Need-returns
 returns c =
@@ -86,9 +71,6 @@ returns c =
     let t = told v (length cell) (c₂ .enum-told .given .1) (start .pre) in plain-image (c₂ .enum-told .given .1) t
     (copied-whole v cell _ (plain-long t) (c₁ .copy .ensures .1))
 
-same-length-2 : tie.Need-same-length-2
-same-length-2 c = search needs
-
 returns-2 : tie.Need-returns-2
 returns-2 c =
     let c₁ = c .before in
@@ -96,9 +78,6 @@ returns-2 c =
     let cell = start .args .cell .now in
     let t = told (start .args .v .now) (length cell) (c₁ .enum-told2 .given .1) (start .pre) in number-image (c₁ .enum-told2 .given .1) t
     (one-stored _ _ cell (number-fits t .1) (c .read-u16 .ensures))
-
-same-length-3 : tie.Need-same-length-3
-same-length-3 c = search needs
 
 returns-3 : tie.Need-returns-3
 returns-3 c =
@@ -108,9 +87,6 @@ returns-3 c =
     counted-image (c₂ .enum-told3 .given .1) (told (start .args .v .now) (length (start .args .cell .now)) (c₂ .enum-told3 .given .1) (start .pre))
     (c₁ .store-counted .ensures)
 
-same-length-4 : tie.Need-same-length-4
-same-length-4 c = search needs
-
 returns-4 : tie.Need-returns-4
 returns-4 c =
     let c₁ = c .before .before in
@@ -118,9 +94,6 @@ returns-4 c =
     let start = c₂ .before .before .before .before in
     arcs-image (c₂ .enum-told4 .given .1) (told (start .args .v .now) (length (start .args .cell .now)) (c₂ .enum-told4 .given .1) (start .pre))
     (c₁ .store-counted2 .ensures)
-
-same-length-5 : tie.Need-same-length-5
-same-length-5 c = search needs
 
 returns-5 : tie.Need-returns-5
 returns-5 c =
@@ -136,25 +109,25 @@ store-value-spec =
     (tie.spec
     enum-told
     copy-requires
-    enum-told-2
+    (λ c. search needs)
     read-u16-requires
     cast-cell
     slice-write-cell
-    enum-told-3
+    (λ c. search needs)
     cast-store-counted
     store-counted-requires
-    enum-told-4
+    (λ c. search needs)
     cast-store-counted-2
     store-counted-requires-2
-    enum-told-5
+    (λ c. search needs)
     store-entries-requires
-    same-length
+    (λ c. search needs)
     returns
-    same-length-2
+    (λ c. search needs)
     returns-2
-    same-length-3
+    (λ c. search needs)
     returns-3
-    same-length-4
+    (λ c. search needs)
     returns-4
-    same-length-5
+    (λ c. search needs)
     returns-5)

@@ -5,12 +5,6 @@ use Rattle.rows_read.proofs.Checking.{rest-length, cell-has, cell-blank
 use Rattle.rows_read.proofs.wellformed.cell_formed.Statement.{statement}
 use Rattle.rows_read.proofs.wellformed.cell_formed.Tie as tie
 
-has-value-requires : tie.Need-has-value-requires
-has-value-requires c κs = search needs
-
-mark-of-requires : tie.Need-mark-of-requires
-mark-of-requires c κs = search needs
-
 sub-holds : tie.Need-sub-holds
 unfolding columnWidth
 sub-holds c = omega (arith, c .mark-of .ensures, c .before .before .before .before .pre .1)
@@ -19,18 +13,12 @@ part-holds-start : tie.Need-part-holds-start
 unfolding columnWidth
 part-holds-start c = omega (arith, c .mark-of .ensures, c .before .before .before .before .pre .1)
 
-part-holds-end : tie.Need-part-holds-end
-part-holds-end c = search needs
-
 holds-requires : tie.Need-holds-requires
 unfolding columnWidth
 holds-requires c κs =
     let c₁ = c .before in
     let start = c₁ .before .before .before .before in
     (start .pre .0 .encoding, rest-length (c₁ .mark-of .result) _ (start .args .cell .now) (omega (arith, c₁ .mark-of .ensures, start .pre .1)))
-
-is-zero-requires : tie.Need-is-zero-requires
-is-zero-requires c κs = search needs
 
 returns : tie.Need-returns
 returns c =
@@ -51,12 +39,11 @@ pub cell-formed-spec : {M : Type 1} → statement M
 cell-formed-spec =
     tie.close
     (tie.spec
-    has-value-requires
-    mark-of-requires
+    (λ c κs. search needs) (λ c κs. search needs)
     sub-holds
     part-holds-start
-    part-holds-end
+    (λ c. search needs)
     holds-requires
-    is-zero-requires
+    (λ c κs. search needs)
     returns
     returns-2)

@@ -18,14 +18,8 @@ Inv-loop format row count i₀ i = (i ≤ count) × (wellFormedBy (drop i (colum
 abbrev μ-loop : tie.MeasureT-loop
 μ-loop format row count i₀ i = count - i
 
-column-count-requires : tie.Need-column-count-requires Inv-loop μ-loop
-column-count-requires c κs = search needs
-
 loop-holds : tie.Need-loop-holds Inv-loop μ-loop
 loop-holds c = (omega arith, refl)
-
-column-of-requires : tie.Need-column-of-requires Inv-loop μ-loop
-column-of-requires c κs = search needs
 
 column-width-requires : tie.Need-column-width-requires Inv-loop μ-loop
 column-width-requires c κs =
@@ -123,9 +117,9 @@ cells-formed-spec =
     (tie.spec
     Inv-loop
     μ-loop
-    column-count-requires
+    (λ c κs. search needs)
     loop-holds
-    column-of-requires
+    (λ c κs. search needs)
     column-width-requires
     part-of-requires
     cell-formed-requires

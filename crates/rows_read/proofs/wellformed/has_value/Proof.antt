@@ -6,21 +6,6 @@ use Rattle.rows_read.proofs.wellformed.has_value.Tie as tie
 enum-told : tie.Need-enum-told
 enum-told c = search needs
 
-enum-told-2 : tie.Need-enum-told-2
-enum-told-2 c = search needs
-
-is-zero-requires : tie.Need-is-zero-requires
-is-zero-requires c κs = search needs
-
-enum-told-3 : tie.Need-enum-told-3
-enum-told-3 c = search needs
-
-first-byte-requires : tie.Need-first-byte-requires
-first-byte-requires c κs = search needs
-
-enum-told-4 : tie.Need-enum-told-4
-enum-told-4 c = search needs
-
 returns : tie.Need-returns
 unfolding hasValue
 returns c = rw (c .enum-told .given .1)
@@ -42,11 +27,7 @@ has-value-spec =
     tie.close
     (tie.spec
     enum-told
-    enum-told-2
-    is-zero-requires
-    enum-told-3
-    first-byte-requires
-    enum-told-4
+    (λ c. search needs) (λ c κs. search needs) (λ c. search needs) (λ c κs. search needs) (λ c. search needs)
     returns
     returns-2
     returns-3

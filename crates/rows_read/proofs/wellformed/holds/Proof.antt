@@ -6,33 +6,6 @@ use Rattle.rows_format.specs.Encodings.{holds, room}
 use Rattle.rows_read.proofs.wellformed.holds.Statement.{statement}
 use Rattle.rows_read.proofs.wellformed.holds.Tie as tie
 
-enum-known-encoding : tie.Need-enum-known-encoding
-enum-known-encoding c = search needs
-
-passes-requires : tie.Need-passes-requires
-passes-requires c κs = search needs
-
-enum-known-encoding-2 : tie.Need-enum-known-encoding-2
-enum-known-encoding-2 c = search needs
-
-first-byte-requires : tie.Need-first-byte-requires
-first-byte-requires c κs = search needs
-
-cast-is-number : tie.Need-cast-is-number
-cast-is-number c = search needs
-
-is-number-requires : tie.Need-is-number-requires
-is-number-requires c κs = search needs
-
-enum-known-encoding-3 : tie.Need-enum-known-encoding-3
-enum-known-encoding-3 c = search needs
-
-first-byte-requires-2 : tie.Need-first-byte-requires-2
-first-byte-requires-2 c κs = search needs
-
-cast-n : tie.Need-cast-n
-cast-n c = search needs
-
 returns : tie.Need-returns
 unfolding holds
 returns c =
@@ -40,30 +13,12 @@ returns c =
     let c₂ = c₁ .before .before in
     rw (c₂ .encoding3 .given .1, ← (c₁ .first-byte2 .ensures), lt-leb _ _ (c .if1 .taken))
 
-add-is-zero-from : tie.Need-add-is-zero-from
-add-is-zero-from c = search needs
-
 is-zero-from-requires : tie.Need-is-zero-from-requires
 unfolding room
 is-zero-from-requires c κs =
     let c₁ = c .before .before .before .before in
     let start = c₁ .before .before .before in
     omega (arith, ap room (c₁ .encoding3 .given .1), start .pre .1)
-
-enum-known-encoding-4 : tie.Need-enum-known-encoding-4
-enum-known-encoding-4 c = search needs
-
-first-byte-requires-3 : tie.Need-first-byte-requires-3
-first-byte-requires-3 c κs = search needs
-
-cast-n-2 : tie.Need-cast-n-2
-cast-n-2 c = search needs
-
-mul-is-zero-from : tie.Need-mul-is-zero-from
-mul-is-zero-from c = search needs
-
-add-is-zero-from-2 : tie.Need-add-is-zero-from-2
-add-is-zero-from-2 c = search needs
 
 is-zero-from-requires-2 : tie.Need-is-zero-from-requires-2
 unfolding room
@@ -74,9 +29,6 @@ is-zero-from-requires-2 c κs =
 
 enum-told : tie.Need-enum-told
 enum-told c = search needs
-
-is-empty-requires : tie.Need-is-empty-requires
-is-empty-requires c κs = search needs
 
 returns-2 : tie.Need-returns-2
 unfolding holds
@@ -128,26 +80,15 @@ pub holds-spec : {M : Type 1} → statement M
 holds-spec =
     tie.close
     (tie.spec
-    enum-known-encoding
-    passes-requires
-    enum-known-encoding-2
-    first-byte-requires
-    cast-is-number
-    is-number-requires
-    enum-known-encoding-3
-    first-byte-requires-2
-    cast-n
+    (λ c. search needs) (λ c κs. search needs) (λ c. search needs) (λ c κs. search needs) (λ c. search needs)
+    (λ c κs. search needs) (λ c. search needs) (λ c κs. search needs) (λ c. search needs)
     returns
-    add-is-zero-from
+    (λ c. search needs)
     is-zero-from-requires
-    enum-known-encoding-4
-    first-byte-requires-3
-    cast-n-2
-    mul-is-zero-from
-    add-is-zero-from-2
+    (λ c. search needs) (λ c κs. search needs) (λ c. search needs) (λ c. search needs) (λ c. search needs)
     is-zero-from-requires-2
     enum-told
-    is-empty-requires
+    (λ c κs. search needs)
     returns-2
     returns-3
     returns-4

@@ -9,9 +9,6 @@ enum-told c = search needs
 is-settled-requires : tie.Need-is-settled-requires
 is-settled-requires c κs = rw (c .enum-told .given .1) at (c .before .before .before .pre)
 
-enum-told-2 : tie.Need-enum-told-2
-enum-told-2 c = search needs
-
 returns : tie.Need-returns
 unfolding isFinished
 returns c = rw (c .before .enum-told .given .1) (c .is-settled .ensures)
@@ -21,4 +18,9 @@ unfolding isFinished
 returns-2 c = rw (c .enum-told2 .given .1)
 
 pub is-finished-spec : {M : Type 1} → statement M
-is-finished-spec = tie.close (tie.spec enum-told is-settled-requires enum-told-2 returns returns-2)
+is-finished-spec = tie.close (tie.spec
+    enum-told
+    is-settled-requires
+    (λ c. search needs)
+    returns
+    returns-2)

@@ -8,9 +8,6 @@ cells-formed-requires : tie.Need-cells-formed-requires
 unfolding formatWidth
 cells-formed-requires c κs = c .before .pre
 
-is-finished-requires : tie.Need-is-finished-requires
-is-finished-requires c κs = search needs
-
 returns : tie.Need-returns
 unfolding wellFormed
 returns c = let c₁ = c .before in let c₂ = c₁ .before in rw (← (c₂ .cells-formed .ensures), c₁ .if1 .taken) (c .is-finished .ensures)
@@ -21,4 +18,4 @@ returns-2 c = rw (← (c .before .cells-formed .ensures), c .if1 .left)
 
 pub well-formed-spec : {M : Type 1} → statement M
 well-formed-spec =
-    tie.close (tie.spec cells-formed-requires is-finished-requires returns returns-2)
+    tie.close (tie.spec cells-formed-requires (λ c κs. search needs) returns returns-2)

@@ -12,12 +12,6 @@ use Rattle.rows_write.proofs.Listing.{one-entry, no-entry}
 use Rattle.rows_write.proofs.entries.write_entry.Statement.{statement}
 use Rattle.rows_write.proofs.entries.write_entry.Tie as tie
 
-has-requires : tie.Need-has-requires
-has-requires c κs = search needs
-
-cast-write-u16 : tie.Need-cast-write-u16
-cast-write-u16 c = search needs
-
 write-u16-requires : tie.Need-write-u16-requires
 write-u16-requires c κs =
     let c₁ = c .before in
@@ -25,12 +19,6 @@ write-u16-requires c κs =
     let start = c₂ .before .before .before in
     let n = start .args .n in
     let l = ap length (one-entry n (c₂ .has .ensures) (c₁ .if1 .taken)) ∙ bytes-length 2 n in omega arith
-
-add-result : tie.Need-add-result
-add-result c = search needs
-
-same-length : tie.Need-same-length
-same-length c = search needs
 
 returns : tie.Need-returns
 returns c =
@@ -58,10 +46,8 @@ pub write-entry-spec : {M : Type 1} → statement M
 write-entry-spec =
     tie.close
     (tie.spec
-    has-requires
-    cast-write-u16
+    (λ c κs. search needs) (λ c. search needs)
     write-u16-requires
-    add-result
-    same-length
+    (λ c. search needs) (λ c. search needs)
     returns
     returns-2)

@@ -20,30 +20,12 @@ put-bytes-requires c κs =
     let start = c₁ .before .before .before .before in
     let e = ap length (stored-plain (start .args .cell .now) (c₁ .enum-told .given .1)) in omega (arith, e, start .pre .3)
 
-enum-told-2 : tie.Need-enum-told-2
-enum-told-2 c = search needs
-
-first-byte-requires : tie.Need-first-byte-requires
-first-byte-requires c κs = search needs
-
-cast-write-u16 : tie.Need-cast-write-u16
-cast-write-u16 c = search needs
-
 write-u16-requires : tie.Need-write-u16-requires
 write-u16-requires c κs =
     let c₁ = c .before .before in
     let start = c₁ .before .before .before .before in
     let e = ap length (stored-number (start .args .cell .now) (c₁ .enum-told2 .given .1) (c .first-byte .ensures)) in omega
     (arith, e, bytes-length 2 (c .first-byte .result), start .pre .3)
-
-enum-told-3 : tie.Need-enum-told-3
-enum-told-3 c = search needs
-
-first-byte-requires-2 : tie.Need-first-byte-requires-2
-first-byte-requires-2 c κs = search needs
-
-cast-n : tie.Need-cast-n
-cast-n c = search needs
 
 part-of-requires : tie.Need-part-of-requires
 part-of-requires c κs =
@@ -60,18 +42,6 @@ put-bytes-requires-2 c κs =
     let e = ap length (stored-counted (start .args .cell .now) (c₃ .enum-told3 .given .1) (c₂ .first-byte2 .ensures) ∙ sym (c₁ .part-of .ensures)) in
     omega (arith, e, start .pre .3)
 
-enum-told-4 : tie.Need-enum-told-4
-enum-told-4 c = search needs
-
-first-byte-requires-3 : tie.Need-first-byte-requires-3
-first-byte-requires-3 c κs = search needs
-
-cast-n-2 : tie.Need-cast-n-2
-cast-n-2 c = search needs
-
-mul-n : tie.Need-mul-n
-mul-n c = search needs
-
 part-of-requires-2 : tie.Need-part-of-requires-2
 part-of-requires-2 c κs =
     let c₁ = c .before in
@@ -87,9 +57,6 @@ put-bytes-requires-3 c κs =
     let e = ap length (stored-arcs (start .args .cell .now) (c₃ .enum-told4 .given .1) (c₂ .first-byte3 .ensures) ∙ sym (c₁ .part-of2 .ensures)) in
     omega (arith, e, start .pre .3)
 
-enum-told-5 : tie.Need-enum-told-5
-enum-told-5 c = search needs
-
 write-entries-requires : tie.Need-write-entries-requires
 write-entries-requires c κs =
     let c₁ = c .before in
@@ -97,9 +64,6 @@ write-entries-requires c κs =
     let cell = start .args .cell .now in
     let e = ap length (stored-entries cell (c₁ .enum-told5 .given .1)) in
     (holding-small (start .args .encoding) cell (start .pre .0, start .pre .1, start .pre .2), omega (arith, e, start .pre .3))
-
-same-length : tie.Need-same-length
-same-length c = search needs
 
 returns : tie.Need-returns
 returns c =
@@ -109,9 +73,6 @@ returns c =
     c₁ .put-bytes .ensures .bytes ∙ ap (λ (v : List ℕ). splice (start .args .at) v (start .args .out .now))
     (sym (stored-plain (start .args .cell .now) (c₂ .enum-told .given .1)))
 
-same-length-2 : tie.Need-same-length-2
-same-length-2 c = search needs
-
 returns-2 : tie.Need-returns-2
 returns-2 c =
     let c₁ = c .before .before in
@@ -120,9 +81,6 @@ returns-2 c =
     let start = c₃ .before .before .before .before in
     c₁ .write-u16 .ensures ∙ ap (λ (v : List ℕ). splice (start .args .at) v (start .args .out .now))
     (sym (stored-number (start .args .cell .now) (c₃ .enum-told2 .given .1) (c₂ .first-byte .ensures)))
-
-same-length-3 : tie.Need-same-length-3
-same-length-3 c = search needs
 
 returns-3 : tie.Need-returns-3
 returns-3 c =
@@ -134,9 +92,6 @@ returns-3 c =
     c₁ .put-bytes2 .ensures .bytes ∙ ap (λ (v : List ℕ). splice (start .args .at) v (start .args .out .now))
     (c₂ .part-of .ensures ∙ sym (stored-counted (start .args .cell .now) (c₄ .enum-told3 .given .1) (c₃ .first-byte2 .ensures)))
 
-same-length-4 : tie.Need-same-length-4
-same-length-4 c = search needs
-
 returns-4 : tie.Need-returns-4
 returns-4 c =
     let c₁ = c .before .before in
@@ -146,9 +101,6 @@ returns-4 c =
     let start = c₄ .before .before .before .before in
     c₁ .put-bytes3 .ensures .bytes ∙ ap (λ (v : List ℕ). splice (start .args .at) v (start .args .out .now))
     (c₂ .part-of2 .ensures ∙ sym (stored-arcs (start .args .cell .now) (c₄ .enum-told4 .given .1) (c₃ .first-byte3 .ensures)))
-
-same-length-5 : tie.Need-same-length-5
-same-length-5 c = search needs
 
 returns-5 : tie.Need-returns-5
 returns-5 c =
@@ -164,30 +116,23 @@ write-value-spec =
     (tie.spec
     enum-told
     put-bytes-requires
-    enum-told-2
-    first-byte-requires
-    cast-write-u16
+    (λ c. search needs) (λ c κs. search needs) (λ c. search needs)
     write-u16-requires
-    enum-told-3
-    first-byte-requires-2
-    cast-n
+    (λ c. search needs) (λ c κs. search needs) (λ c. search needs)
     part-of-requires
     put-bytes-requires-2
-    enum-told-4
-    first-byte-requires-3
-    cast-n-2
-    mul-n
+    (λ c. search needs) (λ c κs. search needs) (λ c. search needs) (λ c. search needs)
     part-of-requires-2
     put-bytes-requires-3
-    enum-told-5
+    (λ c. search needs)
     write-entries-requires
-    same-length
+    (λ c. search needs)
     returns
-    same-length-2
+    (λ c. search needs)
     returns-2
-    same-length-3
+    (λ c. search needs)
     returns-3
-    same-length-4
+    (λ c. search needs)
     returns-4
-    same-length-5
+    (λ c. search needs)
     returns-5)

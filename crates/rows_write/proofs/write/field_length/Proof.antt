@@ -16,12 +16,6 @@ column-width-requires c κs = width-small _ (c .before .pre .0 .sound)
 part-of-requires : tie.Need-part-of-requires
 part-of-requires c κs = omega (arith, c .column-width .ensures, c .before .before .pre .0 .within)
 
-has-value-requires : tie.Need-has-value-requires
-has-value-requires c κs = search needs
-
-mark-of-requires : tie.Need-mark-of-requires
-mark-of-requires c κs = search needs
-
 sub-value-length : tie.Need-sub-value-length
 sub-value-length c =
     let c₁ = c .before .before .before in
@@ -41,9 +35,6 @@ part-value-length-start c =
     let row = start .args .row .now in
     let k = cell-of column row (c₁ .part-of .result .now) (c₂ .column-width .ensures) (c₁ .part-of .ensures) (start .pre .0) (start .pre .1) in
     mark-within column row (c₁ .part-of .result .now) k (c .mark-of .ensures)
-
-part-value-length-end : tie.Need-part-value-length-end
-part-value-length-end c = search needs
 
 value-length-requires : tie.Need-value-length-requires
 value-length-requires c κs =
@@ -105,11 +96,10 @@ field-length-spec =
     (tie.spec
     column-width-requires
     part-of-requires
-    has-value-requires
-    mark-of-requires
+    (λ c κs. search needs) (λ c κs. search needs)
     sub-value-length
     part-value-length-start
-    part-value-length-end
+    (λ c. search needs)
     value-length-requires
     add-result
     returns

@@ -58,9 +58,6 @@ add-result c =
     let s = holding-short encoding cell (start .pre .0, start .pre .1, start .pre .2) in let l = field-length (start .args .tag)
     (stored encoding cell) in omega (arith, l, start .pre .3, c₁ .value-length .ensures)
 
-same-length : tie.Need-same-length
-same-length c = search needs
-
 returns : tie.Need-returns
 returns c =
     let c₁ = c .before .before in
@@ -89,5 +86,5 @@ put-field-spec =
     add-start
     write-value-requires
     add-result
-    same-length
+    (λ c. search needs)
     returns)

@@ -26,14 +26,8 @@ Inv-loop format row count n₀ i₀ n i = Going row (columnsOf format) count n i
 abbrev μ-loop : tie.MeasureT-loop
 μ-loop format row count n₀ i₀ n i = count - i
 
-column-count-requires : tie.Need-column-count-requires Inv-loop μ-loop
-column-count-requires c κs = search needs
-
 loop-holds : tie.Need-loop-holds Inv-loop μ-loop
 loop-holds c = record { few = omega arith; small = omega arith; same = zero-add _ }
-
-column-of-requires : tie.Need-column-of-requires Inv-loop μ-loop
-column-of-requires c κs = search needs
 
 field-length-requires : tie.Need-field-length-requires Inv-loop μ-loop
 field-length-requires c κs =
@@ -101,9 +95,9 @@ row-length-spec =
     (tie.spec
     Inv-loop
     μ-loop
-    column-count-requires
+    (λ c κs. search needs)
     loop-holds
-    column-of-requires
+    (λ c κs. search needs)
     field-length-requires
     add-n
     add-i

@@ -18,12 +18,6 @@ column-width-requires c κs = width-small _ (c .before .before .pre .0 .sound)
 part-of-requires : tie.Need-part-of-requires
 part-of-requires c κs = omega (arith, c .column-width .ensures, c .before .before .before .pre .0 .within)
 
-has-value-requires : tie.Need-has-value-requires
-has-value-requires c κs = search needs
-
-mark-of-requires : tie.Need-mark-of-requires
-mark-of-requires c κs = search needs
-
 sub-put-field : tie.Need-sub-put-field
 sub-put-field c =
     let c₁ = c .before .before .before in
@@ -44,9 +38,6 @@ part-put-field-start c =
     let k = cell-of column row (c₁ .part-of .result .now) (c₂ .column-width .ensures) (c₁ .part-of .ensures) (start .pre .0) (start .pre .1) in
     mark-within column row (c₁ .part-of .result .now) k (c .mark-of .ensures)
 
-part-put-field-end : tie.Need-part-put-field-end
-part-put-field-end c = search needs
-
 put-field-requires : tie.Need-put-field-requires
 put-field-requires c κs =
     let c₁ = c .before .before in
@@ -60,9 +51,6 @@ put-field-requires c κs =
     let k = cell-of column row (c₄ .part-of .result .now) (c₅ .column-width .ensures) (c₄ .part-of .ensures) (start .pre .0) (start .pre .1) in let h
     = field-has column row (c₄ .part-of .result .now) (start .pre .0 .sound) k (c₃ .has-value .ensures) (c₂ .if1 .taken) (c₁ .mark-of .ensures) in
     (h .0 .0, h .0 .1, h .0 .2, omega (arith, ap length (h .1), start .pre .2))
-
-same-length : tie.Need-same-length
-same-length c = search needs
 
 returns : tie.Need-returns
 returns c =
@@ -102,12 +90,11 @@ write-field-spec =
     (tie.spec
     column-width-requires
     part-of-requires
-    has-value-requires
-    mark-of-requires
+    (λ c κs. search needs) (λ c κs. search needs)
     sub-put-field
     part-put-field-start
-    part-put-field-end
+    (λ c. search needs)
     put-field-requires
-    same-length
+    (λ c. search needs)
     returns
     returns-2)

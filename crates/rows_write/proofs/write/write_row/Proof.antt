@@ -31,14 +31,8 @@ Inv-loop format row out₀ at count next₀ i₀ out next i = Going row (columns
 abbrev μ-loop : tie.MeasureT-loop
 μ-loop format row out₀ at count next₀ i₀ out next i = count - i
 
-column-count-requires : tie.Need-column-count-requires Inv-loop μ-loop
-column-count-requires c κs = search needs
-
 loop-holds : tie.Need-loop-holds Inv-loop μ-loop
 loop-holds c = record { few = omega arith; long = refl; place = refl; fits = c .before .before .before .pre .2; same = refl }
-
-column-of-requires : tie.Need-column-of-requires Inv-loop μ-loop
-column-of-requires c κs = search needs
 
 write-field-requires : tie.Need-write-field-requires Inv-loop μ-loop
 write-field-requires c κs =
@@ -112,9 +106,9 @@ write-row-spec =
     (tie.spec
     Inv-loop
     μ-loop
-    column-count-requires
+    (λ c κs. search needs)
     loop-holds
-    column-of-requires
+    (λ c κs. search needs)
     write-field-requires
     add-i
     loop-less

@@ -20,9 +20,6 @@ Inv-loop added attributes classes number table count k₀ k = (k ≤ count) × (
 abbrev μ-loop : tie.MeasureT-loop
 μ-loop added attributes classes number table count k₀ k = count - k
 
-store-of-requires : tie.Need-store-of-requires Inv-loop μ-loop
-store-of-requires c κs = search needs
-
 row-count-requires : tie.Need-row-count-requires Inv-loop μ-loop
 row-count-requires c κs = let start = c .before .before .before in rw (c .store-of .ensures) (shaped-table (start .args .table) (start .pre) .long)
 
@@ -75,12 +72,6 @@ returns c =
     (first-found (breaks added m number table′) (c₄ .loop .k) _ (omega (arith, e, c₃ .loop-test .taken)) (c₄ .loop .inv .1)
     (sym (c₁ .is-breaking .ensures ∙ breaks-at table′ (c₄ .loop .k) (c₂ .row-id .ensures) added m number) ∙ c .if1 .taken))
 
-add-k : tie.Need-add-k Inv-loop μ-loop
-add-k c = search needs
-
-loop-less : tie.Need-loop-less Inv-loop μ-loop
-loop-less c = search needs
-
 loop-again : tie.Need-loop-again Inv-loop μ-loop
 loop-again c =
     let c₁ = c .before in
@@ -118,13 +109,12 @@ first-row-spec =
     (tie.spec
     Inv-loop
     μ-loop
-    store-of-requires
+    (λ c κs. search needs)
     row-count-requires
     loop-holds
     row-id-requires
     is-breaking-requires
     returns
-    add-k
-    loop-less
+    (λ c. search needs) (λ c. search needs)
     loop-again
     returns-2)

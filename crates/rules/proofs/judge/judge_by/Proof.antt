@@ -22,9 +22,6 @@ abbrev μ-loop : tie.MeasureT-loop
 loop-holds : tie.Need-loop-holds Inv-loop μ-loop
 loop-holds c = refl
 
-byte-at-requires : tie.Need-byte-at-requires Inv-loop μ-loop
-byte-at-requires c κs = search needs
-
 judge-rule-requires : tie.Need-judge-rule-requires Inv-loop μ-loop
 judge-rule-requires c κs = c .before .before .before .before .before .before .pre
 
@@ -41,12 +38,6 @@ returns c =
     (c₄ .loop .inv ∙ judge-found (schemaRules added) (start .args .order .now) m (c₄ .loop .i) (c₃ .loop-test .taken)
     (λ z. c .if1 .taken (ap (λ (x : Answer). x .table) e ∙ z)))
 
-add-i : tie.Need-add-i Inv-loop μ-loop
-add-i c = search needs
-
-loop-less : tie.Need-loop-less Inv-loop μ-loop
-loop-less c = search needs
-
 loop-again : tie.Need-loop-again Inv-loop μ-loop
 loop-again c =
     let c₁ = c .before .before in
@@ -58,9 +49,6 @@ loop-again c =
     let m = schemaIn (start .args .attributes .now) (start .args .classes .now) in let e =
     c₁ .judge-rule .ensures ∙ ap (λ (n : ℕ). judgeRule (numbered (schemaRules added) n) m passed) (c₂ .byte-at .ensures) in c₄ .loop .inv ∙ judge-next
     (schemaRules added) (start .args .order .now) m (c₄ .loop .i) (c₃ .loop-test .taken) (sym (ap (λ (x : Answer). x .table) e) ∙ c .if1 .left)
-
-passed-requires : tie.Need-passed-requires Inv-loop μ-loop
-passed-requires c κs = search needs
 
 returns-2 : tie.Need-returns-2 Inv-loop μ-loop
 returns-2 c =
@@ -78,11 +66,10 @@ judge-by-spec =
     Inv-loop
     μ-loop
     loop-holds
-    byte-at-requires
+    (λ c κs. search needs)
     judge-rule-requires
     returns
-    add-i
-    loop-less
+    (λ c. search needs) (λ c. search needs)
     loop-again
-    passed-requires
+    (λ c κs. search needs)
     returns-2)

@@ -10,12 +10,6 @@ use borrow.Author.Needs.{needs}
 use Rattle.rules.proofs.judge.judge_rule.Statement.{statement}
 use Rattle.rules.proofs.judge.judge_rule.Tie as tie
 
-is-clear-requires : tie.Need-is-clear-requires
-is-clear-requires c κs = search needs
-
-passed-requires : tie.Need-passed-requires
-passed-requires c κs = search needs
-
 returns : tie.Need-returns
 returns c =
     let c₁ = c .before in
@@ -24,20 +18,11 @@ returns c =
     c .passed .ensures ∙ sym (clear-passed (start .args .added) (schemaIn (start .args .attributes .now) (start .args .classes .now)) (start .args .number)
     (sym (c₂ .is-clear .ensures) ∙ c₁ .if1 .taken))
 
-first-row-requires : tie.Need-first-row-requires
-first-row-requires c κs = search needs
-
-row-count-requires : tie.Need-row-count-requires
-row-count-requires c κs = search needs
-
 row-id-requires : tie.Need-row-id-requires
 row-id-requires c κs =
     let c₁ = c .before in
     let start = c₁ .before .before .before .before .before .before in
     omega (arith, c .if2 .taken, c₁ .row-count .ensures, start .pre .attributes .few)
-
-broken-by-requires : tie.Need-broken-by-requires
-broken-by-requires c κs = search needs
 
 returns-2 : tie.Need-returns-2
 returns-2 c =
@@ -50,20 +35,11 @@ returns-2 c =
     (start .args .added)) (start .args .number) (schemaIn (start .args .attributes .now) (start .args .classes .now)) (c₄ .first-row .result)
     (c₄ .first-row .ensures) (omega (arith, c₃ .row-count .ensures, c₂ .if2 .taken))
 
-first-row-requires-2 : tie.Need-first-row-requires-2
-first-row-requires-2 c κs = search needs
-
-row-count-requires-2 : tie.Need-row-count-requires-2
-row-count-requires-2 c κs = search needs
-
 row-id-requires-2 : tie.Need-row-id-requires-2
 row-id-requires-2 c κs =
     let c₁ = c .before in
     let start = c₁ .before .before .before .before .before .before .before .before .before in
     omega (arith, c .if3 .taken, c₁ .row-count2 .ensures, start .pre .classes .few)
-
-broken-by-requires-2 : tie.Need-broken-by-requires-2
-broken-by-requires-2 c κs = search needs
 
 returns-3 : tie.Need-returns-3
 returns-3 c =
@@ -79,9 +55,6 @@ returns-3 c =
     (start .args .added)) (start .args .number) (schemaIn (start .args .attributes .now) (start .args .classes .now)) (c₇ .first-row .result)
     (c₇ .first-row .ensures) (omega (arith, c₆ .row-count .ensures, c₅ .if2 .left)) (c₄ .first-row2 .result) (c₄ .first-row2 .ensures) (omega
     (arith, c₃ .row-count2 .ensures, c₂ .if3 .taken))
-
-passed-requires-2 : tie.Need-passed-requires-2
-passed-requires-2 c κs = search needs
 
 returns-4 : tie.Need-returns-4
 returns-4 c =
@@ -100,18 +73,15 @@ pub judge-rule-spec : {M : Type 1} → statement M
 judge-rule-spec =
     tie.close
     (tie.spec
-    is-clear-requires
-    passed-requires
+    (λ c κs. search needs) (λ c κs. search needs)
     returns
-    first-row-requires
-    row-count-requires
+    (λ c κs. search needs) (λ c κs. search needs)
     row-id-requires
-    broken-by-requires
+    (λ c κs. search needs)
     returns-2
-    first-row-requires-2
-    row-count-requires-2
+    (λ c κs. search needs) (λ c κs. search needs)
     row-id-requires-2
-    broken-by-requires-2
+    (λ c κs. search needs)
     returns-3
-    passed-requires-2
+    (λ c κs. search needs)
     returns-4)

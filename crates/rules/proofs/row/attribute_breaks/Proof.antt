@@ -12,9 +12,6 @@ use borrow.Author.Needs.{needs}
 use Rattle.rules.proofs.row.attribute_breaks.Statement.{statement}
 use Rattle.rules.proofs.row.attribute_breaks.Tie as tie
 
-attribute-row-requires : tie.Need-attribute-row-requires
-attribute-row-requires c κs = search needs
-
 range-wrong-requires : tie.Need-range-wrong-requires
 range-wrong-requires c κs =
     let c₁ = c .before in
@@ -87,7 +84,7 @@ pub attribute-breaks-spec : {M : Type 1} → statement M
 attribute-breaks-spec =
     tie.close
     (tie.spec
-    attribute-row-requires
+    (λ c κs. search needs)
     range-wrong-requires
     syntax-wrong-requires
     object-class-wrong-requires

@@ -7,9 +7,6 @@ use borrow.Author.Needs.{needs}
 use Rattle.rules.proofs.row.attribute_not_live.Statement.{statement}
 use Rattle.rules.proofs.row.attribute_not_live.Tie as tie
 
-class-row-requires : tie.Need-class-row-requires
-class-row-requires c κs = search needs
-
 not-live-requires : tie.Need-not-live-requires
 not-live-requires c κs =
     let start = c .before .before .before in
@@ -38,4 +35,4 @@ returns-2 c =
 
 pub attribute-not-live-spec : {M : Type 1} → statement M
 attribute-not-live-spec =
-    tie.close (tie.spec class-row-requires not-live-requires returns entry-dead-requires returns-2)
+    tie.close (tie.spec (λ c κs. search needs) not-live-requires returns entry-dead-requires returns-2)

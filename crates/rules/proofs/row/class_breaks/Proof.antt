@@ -12,15 +12,6 @@ use borrow.Author.Needs.{needs}
 use Rattle.rules.proofs.row.class_breaks.Statement.{statement}
 use Rattle.rules.proofs.row.class_breaks.Tie as tie
 
-class-row-requires : tie.Need-class-row-requires
-class-row-requires c κs = search needs
-
-attribute-not-live-requires : tie.Need-attribute-not-live-requires
-attribute-not-live-requires c κs = search needs
-
-class-not-live-requires : tie.Need-class-not-live-requires
-class-not-live-requires c κs = search needs
-
 category-wrong-requires : tie.Need-category-wrong-requires
 category-wrong-requires c κs =
     let c₁ = c .before in
@@ -32,18 +23,6 @@ category-wrong-requires-2 c κs =
     let c₁ = c .before in
     let start = c₁ .before .before .before in
     (start .pre .0 .classes, rw (c₁ .class-row .ensures) (omega (arith, shaped-wide (start .pre .0) Classes (start .args .c .0) (start .pre .1))))
-
-inheritance-wrong-requires : tie.Need-inheritance-wrong-requires
-inheritance-wrong-requires c κs = search needs
-
-inheritance-wrong-requires-2 : tie.Need-inheritance-wrong-requires-2
-inheritance-wrong-requires-2 c κs = search needs
-
-inheritance-wrong-requires-3 : tie.Need-inheritance-wrong-requires-3
-inheritance-wrong-requires-3 c κs = search needs
-
-inheritance-wrong-requires-4 : tie.Need-inheritance-wrong-requires-4
-inheritance-wrong-requires-4 c κs = search needs
 
 naming-wrong-requires : tie.Need-naming-wrong-requires
 naming-wrong-requires c κs =
@@ -100,15 +79,10 @@ pub class-breaks-spec : {M : Type 1} → statement M
 class-breaks-spec =
     tie.close
     (tie.spec
-    class-row-requires
-    attribute-not-live-requires
-    class-not-live-requires
+    (λ c κs. search needs) (λ c κs. search needs) (λ c κs. search needs)
     category-wrong-requires
     category-wrong-requires-2
-    inheritance-wrong-requires
-    inheritance-wrong-requires-2
-    inheritance-wrong-requires-3
-    inheritance-wrong-requires-4
+    (λ c κs. search needs) (λ c κs. search needs) (λ c κs. search needs) (λ c κs. search needs)
     naming-wrong-requires
     returns
     returns-2

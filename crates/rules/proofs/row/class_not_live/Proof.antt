@@ -7,17 +7,11 @@ use borrow.Author.Needs.{needs}
 use Rattle.rules.proofs.row.class_not_live.Statement.{statement}
 use Rattle.rules.proofs.row.class_not_live.Tie as tie
 
-class-wrong-requires : tie.Need-class-wrong-requires
-class-wrong-requires c κs = search needs
-
 returns : tie.Need-returns
 unfolding classNotLive
 returns c =
     let c₁ = c .before in
     rw (sym (c₁ .class-wrong .ensures) ∙ c .if1 .taken)
-
-is-barred-requires : tie.Need-is-barred-requires
-is-barred-requires c κs = search needs
 
 returns-2 : tie.Need-returns-2
 unfolding classNotLive
@@ -26,9 +20,6 @@ returns-2 c =
     let c₂ = c₁ .before in
     let c₃ = c₂ .before in
     rw (sym (c₃ .class-wrong .ensures) ∙ c₂ .if1 .left, sym (c₁ .is-barred .ensures) ∙ c .if2 .taken)
-
-class-row-requires : tie.Need-class-row-requires
-class-row-requires c κs = search needs
 
 entry-dead-requires : tie.Need-entry-dead-requires
 entry-dead-requires c κs =
@@ -55,10 +46,10 @@ pub class-not-live-spec : {M : Type 1} → statement M
 class-not-live-spec =
     tie.close
     (tie.spec
-    class-wrong-requires
+    (λ c κs. search needs)
     returns
-    is-barred-requires
+    (λ c κs. search needs)
     returns-2
-    class-row-requires
+    (λ c κs. search needs)
     entry-dead-requires
     returns-3)

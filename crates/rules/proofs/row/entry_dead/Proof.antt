@@ -15,20 +15,11 @@ use Rattle.rules.proofs.row.entry_dead.Tie as tie
 enum-told : tie.Need-enum-told
 enum-told c = search needs
 
-enum-told-2 : tie.Need-enum-told-2
-enum-told-2 c = search needs
-
-enum-known-added : tie.Need-enum-known-added
-enum-known-added c = search needs
-
 returns : tie.Need-returns
 unfolding entryDead
 returns c =
     let c₁ = c .before .before .before .before in
     rw (c₁ .added .given .1, ne-eqb _ _ (c .if1 .taken))
-
-same-table-requires : tie.Need-same-table-requires
-same-table-requires c κs = search needs
 
 returns-2 : tie.Need-returns-2
 unfolding entryDead
@@ -37,15 +28,6 @@ returns-2 c =
     let c₂ = c₁ .before in
     let c₃ = c₂ .before .before .before .before in
     rw (c₃ .added .given .1, eq-eqb _ _ (c₂ .if1 .left), sym (c₁ .same-table .ensures) ∙ not-true _ (c .if2 .taken))
-
-number-read-requires : tie.Need-number-read-requires
-number-read-requires c κs = search needs
-
-enum-known-id : tie.Need-enum-known-id
-enum-known-id c = search needs
-
-enum-told-3 : tie.Need-enum-told-3
-enum-told-3 c = search needs
 
 returns-3 : tie.Need-returns-3
 unfolding entryDead live
@@ -102,14 +84,11 @@ entry-dead-spec =
     tie.close
     (tie.spec
     enum-told
-    enum-told-2
-    enum-known-added
+    (λ c. search needs) (λ c. search needs)
     returns
-    same-table-requires
+    (λ c κs. search needs)
     returns-2
-    number-read-requires
-    enum-known-id
-    enum-told-3
+    (λ c κs. search needs) (λ c. search needs) (λ c. search needs)
     returns-3
     is-live-requires
     returns-4

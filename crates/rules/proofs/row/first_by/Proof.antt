@@ -22,9 +22,6 @@ abbrev μ-loop : tie.MeasureT-loop
 loop-holds : tie.Need-loop-holds Inv-loop μ-loop
 loop-holds c = refl
 
-byte-at-requires : tie.Need-byte-at-requires Inv-loop μ-loop
-byte-at-requires c κs = search needs
-
 is-breaking-requires : tie.Need-is-breaking-requires Inv-loop μ-loop
 is-breaking-requires c κs = let start = c .before .before .before .before .before .before in (start .pre .0, start .pre .1)
 
@@ -42,12 +39,6 @@ returns c =
     (c₄ .loop .inv ∙ pick-found (λ (r : Rule). r .breaks m (tableOf id) (numberOf id)) (schemaRules added) (start .args .order .now) (c₄ .loop .i)
     (c₃ .loop-test .taken)
     (sym (c₁ .is-breaking .ensures ∙ ap (λ (n : ℕ). breaks added m n (tableOf id) (numberOf id)) (c₂ .byte-at .ensures)) ∙ c .if1 .taken))
-
-add-i : tie.Need-add-i Inv-loop μ-loop
-add-i c = search needs
-
-loop-less : tie.Need-loop-less Inv-loop μ-loop
-loop-less c = search needs
 
 loop-again : tie.Need-loop-again Inv-loop μ-loop
 loop-again c =
@@ -80,10 +71,9 @@ first-by-spec =
     Inv-loop
     μ-loop
     loop-holds
-    byte-at-requires
+    (λ c κs. search needs)
     is-breaking-requires
     returns
-    add-i
-    loop-less
+    (λ c. search needs) (λ c. search needs)
     loop-again
     returns-2)

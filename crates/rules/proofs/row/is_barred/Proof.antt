@@ -7,20 +7,11 @@ use Rattle.rules.proofs.row.is_barred.Tie as tie
 enum-told : tie.Need-enum-told
 enum-told c = search needs
 
-enum-known-added : tie.Need-enum-known-added
-enum-known-added c = search needs
-
 returns : tie.Need-returns
 unfolding barred
 returns c =
     let c₁ = c .before .before .before .before in
     rw (c₁ .added .given .1, ne-eqb _ _ (c .if1 .taken))
-
-lists-itself-requires : tie.Need-lists-itself-requires
-lists-itself-requires c κs = search needs
-
-enum-told-2 : tie.Need-enum-told-2
-enum-told-2 c = search needs
 
 returns-2 : tie.Need-returns-2
 unfolding barred
@@ -42,10 +33,9 @@ is-barred-spec =
     tie.close
     (tie.spec
     enum-told
-    enum-known-added
+    (λ c. search needs)
     returns
-    lists-itself-requires
-    enum-told-2
+    (λ c κs. search needs) (λ c. search needs)
     returns-2
     returns-3
     returns-4)

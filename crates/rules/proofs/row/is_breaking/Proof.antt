@@ -21,9 +21,6 @@ name-invalid-requires c κs =
     let y = schema-keyed (start .pre .0) (tableOf id)
     (numberOf id) (start .pre .1) in rw (c₁ .schema-row .ensures) (omega (arith, y .wide), y .name)
 
-is-taken-requires : tie.Need-is-taken-requires
-is-taken-requires c κs = search needs
-
 identifier-invalid-requires : tie.Need-identifier-invalid-requires
 identifier-invalid-requires c κs =
     let c₁ = c .before in
@@ -31,18 +28,6 @@ identifier-invalid-requires c κs =
     let id = start .args .id in
     let y = schema-keyed (start .pre .0) (tableOf id)
     (numberOf id) (start .pre .1) in rw (c₁ .schema-row .ensures) (omega (arith, y .wide))
-
-is-taken-requires-2 : tie.Need-is-taken-requires-2
-is-taken-requires-2 c κs = search needs
-
-is-taken-requires-3 : tie.Need-is-taken-requires-3
-is-taken-requires-3 c κs = search needs
-
-is-taken-requires-4 : tie.Need-is-taken-requires-4
-is-taken-requires-4 c κs = search needs
-
-is-taken-requires-5 : tie.Need-is-taken-requires-5
-is-taken-requires-5 c κs = search needs
 
 own-breaks-requires : tie.Need-own-breaks-requires
 own-breaks-requires c κs = let start = c .before .before .before .before in (start .pre .0, start .pre .1, c .match .rest)
@@ -75,21 +60,15 @@ returns-7 : tie.Need-returns-7
 unfolding numbered
 returns-7 c = rw (c .before .match .keys7) (c .is-taken5 .ensures)
 
-returns-8 : tie.Need-returns-8
-returns-8 c = search needs
-
 pub is-breaking-spec : {M : Type 1} → statement M
 is-breaking-spec =
     tie.close
     (tie.spec
     schema-row-requires
     name-invalid-requires
-    is-taken-requires
+    (λ c κs. search needs)
     identifier-invalid-requires
-    is-taken-requires-2
-    is-taken-requires-3
-    is-taken-requires-4
-    is-taken-requires-5
+    (λ c κs. search needs) (λ c κs. search needs) (λ c κs. search needs) (λ c κs. search needs)
     own-breaks-requires
     returns
     returns-2
@@ -98,4 +77,4 @@ is-breaking-spec =
     returns-5
     returns-6
     returns-7
-    returns-8)
+    (λ c. search needs))

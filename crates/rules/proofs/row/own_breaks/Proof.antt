@@ -2,16 +2,10 @@ use borrow.Author.Needs.{needs}
 use Rattle.rules.proofs.row.own_breaks.Statement.{statement}
 use Rattle.rules.proofs.row.own_breaks.Tie as tie
 
-enum-known-id : tie.Need-enum-known-id
-enum-known-id c = search needs
-
 attribute-breaks-requires : tie.Need-attribute-breaks-requires
 attribute-breaks-requires c κs =
     let c₁ = c .before in
     let start = c₁ .before .before .before .before in (start .pre .0, rw (c₁ .id .given .1) at (start .pre .1), start .pre .2)
-
-enum-known-id-2 : tie.Need-enum-known-id-2
-enum-known-id-2 c = search needs
 
 class-breaks-requires : tie.Need-class-breaks-requires
 class-breaks-requires c κs =
@@ -28,9 +22,9 @@ pub own-breaks-spec : {M : Type 1} → statement M
 own-breaks-spec =
     tie.close
     (tie.spec
-    enum-known-id
+    (λ c. search needs)
     attribute-breaks-requires
-    enum-known-id-2
+    (λ c. search needs)
     class-breaks-requires
     returns
     returns-2)

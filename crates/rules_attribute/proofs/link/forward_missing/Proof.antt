@@ -4,15 +4,9 @@ use Rattle.rules_attribute.specs.Links.{isBackLink, forwardMissing}
 use Rattle.rules_attribute.proofs.link.forward_missing.Statement.{statement}
 use Rattle.rules_attribute.proofs.link.forward_missing.Tie as tie
 
-link-requires : tie.Need-link-requires
-link-requires c κs = search needs
-
 returns : tie.Need-returns
 unfolding forwardMissing isBackLink
 returns c = rw (← (c .before .link .ensures), ne-eqb _ _ (c .if1 .taken))
-
-has-forward-requires : tie.Need-has-forward-requires
-has-forward-requires c κs = search needs
 
 returns-2 : tie.Need-returns-2
 unfolding forwardMissing isBackLink
@@ -22,4 +16,8 @@ returns-2 c =
     rw (← (c₂ .link .ensures), eq-eqb _ _ (c₁ .if1 .left), ← (c .has-forward .ensures))
 
 pub forward-missing-spec : {M : Type 1} → statement M
-forward-missing-spec = tie.close (tie.spec link-requires returns has-forward-requires returns-2)
+forward-missing-spec = tie.close (tie.spec
+    (λ c κs. search needs)
+    returns
+    (λ c κs. search needs)
+    returns-2)

@@ -19,17 +19,8 @@ Inv-loop attributes back n j₀ j = (j ≤ n)
 abbrev μ-loop : tie.MeasureT-loop
 μ-loop attributes back n j₀ j = n - j
 
-row-count-requires : tie.Need-row-count-requires Inv-loop μ-loop
-row-count-requires c κs = search needs
-
 loop-holds : tie.Need-loop-holds Inv-loop μ-loop
 loop-holds c = (search needs, any-zero _)
-
-attribute-at-requires : tie.Need-attribute-at-requires Inv-loop μ-loop
-attribute-at-requires c κs = search needs
-
-is-live-forward-requires : tie.Need-is-live-forward-requires Inv-loop μ-loop
-is-live-forward-requires c κs = search needs
 
 returns : tie.Need-returns Inv-loop μ-loop
 returns c =
@@ -43,12 +34,6 @@ returns c =
     sym
     (any-here (λ j. isForwardOf back (tableIn Attributes attributes .row j) && live (tableIn Attributes attributes) back j) (c₃ .loop .j) _
     (omega (arith, c₄ .row-count .ensures)) (sym (rw (c₂ .attribute-at .ensures) at (c₁ .is-live-forward .ensures)) ∙ c .if1 .taken))
-
-add-j : tie.Need-add-j Inv-loop μ-loop
-add-j c = search needs
-
-loop-less : tie.Need-loop-less Inv-loop μ-loop
-loop-less c = search needs
 
 loop-again : tie.Need-loop-again Inv-loop μ-loop
 loop-again c =
@@ -80,12 +65,10 @@ has-forward-spec =
     (tie.spec
     Inv-loop
     μ-loop
-    row-count-requires
+    (λ c κs. search needs)
     loop-holds
-    attribute-at-requires
-    is-live-forward-requires
+    (λ c κs. search needs) (λ c κs. search needs)
     returns
-    add-j
-    loop-less
+    (λ c. search needs) (λ c. search needs)
     loop-again
     returns-2)

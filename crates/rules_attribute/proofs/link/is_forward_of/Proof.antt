@@ -8,15 +8,9 @@ use Rattle.rules_attribute.specs.Links.{isForwardOf}
 use Rattle.rules_attribute.proofs.link.is_forward_of.Statement.{statement}
 use Rattle.rules_attribute.proofs.link.is_forward_of.Tie as tie
 
-link-requires : tie.Need-link-requires
-link-requires c κs = search needs
-
 returns : tie.Need-returns
 unfolding isForwardOf
 returns c = rw (← (c .before .link .ensures), eq-eqb _ _ (c .if1 .taken))
-
-link-requires-2 : tie.Need-link-requires-2
-link-requires-2 c κs = search needs
 
 returns-2 : tie.Need-returns-2
 unfolding isForwardOf
@@ -26,9 +20,6 @@ returns-2 c =
     let c₃ = c₂ .before in
     rw (← (c₃ .link .ensures), ne-eqb _ _ (c₂ .if1 .left), ← (c₁ .link2 .ensures), c .if2 .taken)
     (sym (ne-eqb (c₃ .link .result + 1) 0 (λ e. omega arith)))
-
-sub-result : tie.Need-sub-result
-sub-result c = search needs
 
 returns-3 : tie.Need-returns-3
 unfolding isForwardOf
@@ -42,4 +33,4 @@ returns-3 c =
 
 pub is-forward-of-spec : {M : Type 1} → statement M
 is-forward-of-spec =
-    tie.close (tie.spec link-requires returns link-requires-2 returns-2 sub-result returns-3)
+    tie.close (tie.spec (λ c κs. search needs) returns (λ c κs. search needs) returns-2 (λ c. search needs) returns-3)

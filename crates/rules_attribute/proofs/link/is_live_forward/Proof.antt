@@ -24,9 +24,6 @@ returns c =
     rw
     (← (c₂ .attribute-row .ensures), ← (c₁ .is-forward-of .ensures), not-true (c₁ .is-forward-of .result) (c .if1 .taken))
 
-is-live-requires : tie.Need-is-live-requires
-is-live-requires c κs = search needs
-
 returns-2 : tie.Need-returns-2
 returns-2 c =
     let c₁ = c .before in
@@ -42,5 +39,5 @@ is-live-forward-spec =
     attribute-row-requires
     is-forward-of-requires
     returns
-    is-live-requires
+    (λ c κs. search needs)
     returns-2)

@@ -4,15 +4,9 @@ use Rattle.rules_attribute.specs.Links.{isBackLink, linkSyntaxFits}
 use Rattle.rules_attribute.proofs.link.link_syntax_fits.Statement.{statement}
 use Rattle.rules_attribute.proofs.link.link_syntax_fits.Tie as tie
 
-link-requires : tie.Need-link-requires
-link-requires c κs = search needs
-
 returns : tie.Need-returns
 unfolding linkSyntaxFits isBackLink
 returns c = rw (← (c .before .link .ensures), c .if1 .taken)
-
-syntax-requires : tie.Need-syntax-requires
-syntax-requires c κs = search needs
 
 returns-2 : tie.Need-returns-2
 unfolding linkSyntaxFits isBackLink
@@ -65,5 +59,4 @@ returns-5 c =
 
 pub link-syntax-fits-spec : {M : Type 1} → statement M
 link-syntax-fits-spec =
-    tie.close
-    (tie.spec link-requires returns syntax-requires returns-2 returns-3 returns-4 returns-5)
+    tie.close (tie.spec (λ c κs. search needs) returns (λ c κs. search needs) returns-2 returns-3 returns-4 returns-5)

@@ -3,12 +3,11 @@ use Rattle.rules_attribute.specs.Links.{linkSyntaxWrong}
 use Rattle.rules_attribute.proofs.link.link_syntax_wrong.Statement.{statement}
 use Rattle.rules_attribute.proofs.link.link_syntax_wrong.Tie as tie
 
-link-syntax-fits-requires : tie.Need-link-syntax-fits-requires
-link-syntax-fits-requires c κs = search needs
-
 returns : tie.Need-returns
 unfolding linkSyntaxWrong
 returns c = rw (← (c .link-syntax-fits .ensures))
 
 pub link-syntax-wrong-spec : {M : Type 1} → statement M
-link-syntax-wrong-spec = tie.close (tie.spec link-syntax-fits-requires returns)
+link-syntax-wrong-spec = tie.close (tie.spec
+    (λ c κs. search needs)
+    returns)

@@ -3,12 +3,6 @@ use Rattle.rules_attribute.specs.RangeLaws.{less-biased}
 use Rattle.rules_attribute.proofs.range.less_signed.Statement.{statement}
 use Rattle.rules_attribute.proofs.range.less_signed.Tie as tie
 
-biased-requires : tie.Need-biased-requires
-biased-requires c κs = search needs
-
-biased-requires-2 : tie.Need-biased-requires-2
-biased-requires-2 c κs = search needs
-
 returns : tie.Need-returns
 returns c =
     let c₁ = c .before in
@@ -16,4 +10,6 @@ returns c =
     rw (less-biased (start .args .a) (start .args .b) (search needs) (search needs), ← (c₁ .biased .ensures), ← (c .biased2 .ensures))
 
 pub less-signed-spec : {M : Type 1} → statement M
-less-signed-spec = tie.close (tie.spec biased-requires biased-requires-2 returns)
+less-signed-spec = tie.close (tie.spec
+    (λ c κs. search needs) (λ c κs. search needs)
+    returns)

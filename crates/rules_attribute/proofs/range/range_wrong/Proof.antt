@@ -3,27 +3,12 @@ use Rattle.rules_attribute.specs.Range.{rangeWrong, endsCrossed}
 use Rattle.rules_attribute.proofs.range.range_wrong.Statement.{statement}
 use Rattle.rules_attribute.proofs.range.range_wrong.Tie as tie
 
-range-lower-requires : tie.Need-range-lower-requires
-range-lower-requires c κs = search needs
-
-range-upper-requires : tie.Need-range-upper-requires
-range-upper-requires c κs = search needs
-
-enum-known-l : tie.Need-enum-known-l
-enum-known-l c = search needs
-
 enum-told : tie.Need-enum-told
 enum-told c = search needs
 
 returns : tie.Need-returns
 unfolding rangeWrong endsCrossed
 returns c = rw (← (c .before .before .before .range-lower .ensures), c .enum-told .given .1)
-
-enum-known-u : tie.Need-enum-known-u
-enum-known-u c = search needs
-
-enum-told-2 : tie.Need-enum-told-2
-enum-told-2 c = search needs
 
 returns-2 : tie.Need-returns-2
 unfolding rangeWrong endsCrossed
@@ -32,9 +17,6 @@ returns-2 c =
     let c₂ = c₁ .before .before in
     let c₃ = c₂ .before in
     rw (← (c₃ .range-lower .ensures), c₁ .l .given .1, ← (c₂ .range-upper .ensures), c .enum-told2 .given .1)
-
-less-signed-requires : tie.Need-less-signed-requires
-less-signed-requires c κs = search needs
 
 returns-3 : tie.Need-returns-3
 unfolding rangeWrong endsCrossed
@@ -49,13 +31,10 @@ pub range-wrong-spec : {M : Type 1} → statement M
 range-wrong-spec =
     tie.close
     (tie.spec
-    range-lower-requires
-    range-upper-requires
-    enum-known-l
+    (λ c κs. search needs) (λ c κs. search needs) (λ c. search needs)
     enum-told
     returns
-    enum-known-u
-    enum-told-2
+    (λ c. search needs) (λ c. search needs)
     returns-2
-    less-signed-requires
+    (λ c κs. search needs)
     returns-3)

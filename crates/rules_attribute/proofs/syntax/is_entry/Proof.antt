@@ -5,9 +5,6 @@ use Rattle.schema.specs.ObjectClassesLaws.{entry-length}
 use Rattle.rules_attribute.proofs.syntax.is_entry.Statement.{statement}
 use Rattle.rules_attribute.proofs.syntax.is_entry.Tie as tie
 
-row-of-requires : tie.Need-row-of-requires
-row-of-requires c κs = search needs
-
 byte-at-requires : tie.Need-byte-at-requires
 byte-at-requires c κs =
     let start = c .before .before .before in
@@ -27,9 +24,6 @@ counted-requires c κs =
     rw (c₁ .row-of .ensures)
     (omega (arith, entry-length (start .args .table .now) i (start .pre .0) (start .pre .1), start .pre .0 .short i (start .pre .1)))
 
-same-requires : tie.Need-same-requires
-same-requires c κs = search needs
-
 returns-2 : tie.Need-returns-2
 returns-2 c =
     let c₁ = c .before in
@@ -41,4 +35,10 @@ returns-2 c =
 pub is-entry-spec : {M : Type 1} → statement M
 is-entry-spec =
     tie.close
-    (tie.spec row-of-requires byte-at-requires returns counted-requires same-requires returns-2)
+    (tie.spec
+    (λ c κs. search needs)
+    byte-at-requires
+    returns
+    counted-requires
+    (λ c κs. search needs)
+    returns-2)

@@ -4,12 +4,6 @@ use Rattle.schema.specs.ObjectClassesLaws.{entries-whole}
 use Rattle.rules_attribute.proofs.syntax.object_class_fits.Statement.{statement}
 use Rattle.rules_attribute.proofs.syntax.object_class_fits.Tie as tie
 
-object-classes-requires : tie.Need-object-classes-requires
-object-classes-requires c κs = search needs
-
-slice-aggregate-has-entry : tie.Need-slice-aggregate-has-entry
-slice-aggregate-has-entry c = search needs
-
 has-entry-requires : tie.Need-has-entry-requires
 has-entry-requires c κs = rw (c .before .object-classes .ensures) entries-whole
 
@@ -19,5 +13,4 @@ returns c = rw (← (c .before .before .object-classes .ensures)) (c .has-entry 
 
 pub object-class-fits-spec : {M : Type 1} → statement M
 object-class-fits-spec =
-    tie.close
-    (tie.spec object-classes-requires slice-aggregate-has-entry has-entry-requires returns)
+    tie.close (tie.spec (λ c κs. search needs) (λ c. search needs) has-entry-requires returns)

@@ -4,21 +4,9 @@ use Rattle.rules_attribute.specs.Syntax.{objectClassWrong}
 use Rattle.rules_attribute.proofs.syntax.object_class_wrong.Statement.{statement}
 use Rattle.rules_attribute.proofs.syntax.object_class_wrong.Tie as tie
 
-om-syntax-requires : tie.Need-om-syntax-requires
-om-syntax-requires c κs = search needs
-
 returns : tie.Need-returns
 unfolding objectClassWrong
 returns c = rw (← (c .before .om-syntax .ensures), ne-eqb _ _ (c .if1 .taken))
-
-syntax-requires : tie.Need-syntax-requires
-syntax-requires c κs = search needs
-
-object-class-requires : tie.Need-object-class-requires
-object-class-requires c κs = search needs
-
-object-class-fits-requires : tie.Need-object-class-fits-requires
-object-class-fits-requires c κs = search needs
 
 returns-2 : tie.Need-returns-2
 unfolding objectClassWrong
@@ -40,9 +28,7 @@ pub object-class-wrong-spec : {M : Type 1} → statement M
 object-class-wrong-spec =
     tie.close
     (tie.spec
-    om-syntax-requires
+    (λ c κs. search needs)
     returns
-    syntax-requires
-    object-class-requires
-    object-class-fits-requires
+    (λ c κs. search needs) (λ c κs. search needs) (λ c κs. search needs)
     returns-2)

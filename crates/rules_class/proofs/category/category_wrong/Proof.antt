@@ -43,12 +43,6 @@ returns c =
     (λ at. anyBelow 8 (λ i. wronglyListed (start .args .kind) (tableIn Classes (start .args .classes .now)) (start .args .row .now) (at * 8 + i)))
     (c₃ .loop .at) classSet (c₂ .loop-test .taken) (sym (c₁ .wrong-in .ensures) ∙ c .if1 .taken))
 
-add-at : tie.Need-add-at Inv-loop μ-loop
-add-at c = search needs
-
-loop-less : tie.Need-loop-less Inv-loop μ-loop
-loop-less c = search needs
-
 loop-again : tie.Need-loop-again Inv-loop μ-loop
 loop-again c =
     let c₁ = c .before in
@@ -78,7 +72,6 @@ category-wrong-spec =
     loop-holds
     wrong-in-requires
     returns
-    add-at
-    loop-less
+    (λ c. search needs) (λ c. search needs)
     loop-again
     returns-2)

@@ -9,15 +9,9 @@ use Rattle.rules_class.proofs.category.has_other_category.Statement.{st
 use Rattle.rules_class.specs.Category.{otherCategory}
 use Rattle.rules_class.proofs.category.has_other_category.Tie as tie
 
-row-count-requires : tie.Need-row-count-requires
-row-count-requires c κs = search needs
-
 returns : tie.Need-returns
 unfolding otherCategory
 returns c = rw (← (c .before .before .row-count .ensures), le-ltb _ _ (c .if1 .taken))
-
-class-row-requires : tie.Need-class-row-requires
-class-row-requires c κs = search needs
 
 category-requires : tie.Need-category-requires
 category-requires c κs =
@@ -39,9 +33,6 @@ returns-2 c =
     let c₃ = c₂ .before in
     let c₄ = c₃ .before .before in
     rw (← (c₄ .row-count .ensures), lt-ltb _ _ (c₃ .if1 .left), ← (c₂ .class-row .ensures), ← (c₁ .category .ensures), eq-eqb _ _ (c .if2 .taken))
-
-list-category-requires : tie.Need-list-category-requires
-list-category-requires c κs = search needs
 
 returns-3 : tie.Need-returns-3
 unfolding otherCategory
@@ -65,10 +56,10 @@ pub has-other-category-spec : {M : Type 1} → statement M
 has-other-category-spec =
     tie.close
     (tie.spec
-    row-count-requires
+    (λ c κs. search needs)
     returns
-    class-row-requires
+    (λ c κs. search needs)
     category-requires
     returns-2
-    list-category-requires
+    (λ c κs. search needs)
     returns-3)

@@ -14,9 +14,6 @@ use Rattle.rules_class.specs.CategoryLaws.{inheritance-root, inheritance
 use Rattle.rules_class.proofs.category.inheritance_of.Statement.{statement}
 use Rattle.rules_class.proofs.category.inheritance_of.Tie as tie
 
-class-row-requires : tie.Need-class-row-requires
-class-row-requires c κs = search needs
-
 category-requires : tie.Need-category-requires
 category-requires c κs =
     let c₁ = c .before .before in
@@ -27,9 +24,6 @@ category-requires c κs =
       table-row-length Classes (start .args .classes .now) (start .args .c .0) (start .pre .0 .long)
           (omega (arith, start .pre .0 .few)),
     )
-
-root-inheritance-requires : tie.Need-root-inheritance-requires
-root-inheritance-requires c κs = search needs
 
 returns : tie.Need-returns
 returns c =
@@ -56,9 +50,6 @@ superclass-requires c κs =
           (omega (arith, start .pre .0 .few)),
     )
 
-enum-known-read : tie.Need-enum-known-read
-enum-known-read c = search needs
-
 enum-told : tie.Need-enum-told
 enum-told c = search needs
 
@@ -77,9 +68,6 @@ returns-2 c =
       class-beyond (superclassOf (tableIn Classes classes .row (start .args .c .0)))
           (ap (λ (l : List ℕ). classRead (superclassOf l)) (sym (c₃ .class-row .ensures)) ∙ sym (c₁ .superclass .ensures) ∙ c .enum-told .given .1),
     )))
-
-row-count-requires : tie.Need-row-count-requires
-row-count-requires c κs = search needs
 
 returns-3 : tie.Need-returns-3
 returns-3 c =
@@ -111,9 +99,6 @@ category-requires-2 c κs =
           (omega (arith, start .pre .0 .few)),
     )
 
-class-row-requires-2 : tie.Need-class-row-requires-2
-class-row-requires-2 c κs = search needs
-
 category-requires-3 : tie.Need-category-requires-3
 category-requires-3 c κs =
     let c₁ = c .before .before in
@@ -126,9 +111,6 @@ category-requires-3 c κs =
       table-row-length Classes (start .args .classes .now) (c₃ .read .given .0 .0 .0) (start .pre .0 .long)
           (omega (arith, start .pre .0 .few, c₂ .row-count .ensures, c₁ .if2 .left)),
     )
-
-inheritance-under-requires : tie.Need-inheritance-under-requires
-inheritance-under-requires c κs = search needs
 
 returns-4 : tie.Need-returns-4
 returns-4 c =
@@ -160,18 +142,18 @@ pub inheritance-of-spec : {M : Type 1} → statement M
 inheritance-of-spec =
     tie.close
     (tie.spec
-    class-row-requires
+    (λ c κs. search needs)
     category-requires
-    root-inheritance-requires
+    (λ c κs. search needs)
     returns
     superclass-requires
-    enum-known-read
+    (λ c. search needs)
     enum-told
     returns-2
-    row-count-requires
+    (λ c κs. search needs)
     returns-3
     category-requires-2
-    class-row-requires-2
+    (λ c κs. search needs)
     category-requires-3
-    inheritance-under-requires
+    (λ c κs. search needs)
     returns-4)

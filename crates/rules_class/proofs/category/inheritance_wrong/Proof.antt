@@ -3,16 +3,10 @@ use Rattle.rules_class.specs.Category.{inheritanceWrong}
 use Rattle.rules_class.proofs.category.inheritance_wrong.Statement.{statement}
 use Rattle.rules_class.proofs.category.inheritance_wrong.Tie as tie
 
-inheritance-of-requires : tie.Need-inheritance-of-requires
-inheritance-of-requires c κs = search needs
-
-inheritance-number-requires : tie.Need-inheritance-number-requires
-inheritance-number-requires c κs = search needs
-
 returns : tie.Need-returns
 unfolding inheritanceWrong
 returns c = rw (← (c .before .inheritance-of .ensures), ← (c .inheritance-number .ensures))
 
 pub inheritance-wrong-spec : {M : Type 1} → statement M
 inheritance-wrong-spec =
-    tie.close (tie.spec inheritance-of-requires inheritance-number-requires returns)
+    tie.close (tie.spec (λ c κs. search needs) (λ c κs. search needs) returns)

@@ -4,17 +4,11 @@ use Rattle.rules_class.proofs.category.is_wrongly_listed.Statement.{sta
 use Rattle.rules_class.specs.Category.{wronglyListed}
 use Rattle.rules_class.proofs.category.is_wrongly_listed.Tie as tie
 
-is-listed-requires : tie.Need-is-listed-requires
-is-listed-requires c κs = search needs
-
 returns : tie.Need-returns
 unfolding wronglyListed
 returns c =
     let c₁ = c .before in
     rw (← (c₁ .is-listed .ensures), not-true (c₁ .is-listed .result) (c .if1 .taken))
-
-has-other-category-requires : tie.Need-has-other-category-requires
-has-other-category-requires c κs = search needs
 
 returns-2 : tie.Need-returns-2
 unfolding wronglyListed
@@ -25,4 +19,4 @@ returns-2 c =
 
 pub is-wrongly-listed-spec : {M : Type 1} → statement M
 is-wrongly-listed-spec =
-    tie.close (tie.spec is-listed-requires returns has-other-category-requires returns-2)
+    tie.close (tie.spec (λ c κs. search needs) returns (λ c κs. search needs) returns-2)

@@ -11,12 +11,6 @@ use Rattle.rules_class.proofs.category.lists_none.Tie as tie
 enum-told : tie.Need-enum-told
 enum-told c = search needs
 
-fixed-auxiliary-requires : tie.Need-fixed-auxiliary-requires
-fixed-auxiliary-requires c κs = search needs
-
-open-auxiliary-requires : tie.Need-open-auxiliary-requires
-open-auxiliary-requires c κs = search needs
-
 is-blank-requires : tie.Need-is-blank-requires
 is-blank-requires c κs =
     let c₁ = c .before in
@@ -36,15 +30,6 @@ is-blank-requires c κs =
         start .pre .1,
       ),
     )
-
-enum-told-2 : tie.Need-enum-told-2
-enum-told-2 c = search needs
-
-fixed-superior-requires : tie.Need-fixed-superior-requires
-fixed-superior-requires c κs = search needs
-
-open-superior-requires : tie.Need-open-superior-requires
-open-superior-requires c κs = search needs
 
 is-blank-requires-2 : tie.Need-is-blank-requires-2
 is-blank-requires-2 c κs =
@@ -87,12 +72,9 @@ lists-none-spec =
     tie.close
     (tie.spec
     enum-told
-    fixed-auxiliary-requires
-    open-auxiliary-requires
+    (λ c κs. search needs) (λ c κs. search needs)
     is-blank-requires
-    enum-told-2
-    fixed-superior-requires
-    open-superior-requires
+    (λ c. search needs) (λ c κs. search needs) (λ c κs. search needs)
     is-blank-requires-2
     returns
     returns-2)

@@ -69,12 +69,6 @@ returns-2 c =
     sym (any-here (λ i. wronglyListed (start .args .kind) (tableIn Classes (start .args .classes .now)) (start .args .row .now) (start .args .at * 8 + i))
     (c₄ .loop .i) 8 (c₃ .loop-test .taken) (sym (rw (c₂ .class-at .ensures) at (c₁ .is-wrongly-listed .ensures)) ∙ c .if2 .taken))
 
-add-i : tie.Need-add-i Inv-loop μ-loop
-add-i c = search needs
-
-loop-less : tie.Need-loop-less Inv-loop μ-loop
-loop-less c = search needs
-
 loop-again : tie.Need-loop-again Inv-loop μ-loop
 loop-again c =
     let c₁ = c .before in
@@ -109,7 +103,6 @@ wrong-in-spec =
     class-at-requires
     is-wrongly-listed-requires
     returns-2
-    add-i
-    loop-less
+    (λ c. search needs) (λ c. search needs)
     loop-again
     returns-3)

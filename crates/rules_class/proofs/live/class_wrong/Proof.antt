@@ -8,9 +8,6 @@ use Rattle.rules_class.specs.Live.{classWrong}
 use Rattle.rules_class.proofs.live.class_wrong.Statement.{statement}
 use Rattle.rules_class.proofs.live.class_wrong.Tie as tie
 
-class-row-requires : tie.Need-class-row-requires
-class-row-requires c κs = search needs
-
 not-live-requires : tie.Need-not-live-requires
 not-live-requires c κs =
     let start = c .before .before in (
@@ -55,7 +52,7 @@ pub class-wrong-spec : {M : Type 1} → statement M
 class-wrong-spec =
     tie.close
     (tie.spec
-    class-row-requires
+    (λ c κs. search needs)
     not-live-requires
     returns
     superclass-late-requires

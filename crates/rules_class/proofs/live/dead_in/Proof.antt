@@ -72,12 +72,6 @@ returns-2 c =
     (start .args .at * 8 + i)) (c₄ .loop .i) 8 (c₃ .loop-test .taken) (sym (c₁ .names-dead .ensures ∙ dead-at (start .args .table) (start .args .store .now)
     (start .args .row .now) (start .args .at * 8 + c₄ .loop .i) (c₂ .row-id .ensures)) ∙ c .if2 .taken))
 
-add-i : tie.Need-add-i Inv-loop μ-loop
-add-i c = search needs
-
-loop-less : tie.Need-loop-less Inv-loop μ-loop
-loop-less c = search needs
-
 loop-again : tie.Need-loop-again Inv-loop μ-loop
 loop-again c =
     let c₁ = c .before in
@@ -112,7 +106,6 @@ dead-in-spec =
     row-id-requires
     names-dead-requires
     returns-2
-    add-i
-    loop-less
+    (λ c. search needs) (λ c. search needs)
     loop-again
     returns-3)

@@ -8,9 +8,6 @@ use Rattle.rules_class.specs.Live.{listsItself}
 use Rattle.rules_class.proofs.live.lists_itself.Statement.{statement}
 use Rattle.rules_class.proofs.live.lists_itself.Tie as tie
 
-class-row-requires : tie.Need-class-row-requires
-class-row-requires c κs = search needs
-
 is-listed-requires : tie.Need-is-listed-requires
 is-listed-requires c κs =
     let start = c .before .before in
@@ -49,5 +46,4 @@ returns-2 c =
 
 pub lists-itself-spec : {M : Type 1} → statement M
 lists-itself-spec =
-    tie.close
-    (tie.spec class-row-requires is-listed-requires returns is-listed-requires-2 returns-2)
+    tie.close (tie.spec (λ c κs. search needs) is-listed-requires returns is-listed-requires-2 returns-2)

@@ -3,12 +3,6 @@ use borrow.Author.Needs.{needs}
 use Rattle.rules_class.proofs.live.named_elsewhere.Statement.{statement}
 use Rattle.rules_class.proofs.live.named_elsewhere.Tie as tie
 
-naming-attribute-requires : tie.Need-naming-attribute-requires
-naming-attribute-requires c κs = search needs
-
-enum-known-named : tie.Need-enum-known-named
-enum-known-named c = search needs
-
 enum-told : tie.Need-enum-told
 enum-told c = search needs
 
@@ -29,8 +23,7 @@ pub named-elsewhere-spec : {M : Type 1} → statement M
 named-elsewhere-spec =
     tie.close
     (tie.spec
-    naming-attribute-requires
-    enum-known-named
+    (λ c κs. search needs) (λ c. search needs)
     enum-told
     returns
     returns-2)

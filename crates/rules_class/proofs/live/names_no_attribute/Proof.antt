@@ -10,12 +10,6 @@ use borrow.Author.Needs.{needs}
 use Rattle.rules_class.proofs.live.names_no_attribute.Statement.{statement}
 use Rattle.rules_class.proofs.live.names_no_attribute.Tie as tie
 
-mandatory-requires : tie.Need-mandatory-requires
-mandatory-requires c κs = search needs
-
-fixed-optional-requires : tie.Need-fixed-optional-requires
-fixed-optional-requires c κs = search needs
-
 is-blank-requires : tie.Need-is-blank-requires
 is-blank-requires c κs =
     let c₁ = c .before in
@@ -43,9 +37,6 @@ returns c =
     let c₂ = c₁ .before in
     let c₃ = c₂ .before in
     rw (← (c₃ .mandatory .ensures), ← (c₂ .fixed-optional .ensures), sym (c₁ .is-blank .ensures) ∙ not-true _ (c .if1 .taken))
-
-open-optional-requires : tie.Need-open-optional-requires
-open-optional-requires c κs = search needs
 
 byte-at-requires : tie.Need-byte-at-requires
 byte-at-requires c κs =
@@ -76,9 +67,6 @@ returns-2 c =
       says-false (says-eq _ 0) (λ e. c .if2 .taken (c₁ .byte-at .ensures ∙ e)),
     )
 
-named-elsewhere-requires : tie.Need-named-elsewhere-requires
-named-elsewhere-requires c κs = search needs
-
 returns-3 : tie.Need-returns-3
 unfolding namesNone
 returns-3 c =
@@ -102,12 +90,11 @@ pub names-no-attribute-spec : {M : Type 1} → statement M
 names-no-attribute-spec =
     tie.close
     (tie.spec
-    mandatory-requires
-    fixed-optional-requires
+    (λ c κs. search needs) (λ c κs. search needs)
     is-blank-requires
     returns
-    open-optional-requires
+    (λ c κs. search needs)
     byte-at-requires
     returns-2
-    named-elsewhere-requires
+    (λ c κs. search needs)
     returns-3)

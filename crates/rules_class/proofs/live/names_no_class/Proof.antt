@@ -9,12 +9,6 @@ use borrow.Author.Needs.{needs}
 use Rattle.rules_class.proofs.live.names_no_class.Statement.{statement}
 use Rattle.rules_class.proofs.live.names_no_class.Tie as tie
 
-fixed-auxiliary-requires : tie.Need-fixed-auxiliary-requires
-fixed-auxiliary-requires c κs = search needs
-
-open-auxiliary-requires : tie.Need-open-auxiliary-requires
-open-auxiliary-requires c κs = search needs
-
 is-blank-requires : tie.Need-is-blank-requires
 is-blank-requires c κs =
     let c₁ = c .before in
@@ -42,12 +36,6 @@ returns c =
     let c₂ = c₁ .before in
     let c₃ = c₂ .before in
     rw (← (c₃ .fixed-auxiliary .ensures), ← (c₂ .open-auxiliary .ensures), sym (c₁ .is-blank .ensures) ∙ not-true _ (c .if1 .taken))
-
-fixed-superior-requires : tie.Need-fixed-superior-requires
-fixed-superior-requires c κs = search needs
-
-open-superior-requires : tie.Need-open-superior-requires
-open-superior-requires c κs = search needs
 
 is-blank-requires-2 : tie.Need-is-blank-requires-2
 is-blank-requires-2 c κs =
@@ -89,9 +77,6 @@ returns-2 c =
       sym (c₁ .is-blank2 .ensures) ∙ not-true _ (c .if2 .taken),
     )
 
-superclass-elsewhere-requires : tie.Need-superclass-elsewhere-requires
-superclass-elsewhere-requires c κs = search needs
-
 returns-3 : tie.Need-returns-3
 unfolding namesNone
 returns-3 c =
@@ -118,13 +103,11 @@ pub names-no-class-spec : {M : Type 1} → statement M
 names-no-class-spec =
     tie.close
     (tie.spec
-    fixed-auxiliary-requires
-    open-auxiliary-requires
+    (λ c κs. search needs) (λ c κs. search needs)
     is-blank-requires
     returns
-    fixed-superior-requires
-    open-superior-requires
+    (λ c κs. search needs) (λ c κs. search needs)
     is-blank-requires-2
     returns-2
-    superclass-elsewhere-requires
+    (λ c κs. search needs)
     returns-3)

@@ -11,9 +11,6 @@ names-no-attribute-requires c κs =
     let start = c .before .before .before in
     (start .pre .0, omega (arith, rw (c .enum-told .given .1) at (start .pre .1)))
 
-enum-told-2 : tie.Need-enum-told-2
-enum-told-2 c = search needs
-
 names-no-class-requires : tie.Need-names-no-class-requires
 names-no-class-requires c κs =
     let start = c .before .before .before in
@@ -35,7 +32,7 @@ names-none-spec =
     (tie.spec
     enum-told
     names-no-attribute-requires
-    enum-told-2
+    (λ c. search needs)
     names-no-class-requires
     returns
     returns-2)

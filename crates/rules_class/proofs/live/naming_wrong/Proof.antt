@@ -9,21 +9,12 @@ use Rattle.rules_class.specs.Live.{namingWrong}
 use Rattle.rules_class.proofs.live.naming_wrong.Statement.{statement}
 use Rattle.rules_class.proofs.live.naming_wrong.Tie as tie
 
-naming-attribute-requires : tie.Need-naming-attribute-requires
-naming-attribute-requires c κs = search needs
-
-enum-known-named : tie.Need-enum-known-named
-enum-known-named c = search needs
-
 enum-told : tie.Need-enum-told
 enum-told c = search needs
 
 returns : tie.Need-returns
 unfolding namingWrong
 returns c = rw (← (c .before .before .naming-attribute .ensures), c .enum-told .given .1)
-
-row-count-requires : tie.Need-row-count-requires
-row-count-requires c κs = search needs
 
 returns-2 : tie.Need-returns-2
 unfolding namingWrong
@@ -32,9 +23,6 @@ returns-2 c =
     let c₂ = c₁ .before .before in
     let c₃ = c₂ .before .before in
     rw (← (c₃ .naming-attribute .ensures), c₂ .named .given .1, ← (c₁ .row-count .ensures), le-ltb _ _ (c .if1 .taken))
-
-attribute-row-requires : tie.Need-attribute-row-requires
-attribute-row-requires c κs = search needs
 
 syntax-requires : tie.Need-syntax-requires
 syntax-requires c κs =
@@ -109,13 +97,12 @@ pub naming-wrong-spec : {M : Type 1} → statement M
 naming-wrong-spec =
     tie.close
     (tie.spec
-    naming-attribute-requires
-    enum-known-named
+    (λ c κs. search needs) (λ c. search needs)
     enum-told
     returns
-    row-count-requires
+    (λ c κs. search needs)
     returns-2
-    attribute-row-requires
+    (λ c κs. search needs)
     syntax-requires
     returns-3
     is-single-valued-requires

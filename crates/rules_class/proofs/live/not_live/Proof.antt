@@ -18,9 +18,6 @@ Inv-loop table store row bytes at₀ at = (at ≤ bytes) × (anyBelow at (λ j. 
 abbrev μ-loop : tie.MeasureT-loop
 μ-loop table store row bytes at₀ at = bytes - at
 
-row-limit-requires : tie.Need-row-limit-requires Inv-loop μ-loop
-row-limit-requires c κs = search needs
-
 loop-holds : tie.Need-loop-holds Inv-loop μ-loop
 loop-holds c =
     let start = c .before .before .before in (
@@ -48,12 +45,6 @@ returns c =
     (start .args .row .now))) (whole-bytes (start .args .table))) ∙ any-here (λ at. anyBelow 8 (λ i. namesDead (start .args .table) (tableIn
     (start .args .table) (start .args .store .now)) (start .args .row .now) (at * 8 + i))) (c₃ .loop .at) (limit (start .args .table) / 8) (omega
     (arith, c₂ .loop-test .taken, c₄ .row-limit .ensures)) (sym (c₁ .dead-in .ensures) ∙ c .if1 .taken))
-
-add-at : tie.Need-add-at Inv-loop μ-loop
-add-at c = search needs
-
-loop-less : tie.Need-loop-less Inv-loop μ-loop
-loop-less c = search needs
 
 loop-again : tie.Need-loop-again Inv-loop μ-loop
 loop-again c =
@@ -84,11 +75,10 @@ not-live-spec =
     (tie.spec
     Inv-loop
     μ-loop
-    row-limit-requires
+    (λ c κs. search needs)
     loop-holds
     dead-in-requires
     returns
-    add-at
-    loop-less
+    (λ c. search needs) (λ c. search needs)
     loop-again
     returns-2)

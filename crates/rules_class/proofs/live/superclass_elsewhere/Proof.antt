@@ -9,12 +9,6 @@ use Rattle.schema.specs.NumbersLaws.{class-is, class-beyond}
 use Rattle.rules_class.proofs.live.superclass_elsewhere.Statement.{statement}
 use Rattle.rules_class.proofs.live.superclass_elsewhere.Tie as tie
 
-superclass-requires : tie.Need-superclass-requires
-superclass-requires c κs = search needs
-
-enum-known-read : tie.Need-enum-known-read
-enum-known-read c = search needs
-
 enum-told : tie.Need-enum-told
 enum-told c = search needs
 
@@ -35,4 +29,4 @@ returns-2 c =
 
 pub superclass-elsewhere-spec : {M : Type 1} → statement M
 superclass-elsewhere-spec =
-    tie.close (tie.spec superclass-requires enum-known-read enum-told returns returns-2)
+    tie.close (tie.spec (λ c κs. search needs) (λ c. search needs) enum-told returns returns-2)

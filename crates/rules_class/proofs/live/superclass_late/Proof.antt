@@ -11,12 +11,6 @@ use Rattle.rules_class.specs.LiveLaws.{says-superclass-late}
 use Rattle.rules_class.proofs.live.superclass_late.Statement.{statement}
 use Rattle.rules_class.proofs.live.superclass_late.Tie as tie
 
-superclass-requires : tie.Need-superclass-requires
-superclass-requires c κs = search needs
-
-enum-known-read : tie.Need-enum-known-read
-enum-known-read c = search needs
-
 enum-told : tie.Need-enum-told
 enum-told c = search needs
 
@@ -53,4 +47,4 @@ returns-3 c =
 
 pub superclass-late-spec : {M : Type 1} → statement M
 superclass-late-spec =
-    tie.close (tie.spec superclass-requires enum-known-read enum-told returns returns-2 returns-3)
+    tie.close (tie.spec (λ c κs. search needs) (λ c. search needs) enum-told returns returns-2 returns-3)

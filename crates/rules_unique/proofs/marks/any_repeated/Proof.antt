@@ -125,15 +125,6 @@ returns c =
     (c₄ .id-at .result))) x (c₆ .loop .marks) && taken everyRow (start .args .key) m (tableOf (c₄ .id-at .result)) (numberOf (c₄ .id-at .result))) (sym
     (c₂ .key-mark .ensures ∙ ap (keyMark (start .args .key)) (c₃ .schema-row .ensures))) ∙ sym (c₁ .is-repeated .ensures) ∙ c .if1 .taken)))
 
-insert-requires : tie.Need-insert-requires Inv-loop μ-loop
-insert-requires c κs = search needs
-
-add-p : tie.Need-add-p Inv-loop μ-loop
-add-p c = search needs
-
-loop-less : tie.Need-loop-less Inv-loop μ-loop
-loop-less c = search needs
-
 loop-again : tie.Need-loop-again Inv-loop μ-loop
 loop-again c =
     let c₁ = c .before .before in
@@ -195,9 +186,7 @@ any-repeated-spec =
     is-repeated-requires
     same-length
     returns
-    insert-requires
-    add-p
-    loop-less
+    (λ c κs. search needs) (λ c. search needs) (λ c. search needs)
     loop-again
     same-length-2
     returns-2)

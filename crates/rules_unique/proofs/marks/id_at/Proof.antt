@@ -4,19 +4,17 @@ use Rattle.rules_unique.specs.Marks.{placeId}
 use Rattle.rules_unique.proofs.marks.id_at.Statement.{statement}
 use Rattle.rules_unique.proofs.marks.id_at.Tie as tie
 
-row-id-requires : tie.Need-row-id-requires
-row-id-requires c κs = search needs
-
 returns : tie.Need-returns
 unfolding placeId
 returns c = rw (lt-ltb _ _ (c .before .if1 .taken)) (c .row-id .ensures)
-
-row-id-requires-2 : tie.Need-row-id-requires-2
-row-id-requires-2 c κs = search needs
 
 returns-2 : tie.Need-returns-2
 unfolding placeId
 returns-2 c = rw (le-ltb _ _ (c .before .if1 .left)) (c .row-id2 .ensures)
 
 pub id-at-spec : {M : Type 1} → statement M
-id-at-spec = tie.close (tie.spec row-id-requires returns row-id-requires-2 returns-2)
+id-at-spec = tie.close (tie.spec
+    (λ c κs. search needs)
+    returns
+    (λ c κs. search needs)
+    returns-2)

@@ -7,22 +7,10 @@ use Rattle.rules_unique.proofs.marks.is_absent.Tie as tie
 enum-told : tie.Need-enum-told
 enum-told c = search needs
 
-enum-told-2 : tie.Need-enum-told-2
-enum-told-2 c = search needs
-
-enum-told-3 : tie.Need-enum-told-3
-enum-told-3 c = search needs
-
-enum-told-4 : tie.Need-enum-told-4
-enum-told-4 c = search needs
-
 mapi-requires : tie.Need-mapi-requires
 mapi-requires c κs =
     let start = c .before .before .before in
     omega (arith, start .pre .wide)
-
-enum-told-5 : tie.Need-enum-told-5
-enum-told-5 c = search needs
 
 link-requires : tie.Need-link-requires
 link-requires c κs =
@@ -58,11 +46,9 @@ is-absent-spec =
     tie.close
     (tie.spec
     enum-told
-    enum-told-2
-    enum-told-3
-    enum-told-4
+    (λ c. search needs) (λ c. search needs) (λ c. search needs)
     mapi-requires
-    enum-told-5
+    (λ c. search needs)
     link-requires
     returns
     returns-2

@@ -4,17 +4,11 @@ use borrow.Author.Needs.{needs}
 use Rattle.rules_unique.proofs.marks.is_met.Statement.{statement}
 use Rattle.rules_unique.proofs.marks.is_met.Tie as tie
 
-is-absent-requires : tie.Need-is-absent-requires
-is-absent-requires c κs = search needs
-
 returns : tie.Need-returns
 unfolding met
 returns c =
     let c₁ = c .before in
     rw (sym (c₁ .is-absent .ensures) ∙ c .if1 .taken)
-
-has-requires : tie.Need-has-requires
-has-requires c κs = search needs
 
 returns-2 : tie.Need-returns-2
 unfolding met
@@ -27,7 +21,7 @@ pub is-met-spec : {M : Type 1} → statement M
 is-met-spec =
     tie.close
     (tie.spec
-    is-absent-requires
+    (λ c κs. search needs)
     returns
-    has-requires
+    (λ c κs. search needs)
     returns-2)

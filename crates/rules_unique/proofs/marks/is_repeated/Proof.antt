@@ -20,9 +20,6 @@ is-met-requires c κs =
     let start = c .before .before .before .before in
     rw (c .schema-row .ensures) (schema-keyed (start .pre .0) (tableOf (start .args .id)) (numberOf (start .args .id)) (start .pre .1))
 
-is-taken-requires : tie.Need-is-taken-requires
-is-taken-requires c κs = search needs
-
 returns : tie.Need-returns
 returns c =
     let c₁ = c .before in
@@ -42,6 +39,6 @@ is-repeated-spec =
     (tie.spec
     schema-row-requires
     is-met-requires
-    is-taken-requires
+    (λ c κs. search needs)
     returns
     returns-2)

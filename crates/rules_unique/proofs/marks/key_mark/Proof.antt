@@ -12,52 +12,25 @@ name-requires c κs =
     let start = c .before .before .before in
     (omega (arith, start .pre .wide), start .pre .name)
 
-mark-of-requires : tie.Need-mark-of-requires
-mark-of-requires c κs = search needs
-
-enum-told-2 : tie.Need-enum-told-2
-enum-told-2 c = search needs
-
 identifier-requires : tie.Need-identifier-requires
 identifier-requires c κs =
     let start = c .before .before .before in
     (omega (arith, start .pre .wide), start .pre .arcs)
-
-mark-of-requires-2 : tie.Need-mark-of-requires-2
-mark-of-requires-2 c κs = search needs
-
-enum-told-3 : tie.Need-enum-told-3
-enum-told-3 c = search needs
 
 guid-requires : tie.Need-guid-requires
 guid-requires c κs =
     let start = c .before .before .before in
     omega (arith, start .pre .wide)
 
-mark-of-requires-3 : tie.Need-mark-of-requires-3
-mark-of-requires-3 c κs = search needs
-
-enum-told-4 : tie.Need-enum-told-4
-enum-told-4 c = search needs
-
 mapi-requires : tie.Need-mapi-requires
 mapi-requires c κs =
     let start = c .before .before .before in
     omega (arith, start .pre .wide)
 
-cast-result : tie.Need-cast-result
-cast-result c = search needs
-
-enum-told-5 : tie.Need-enum-told-5
-enum-told-5 c = search needs
-
 link-requires : tie.Need-link-requires
 link-requires c κs =
     let start = c .before .before .before in
     omega (arith, start .pre .wide)
-
-cast-result-2 : tie.Need-cast-result-2
-cast-result-2 c = search needs
 
 returns : tie.Need-returns
 unfolding keyMark
@@ -98,19 +71,15 @@ key-mark-spec =
     (tie.spec
     enum-told
     name-requires
-    mark-of-requires
-    enum-told-2
+    (λ c κs. search needs) (λ c. search needs)
     identifier-requires
-    mark-of-requires-2
-    enum-told-3
+    (λ c κs. search needs) (λ c. search needs)
     guid-requires
-    mark-of-requires-3
-    enum-told-4
+    (λ c κs. search needs) (λ c. search needs)
     mapi-requires
-    cast-result
-    enum-told-5
+    (λ c. search needs) (λ c. search needs)
     link-requires
-    cast-result-2
+    (λ c. search needs)
     returns
     returns-2
     returns-3

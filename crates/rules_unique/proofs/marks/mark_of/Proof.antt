@@ -19,9 +19,6 @@ loop-holds : tie.Need-loop-holds Inv-loop μ-loop
 unfolding markOf
 loop-holds c = (search needs, refl)
 
-byte-at-requires : tie.Need-byte-at-requires Inv-loop μ-loop
-byte-at-requires c κs = search needs
-
 mul-mark : tie.Need-mul-mark Inv-loop μ-loop
 mul-mark c =
     let c₁ = c .before .before in
@@ -42,12 +39,6 @@ add-mark c =
       and-le-l (c .byte-at .result)
           (start .args .mask),
     )
-
-add-i : tie.Need-add-i Inv-loop μ-loop
-add-i c = search needs
-
-loop-less : tie.Need-loop-less Inv-loop μ-loop
-loop-less c = search needs
 
 loop-again : tie.Need-loop-again Inv-loop μ-loop
 loop-again c =
@@ -72,11 +63,10 @@ mark-of-spec =
     Inv-loop
     μ-loop
     loop-holds
-    byte-at-requires
+    (λ c κs. search needs)
     mul-mark
     cast-mark
     add-mark
-    add-i
-    loop-less
+    (λ c. search needs) (λ c. search needs)
     loop-again
     returns)

@@ -10,9 +10,6 @@ row-count-requires c κs =
     let start = c .before .before in
     start .pre .attributes .long
 
-has-key-requires : tie.Need-has-key-requires
-has-key-requires c κs = search needs
-
 row-count-requires-2 : tie.Need-row-count-requires-2
 row-count-requires-2 c κs =
     let start = c .before .before .before .before .before in
@@ -44,7 +41,7 @@ place-count-spec =
     tie.close
     (tie.spec
     row-count-requires
-    has-key-requires
+    (λ c κs. search needs)
     row-count-requires-2
     add-result
     returns

@@ -3,15 +3,6 @@ use Rattle.schema.specs.AttributeRow.{boundAt}
 use Rattle.schema.proofs.attribute.bound_at.Statement.{statement}
 use Rattle.schema.proofs.attribute.bound_at.Tie as tie
 
-flag-requires : tie.Need-flag-requires
-flag-requires c κs = search needs
-
-add-read-u32 : tie.Need-add-read-u32
-add-read-u32 c = search needs
-
-read-u32-requires : tie.Need-read-u32-requires
-read-u32-requires c κs = search needs
-
 returns : tie.Need-returns
 unfolding boundAt
 returns c =
@@ -24,4 +15,7 @@ unfolding boundAt
 returns-2 c = rw (← (c .before .flag .ensures), c .if1 .left)
 
 pub bound-at-spec : {M : Type 1} → statement M
-bound-at-spec = tie.close (tie.spec flag-requires add-read-u32 read-u32-requires returns returns-2)
+bound-at-spec = tie.close (tie.spec
+    (λ c κs. search needs) (λ c. search needs) (λ c κs. search needs)
+    returns
+    returns-2)

@@ -13,29 +13,11 @@ use Rattle.schema.proofs.class.naming_attribute.Tie as tie
 known : (b : ℕ) → b < attributeLimit → attributeRead b ≡ Attribute (record { 0 = b })
 known b l = rw (lt-ltb b attributeLimit l)
 
-flag-requires : tie.Need-flag-requires
-flag-requires c κs = search needs
-
 returns : tie.Need-returns
 unfolding namingOf
 returns c =
     let c₁ = c .before in
     rw (← (c₁ .flag .ensures), not-true (c₁ .flag .result) (c .if1 .taken))
-
-add-byte-at : tie.Need-add-byte-at
-add-byte-at c = search needs
-
-byte-at-requires : tie.Need-byte-at-requires
-byte-at-requires c κs = search needs
-
-cast-new : tie.Need-cast-new
-cast-new c = search needs
-
-new-requires : tie.Need-new-requires
-new-requires c κs = search needs
-
-enum-known-a : tie.Need-enum-known-a
-enum-known-a c = search needs
 
 enum-told : tie.Need-enum-told
 enum-told c = search needs
@@ -68,13 +50,9 @@ pub naming-attribute-spec : {M : Type 1} → statement M
 naming-attribute-spec =
     tie.close
     (tie.spec
-    flag-requires
+    (λ c κs. search needs)
     returns
-    add-byte-at
-    byte-at-requires
-    cast-new
-    new-requires
-    enum-known-a
+    (λ c. search needs) (λ c κs. search needs) (λ c. search needs) (λ c κs. search needs) (λ c. search needs)
     enum-told
     returns-2
     returns-3)

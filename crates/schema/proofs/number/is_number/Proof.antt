@@ -5,14 +5,8 @@ use Rattle.schema.specs.NumbersLaws.{number-is, number-beyond}
 use Rattle.schema.proofs.number.is_number.Statement.{statement}
 use Rattle.schema.proofs.number.is_number.Tie as tie
 
-number-read-requires : tie.Need-number-read-requires
-number-read-requires c κs = search needs
-
 enum-told : tie.Need-enum-told
 enum-told c = search needs
-
-enum-told-2 : tie.Need-enum-told-2
-enum-told-2 c = search needs
 
 returns : tie.Need-returns
 returns c =
@@ -27,4 +21,9 @@ returns-2 c =
     sym (lt-ltb _ _ (number-is (start .args .table) (start .args .n) (sym (c₁ .number-read .ensures) ∙ c .enum-told .given .1) .1))
 
 pub is-number-spec : {M : Type 1} → statement M
-is-number-spec = tie.close (tie.spec number-read-requires enum-told enum-told-2 returns returns-2)
+is-number-spec = tie.close (tie.spec
+    (λ c κs. search needs)
+    enum-told
+    (λ c. search needs)
+    returns
+    returns-2)

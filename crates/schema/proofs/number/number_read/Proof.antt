@@ -41,15 +41,6 @@ class-read n = go (ltb n classLimit)
 enum-told : tie.Need-enum-told
 enum-told c = search needs
 
-new-requires : tie.Need-new-requires
-new-requires c κs = search needs
-
-enum-known-a : tie.Need-enum-known-a
-enum-known-a c = search needs
-
-enum-told-2 : tie.Need-enum-told-2
-enum-told-2 c = search needs
-
 returns : tie.Need-returns
 returns c =
     let c₁ = c .before .before in
@@ -57,18 +48,6 @@ returns c =
     let start = c₂ .before .before in
     ap asAttribute (sym (c .enum-told2 .given .1) ∙ c₁ .new .ensures) ∙ attribute-read (start .args .n) ∙ ap (λ t. numberRead t (start .args .n))
     (sym (c₂ .enum-told .given .1))
-
-enum-told-3 : tie.Need-enum-told-3
-enum-told-3 c = search needs
-
-new-requires-2 : tie.Need-new-requires-2
-new-requires-2 c κs = search needs
-
-enum-known-c : tie.Need-enum-known-c
-enum-known-c c = search needs
-
-enum-told-4 : tie.Need-enum-told-4
-enum-told-4 c = search needs
 
 returns-2 : tie.Need-returns-2
 returns-2 c =
@@ -101,14 +80,9 @@ number-read-spec =
     tie.close
     (tie.spec
     enum-told
-    new-requires
-    enum-known-a
-    enum-told-2
+    (λ c κs. search needs) (λ c. search needs) (λ c. search needs)
     returns
-    enum-told-3
-    new-requires-2
-    enum-known-c
-    enum-told-4
+    (λ c. search needs) (λ c κs. search needs) (λ c. search needs) (λ c. search needs)
     returns-2
     returns-3
     returns-4)

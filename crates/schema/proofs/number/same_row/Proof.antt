@@ -4,21 +4,6 @@ use borrow.Author.Needs.{needs}
 use Rattle.schema.proofs.number.same_row.Statement.{statement}
 use Rattle.schema.proofs.number.same_row.Tie as tie
 
-table-of-requires : tie.Need-table-of-requires
-table-of-requires c κs = search needs
-
-table-of-requires-2 : tie.Need-table-of-requires-2
-table-of-requires-2 c κs = search needs
-
-same-table-requires : tie.Need-same-table-requires
-same-table-requires c κs = search needs
-
-number-of-requires : tie.Need-number-of-requires
-number-of-requires c κs = search needs
-
-number-of-requires-2 : tie.Need-number-of-requires-2
-number-of-requires-2 c κs = search needs
-
 returns : tie.Need-returns
 unfolding sameRow
 returns c =
@@ -42,10 +27,6 @@ pub same-row-spec : {M : Type 1} → statement M
 same-row-spec =
     tie.close
     (tie.spec
-    table-of-requires
-    table-of-requires-2
-    same-table-requires
-    number-of-requires
-    number-of-requires-2
+    (λ c κs. search needs) (λ c κs. search needs) (λ c κs. search needs) (λ c κs. search needs) (λ c κs. search needs)
     returns
     returns-2)

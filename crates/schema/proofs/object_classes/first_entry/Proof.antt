@@ -41,12 +41,6 @@ returns c =
     (first-found (λ (j : ℕ). eqb (entrySyntax (start .args .table .now) j) (start .args .syntax)) (c₃ .loop .i) entryCount (search needs)
     (c₃ .loop .inv .1) (rw (← (c₂ .row-of .ensures), ← (c₁ .byte-at .ensures)) (eq-eqb _ _ (c .if1 .taken))))
 
-add-i : tie.Need-add-i Inv-loop μ-loop
-add-i c = search needs
-
-loop-less : tie.Need-loop-less Inv-loop μ-loop
-loop-less c = search needs
-
 loop-again : tie.Need-loop-again Inv-loop μ-loop
 loop-again c =
     let c₁ = c .before in
@@ -78,7 +72,6 @@ first-entry-spec =
     row-of-requires
     byte-at-requires
     returns
-    add-i
-    loop-less
+    (λ c. search needs) (λ c. search needs)
     loop-again
     returns-2)

@@ -8,9 +8,6 @@ use Rattle.schema.specs.Store.{anyShort}
 use Rattle.schema.proofs.store.any_short.Statement.{statement}
 use Rattle.schema.proofs.store.any_short.Tie as tie
 
-store-length-requires : tie.Need-store-length-requires
-store-length-requires c κs = search needs
-
 returns : tie.Need-returns
 unfolding anyShort
 returns c =
@@ -18,9 +15,6 @@ returns c =
     let start = c₁ .before .before .before .before in
     rw
     (lt-ltb (length (start .args .attributes .now)) (storeLength Attributes) (omega (arith, c .if1 .taken, c₁ .store-length .ensures)))
-
-store-length-requires-2 : tie.Need-store-length-requires-2
-store-length-requires-2 c κs = search needs
 
 returns-2 : tie.Need-returns-2
 unfolding anyShort
@@ -50,4 +44,4 @@ returns-3 c =
 
 pub any-short-spec : {M : Type 1} → statement M
 any-short-spec =
-    tie.close (tie.spec store-length-requires returns store-length-requires-2 returns-2 returns-3)
+    tie.close (tie.spec (λ c κs. search needs) returns (λ c κs. search needs) returns-2 returns-3)

@@ -7,12 +7,6 @@ use borrow.Author.Needs.{needs}
 use Rattle.schema.proofs.store.closure_row.Statement.{statement}
 use Rattle.schema.proofs.store.closure_row.Tie as tie
 
-closure-start-requires : tie.Need-closure-start-requires
-closure-start-requires c κs = search needs
-
-part-of-requires : tie.Need-part-of-requires
-part-of-requires c κs = search needs
-
 returns : tie.Need-returns
 returns c =
     let c₁ = c .before in
@@ -21,4 +15,6 @@ returns c =
     ap (λ (x : ℕ). part x closureWidth (start .args .closure .now)) e
 
 pub closure-row-spec : {M : Type 1} → statement M
-closure-row-spec = tie.close (tie.spec closure-start-requires part-of-requires returns)
+closure-row-spec = tie.close (tie.spec
+    (λ c κs. search needs) (λ c κs. search needs)
+    returns)

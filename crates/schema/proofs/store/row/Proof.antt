@@ -9,15 +9,6 @@ use borrow.Author.Needs.{needs}
 use Rattle.schema.proofs.store.row.Statement.{statement}
 use Rattle.schema.proofs.store.row.Tie as tie
 
-row-start-requires : tie.Need-row-start-requires
-row-start-requires c κs = search needs
-
-table-of-requires : tie.Need-table-of-requires
-table-of-requires c κs = search needs
-
-row-width-requires : tie.Need-row-width-requires
-row-width-requires c κs = search needs
-
 part-of-requires : tie.Need-part-of-requires
 part-of-requires c κs =
     let c₁ = c .before in
@@ -38,5 +29,4 @@ returns c =
 
 pub row-spec : {M : Type 1} → statement M
 row-spec =
-    tie.close
-    (tie.spec row-start-requires table-of-requires row-width-requires part-of-requires returns)
+    tie.close (tie.spec (λ c κs. search needs) (λ c κs. search needs) (λ c κs. search needs) part-of-requires returns)

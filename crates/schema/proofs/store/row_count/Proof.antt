@@ -5,21 +5,6 @@ use Rattle.schema.proofs.store.row_count.Tie as tie
 enum-told : tie.Need-enum-told
 enum-told c = search needs
 
-read-u16-requires : tie.Need-read-u16-requires
-read-u16-requires c κs = search needs
-
-cast-result : tie.Need-cast-result
-cast-result c = search needs
-
-enum-told-2 : tie.Need-enum-told-2
-enum-told-2 c = search needs
-
-byte-at-requires : tie.Need-byte-at-requires
-byte-at-requires c κs = search needs
-
-cast-result-2 : tie.Need-cast-result-2
-cast-result-2 c = search needs
-
 returns : tie.Need-returns
 returns c = rw (c .before .enum-told .given .1) (c .read-u16 .ensures)
 
@@ -31,10 +16,6 @@ row-count-spec =
     tie.close
     (tie.spec
     enum-told
-    read-u16-requires
-    cast-result
-    enum-told-2
-    byte-at-requires
-    cast-result-2
+    (λ c κs. search needs) (λ c. search needs) (λ c. search needs) (λ c κs. search needs) (λ c. search needs)
     returns
     returns-2)

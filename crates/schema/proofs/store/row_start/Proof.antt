@@ -13,15 +13,6 @@ start-small : (id : RowId) → numberOf id < limit (tableOf id) → rowWidth (ta
 start-small (Attribute a) l = omega (arith, l)
 start-small (Class c) l = omega (arith, l)
 
-table-of-requires : tie.Need-table-of-requires
-table-of-requires c κs = search needs
-
-row-width-requires : tie.Need-row-width-requires
-row-width-requires c κs = search needs
-
-number-of-requires : tie.Need-number-of-requires
-number-of-requires c κs = search needs
-
 mul-result : tie.Need-mul-result
 mul-result c =
     let c₁ = c .before in
@@ -52,9 +43,7 @@ pub row-start-spec : {M : Type 1} → statement M
 row-start-spec =
     tie.close
     (tie.spec
-    table-of-requires
-    row-width-requires
-    number-of-requires
+    (λ c κs. search needs) (λ c κs. search needs) (λ c κs. search needs)
     mul-result
     add-result
     returns)

@@ -2,16 +2,10 @@ use borrow.Author.Needs.{needs}
 use Rattle.schema.proofs.store.schema_row.Statement.{statement}
 use Rattle.schema.proofs.store.schema_row.Tie as tie
 
-enum-known-id : tie.Need-enum-known-id
-enum-known-id c = search needs
-
 attribute-row-requires : tie.Need-attribute-row-requires
 attribute-row-requires c κs =
     let c₁ = c .before in
     let start = c₁ .before .before .before .before in (start .pre .0, rw (c₁ .id .given .1) at (start .pre .2))
-
-enum-known-id-2 : tie.Need-enum-known-id-2
-enum-known-id-2 c = search needs
 
 class-row-requires : tie.Need-class-row-requires
 class-row-requires c κs =
@@ -28,9 +22,9 @@ pub schema-row-spec : {M : Type 1} → statement M
 schema-row-spec =
     tie.close
     (tie.spec
-    enum-known-id
+    (λ c. search needs)
     attribute-row-requires
-    enum-known-id-2
+    (λ c. search needs)
     class-row-requires
     returns
     returns-2)

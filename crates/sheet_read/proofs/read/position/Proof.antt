@@ -6,15 +6,6 @@ use Rattle.sheet_read.proofs.read.position.Tie as tie
 enum-told : tie.Need-enum-told
 enum-told c = search needs
 
-enum-known-phase : tie.Need-enum-known-phase
-enum-known-phase c = search needs
-
-enum-told-2 : tie.Need-enum-told-2
-enum-told-2 c = search needs
-
-enum-told-3 : tie.Need-enum-told-3
-enum-told-3 c = search needs
-
 returns : tie.Need-returns
 unfolding position
 returns c = rw (c .enum-told .given .1)
@@ -30,4 +21,9 @@ returns-3 c = rw (c .before .before .before .phase .given .1, c .enum-told3 .giv
 pub position-spec : {M : Type 1} → statement M
 position-spec =
     tie.close
-    (tie.spec enum-told enum-known-phase enum-told-2 enum-told-3 returns returns-2 returns-3)
+    (tie.spec
+    enum-told
+    (λ c. search needs) (λ c. search needs) (λ c. search needs)
+    returns
+    returns-2
+    returns-3)

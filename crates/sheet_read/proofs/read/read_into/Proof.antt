@@ -10,15 +10,6 @@ use borrow.Author.Needs.{needs}
 use Rattle.sheet_read.proofs.read.read_into.Statement.{statement}
 use Rattle.sheet_read.proofs.read.read_into.Tie as tie
 
-row-width-requires : tie.Need-row-width-requires
-row-width-requires c κs = search needs
-
-sub-read-row : tie.Need-sub-read-row
-sub-read-row c = search needs
-
-part-read-row-start : tie.Need-part-read-row-start
-part-read-row-start c = search needs
-
 part-read-row-end : tie.Need-part-read-row-end
 part-read-row-end c =
     let start = c .before .before .before .before in
@@ -42,12 +33,6 @@ read-row-requires c κs =
 enum-told : tie.Need-enum-told
 enum-told c = search needs
 
-enum-told-2 : tie.Need-enum-told-2
-enum-told-2 c = search needs
-
-same-length : tie.Need-same-length
-same-length c = search needs
-
 returns : tie.Need-returns
 returns c =
     let c₁ = c .before .before .before .before in
@@ -58,12 +43,6 @@ returns c =
     read-in-no (begin .args .table) (begin .args .s .now) (begin .args .start) (begin .args .stop) (c₂ .row-width .result) (begin .args .scratch .now)
     (c₂ .row-width .ensures) (begin .pre .0 .2) (c₁ .read-row .result) row (c₁ .read-row .ensures .0)
     (c₁ .read-row .ensures .1) _ (c .enum-told2 .given .1) (begin .args .store .now)
-
-sub-push-row : tie.Need-sub-push-row
-sub-push-row c = search needs
-
-part-push-row-start : tie.Need-part-push-row-start
-part-push-row-start c = search needs
 
 part-push-row-end : tie.Need-part-push-row-end
 part-push-row-end c =
@@ -76,15 +55,6 @@ part-push-row-end c =
     let kept = c₁ .read-row .kept .1 .1 in
     front-room (start .args .table) (c₂ .row-width .result) scratch (c₂ .row-width .ensures) (start .pre .0 .2) row (kept .1 .1 .0)
     (drop (c₂ .row-width .result - 0) scratch)
-
-push-row-requires : tie.Need-push-row-requires
-push-row-requires c κs = search needs
-
-same-length-2 : tie.Need-same-length-2
-same-length-2 c = search needs
-
-same-length-3 : tie.Need-same-length-3
-same-length-3 c = search needs
 
 returns-2 : tie.Need-returns-2
 returns-2 c =
@@ -108,19 +78,13 @@ pub read-into-spec : {M : Type 1} → statement M
 read-into-spec =
     tie.close
     (tie.spec
-    row-width-requires
-    sub-read-row
-    part-read-row-start
+    (λ c κs. search needs) (λ c. search needs) (λ c. search needs)
     part-read-row-end
     read-row-requires
     enum-told
-    enum-told-2
-    same-length
+    (λ c. search needs) (λ c. search needs)
     returns
-    sub-push-row
-    part-push-row-start
+    (λ c. search needs) (λ c. search needs)
     part-push-row-end
-    push-row-requires
-    same-length-2
-    same-length-3
+    (λ c κs. search needs) (λ c. search needs) (λ c. search needs)
     returns-2)

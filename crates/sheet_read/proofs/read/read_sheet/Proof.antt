@@ -19,16 +19,10 @@ Inv-loop s attributes₀ classes₀ at₀ phase₀ missing₀ attributes classes
 abbrev μ-loop : tie.MeasureT-loop
 μ-loop s attributes₀ classes₀ at₀ phase₀ missing₀ attributes classes at phase missing = length s - at
 
-store-length-requires : tie.Need-store-length-requires Inv-loop μ-loop
-store-length-requires c κs = search needs
-
 empty-requires : tie.Need-empty-requires Inv-loop μ-loop
 empty-requires c κs =
     let start = c .before .before .before .before .before in
     omega (arith, c .store-length .ensures, start .pre .attributes)
-
-store-length-requires-2 : tie.Need-store-length-requires-2 Inv-loop μ-loop
-store-length-requires-2 c κs = search needs
 
 empty-requires-2 : tie.Need-empty-requires-2 Inv-loop μ-loop
 empty-requires-2 c κs =
@@ -49,9 +43,6 @@ loop-holds c =
       refl,
     )
 
-ends-at-requires : tie.Need-ends-at-requires Inv-loop μ-loop
-ends-at-requires c κs = search needs
-
 take-field-requires : tie.Need-take-field-requires Inv-loop μ-loop
 take-field-requires c κs =
     let c₁ = c .before .before in
@@ -65,14 +56,8 @@ take-field-requires c κs =
       },
     )
 
-enum-known-turn : tie.Need-enum-known-turn Inv-loop μ-loop
-enum-known-turn c = search needs
-
 enum-told : tie.Need-enum-told Inv-loop μ-loop
 enum-told c = search needs
-
-stopped-requires : tie.Need-stopped-requires Inv-loop μ-loop
-stopped-requires c κs = search needs
 
 same-length : tie.Need-same-length Inv-loop μ-loop
 same-length c =
@@ -205,16 +190,16 @@ read-sheet-spec =
     (tie.spec
     Inv-loop
     μ-loop
-    store-length-requires
+    (λ c κs. search needs)
     empty-requires
-    store-length-requires-2
+    (λ c κs. search needs)
     empty-requires-2
     loop-holds
-    ends-at-requires
+    (λ c κs. search needs)
     take-field-requires
-    enum-known-turn
+    (λ c. search needs)
     enum-told
-    stopped-requires
+    (λ c κs. search needs)
     same-length
     same-length-2
     returns

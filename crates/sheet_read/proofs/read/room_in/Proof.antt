@@ -5,16 +5,10 @@ use borrow.Author.Needs.{needs}
 use Rattle.sheet_read.proofs.read.room_in.Statement.{statement}
 use Rattle.sheet_read.proofs.read.room_in.Tie as tie
 
-enum-known-tag : tie.Need-enum-known-tag
-enum-known-tag c = search needs
-
 returns : tie.Need-returns
 returns c =
     let start = c .before .before .before in
     no-row (start .args .tag) (start .args .attributes .now) (start .args .classes .now) (c .match .keys2)
-
-store-of-requires : tie.Need-store-of-requires
-store-of-requires c κs = search needs
 
 row-count-requires : tie.Need-row-count-requires
 row-count-requires c κs =
@@ -22,9 +16,6 @@ row-count-requires c κs =
     let start = c₁ .before .before .before .before in
     rw (c .store-of .ensures)
     (lent-table (start .pre) (c₁ .tag .given .0 .0))
-
-row-limit-requires : tie.Need-row-limit-requires
-row-limit-requires c κs = search needs
 
 returns-2 : tie.Need-returns-2
 returns-2 c =
@@ -50,10 +41,10 @@ pub room-in-spec : {M : Type 1} → statement M
 room-in-spec =
     tie.close
     (tie.spec
-    enum-known-tag
+    (λ c. search needs)
     returns
-    store-of-requires
+    (λ c κs. search needs)
     row-count-requires
-    row-limit-requires
+    (λ c κs. search needs)
     returns-2
     returns-3)

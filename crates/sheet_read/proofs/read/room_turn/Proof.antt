@@ -3,9 +3,6 @@ use borrow.Author.Needs.{needs}
 use Rattle.sheet_read.proofs.read.room_turn.Statement.{statement}
 use Rattle.sheet_read.proofs.read.room_turn.Tie as tie
 
-enum-known-room : tie.Need-enum-known-room
-enum-known-room c = search needs
-
 enum-told : tie.Need-enum-told
 enum-told c = search needs
 
@@ -18,4 +15,8 @@ unfolding roomTurn
 returns-2 c = rw (c .enum-told .given .1)
 
 pub room-turn-spec : {M : Type 1} → statement M
-room-turn-spec = tie.close (tie.spec enum-known-room enum-told returns returns-2)
+room-turn-spec = tie.close (tie.spec
+    (λ c. search needs)
+    enum-told
+    returns
+    returns-2)

@@ -6,9 +6,6 @@ use Rattle.sheet_read.proofs.read.stopped.Tie as tie
 enum-told : tie.Need-enum-told
 enum-told c = search needs
 
-enum-known-turn : tie.Need-enum-known-turn
-enum-known-turn c = search needs
-
 returns : tie.Need-returns
 unfolding stopped
 returns c = rw (c .enum-told .given .1)
@@ -18,4 +15,8 @@ unfolding stopped
 returns-2 c = rw (c .before .turn .given .1)
 
 pub stopped-spec : {M : Type 1} → statement M
-stopped-spec = tie.close (tie.spec enum-told enum-known-turn returns returns-2)
+stopped-spec = tie.close (tie.spec
+    enum-told
+    (λ c. search needs)
+    returns
+    returns-2)

@@ -10,29 +10,8 @@ use borrow.Author.Needs.{needs}
 use Rattle.sheet_read.proofs.read.take_field.Statement.{statement}
 use Rattle.sheet_read.proofs.read.take_field.Tie as tie
 
-step-at-requires : tie.Need-step-at-requires
-step-at-requires c κs = search needs
-
-sheet-tag-requires : tie.Need-sheet-tag-requires
-sheet-tag-requires c κs = search needs
-
-room-in-requires : tie.Need-room-in-requires
-room-in-requires c κs = search needs
-
 enum-told : tie.Need-enum-told
 enum-told c = search needs
-
-enum-told-2 : tie.Need-enum-told-2
-enum-told-2 c = search needs
-
-room-turn-requires : tie.Need-room-turn-requires
-room-turn-requires c κs = search needs
-
-same-length : tie.Need-same-length
-same-length c = search needs
-
-same-length-2 : tie.Need-same-length-2
-same-length-2 c = search needs
 
 returns : tie.Need-returns
 returns c =
@@ -49,15 +28,6 @@ returns c =
     as-step (takeField s at phase missing) _ (start .args .attributes .now) (start .args .classes .now) (λ x a c′ h. ap (λ turn. step turn x)
     (c .room-turn .ensures) ∙ step-full s at phase missing h _ tag _ (c₂ .room-in .ensures)
     (λ q. (let e = c₁ .enum-told2 .given .1 in let no : _≡_ {A = ℕ} 0 1 = cc in omega arith)))
-
-enum-known-field : tie.Need-enum-known-field
-enum-known-field c = search needs
-
-same-length-3 : tie.Need-same-length-3
-same-length-3 c = search needs
-
-same-length-4 : tie.Need-same-length-4
-same-length-4 c = search needs
 
 returns-2 : tie.Need-returns-2
 returns-2 c =
@@ -92,12 +62,6 @@ take-tagged-requires c κs =
       (start .pre .1 .lent, free-room _ attributes classes (start .pre .1 .few) (sym (c₃ .room-in .ensures) ∙ c₂ .enum-told .given .1)),
     )
 
-same-length-5 : tie.Need-same-length-5
-same-length-5 c = search needs
-
-same-length-6 : tie.Need-same-length-6
-same-length-6 c = search needs
-
 returns-3 : tie.Need-returns-3
 returns-3 c =
     let c₁ = c .before .before .before .before in
@@ -126,20 +90,12 @@ pub take-field-spec : {M : Type 1} → statement M
 take-field-spec =
     tie.close
     (tie.spec
-    step-at-requires
-    sheet-tag-requires
-    room-in-requires
+    (λ c κs. search needs) (λ c κs. search needs) (λ c κs. search needs)
     enum-told
-    enum-told-2
-    room-turn-requires
-    same-length
-    same-length-2
+    (λ c. search needs) (λ c κs. search needs) (λ c. search needs) (λ c. search needs)
     returns
-    enum-known-field
-    same-length-3
-    same-length-4
+    (λ c. search needs) (λ c. search needs) (λ c. search needs)
     returns-2
     take-tagged-requires
-    same-length-5
-    same-length-6
+    (λ c. search needs) (λ c. search needs)
     returns-3)

@@ -4,12 +4,6 @@ use borrow.Author.Needs.{needs}
 use Rattle.sheet_read.proofs.read.take_heading.Statement.{statement}
 use Rattle.sheet_read.proofs.read.take_heading.Tie as tie
 
-position-requires : tie.Need-position-requires
-position-requires c κs = search needs
-
-is-heading-requires : tie.Need-is-heading-requires
-is-heading-requires c κs = search needs
-
 returns : tie.Need-returns
 returns c =
     let c₁ = c .before in
@@ -39,4 +33,4 @@ returns-3 c =
 
 pub take-heading-spec : {M : Type 1} → statement M
 take-heading-spec =
-    tie.close (tie.spec position-requires is-heading-requires returns returns-2 returns-3)
+    tie.close (tie.spec (λ c κs. search needs) (λ c κs. search needs) returns returns-2 returns-3)

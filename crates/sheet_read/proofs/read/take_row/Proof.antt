@@ -6,9 +6,6 @@ use borrow.Author.Needs.{needs}
 use Rattle.sheet_read.proofs.read.take_row.Statement.{statement}
 use Rattle.sheet_read.proofs.read.take_row.Tie as tie
 
-slice-aggregate-read-into : tie.Need-slice-aggregate-read-into
-slice-aggregate-read-into c = search needs
-
 read-into-requires : tie.Need-read-into-requires
 unfolding zeros
 read-into-requires c κs =
@@ -17,15 +14,6 @@ read-into-requires c κs =
 
 enum-told : tie.Need-enum-told
 enum-told c = search needs
-
-enum-told-2 : tie.Need-enum-told-2
-enum-told-2 c = search needs
-
-place-of-requires : tie.Need-place-of-requires
-place-of-requires c κs = search needs
-
-same-length : tie.Need-same-length
-same-length c = search needs
 
 returns : tie.Need-returns
 returns c =
@@ -36,9 +24,6 @@ returns c =
           ap (rowTurn (start .args .table) (start .args .stop) (start .args .missing)) (c₂ .read-into .ensures .0),
       c₂ .read-into .ensures .1,
     )
-
-same-length-2 : tie.Need-same-length-2
-same-length-2 c = search needs
 
 returns-2 : tie.Need-returns-2
 returns-2 c =
@@ -53,12 +38,10 @@ pub take-row-spec : {M : Type 1} → statement M
 take-row-spec =
     tie.close
     (tie.spec
-    slice-aggregate-read-into
+    (λ c. search needs)
     read-into-requires
     enum-told
-    enum-told-2
-    place-of-requires
-    same-length
+    (λ c. search needs) (λ c κs. search needs) (λ c. search needs)
     returns
-    same-length-2
+    (λ c. search needs)
     returns-2)

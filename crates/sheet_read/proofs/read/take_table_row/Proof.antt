@@ -14,17 +14,11 @@ take-row-requires c κs =
     let start = c₁ .before .before .before .before .before in
     (start .pre .0, table-room (start .args .table) Attributes (c₁ .enum-told .given .1) (start .pre .1 .0) (start .pre .1 .1))
 
-enum-told-2 : tie.Need-enum-told-2
-enum-told-2 c = search needs
-
 take-row-requires-2 : tie.Need-take-row-requires-2
 take-row-requires-2 c κs =
     let c₁ = c .before in
     let start = c₁ .before .before .before .before .before in
     (start .pre .0, table-room (start .args .table) Classes (c₁ .enum-told2 .given .1) (start .pre .1 .0) (start .pre .1 .1))
-
-same-length : tie.Need-same-length
-same-length c = search needs
 
 returns : tie.Need-returns
 returns c =
@@ -37,9 +31,6 @@ returns c =
     (λ i. c₃ .shared-slice-known .given i .fits) (start′ .pre .0 .1) (start′ .pre .1 .1) _ (c₁ .take-row .ensures .0)
     (c₁ .take-row .ensures .1 ∙ as-attributes table (c₂ .enum-told .given .1) _ (start′ .args .attributes .now))
     (as-attributes-kept table (c₂ .enum-told .given .1) _ (start′ .args .classes .now))
-
-same-length-2 : tie.Need-same-length-2
-same-length-2 c = search needs
 
 returns-2 : tie.Need-returns-2
 returns-2 c =
@@ -59,9 +50,9 @@ take-table-row-spec =
     (tie.spec
     enum-told
     take-row-requires
-    enum-told-2
+    (λ c. search needs)
     take-row-requires-2
-    same-length
+    (λ c. search needs)
     returns
-    same-length-2
+    (λ c. search needs)
     returns-2)

@@ -8,23 +8,11 @@ use Rattle.sheet_read.proofs.read.take_tagged.Tie as tie
 enum-told : tie.Need-enum-told
 enum-told c = search needs
 
-take-heading-requires : tie.Need-take-heading-requires
-take-heading-requires c κs = search needs
-
-enum-known-tag : tie.Need-enum-known-tag
-enum-known-tag c = search needs
-
-rows-open-requires : tie.Need-rows-open-requires
-rows-open-requires c κs = search needs
-
 take-table-row-requires : tie.Need-take-table-row-requires
 take-table-row-requires c κs =
     let c₁ = c .before .before .before .before .before in
     let start = c₁ .before .before .before .before .before in
     (start .pre .0, (start .pre .1 .0, start .pre .1 .1 (c₁ .tag .given .0 .0) (c₁ .tag .given .1)))
-
-enum-told-2 : tie.Need-enum-told-2
-enum-told-2 c = search needs
 
 returns : tie.Need-returns
 returns c =
@@ -39,12 +27,6 @@ returns c =
     let stop = start′ .args .stop in
     as-step (takeTagged tag s at phase missing start stop) _ (start′ .args .attributes .now) (start′ .args .classes .now)
     (λ x a c′ h. ap (λ turn. step turn x) (c .take-heading .ensures) ∙ tagged-heading s at phase missing start stop tag x (c₁ .enum-told .given .1))
-
-same-length : tie.Need-same-length
-same-length c = search needs
-
-same-length-2 : tie.Need-same-length-2
-same-length-2 c = search needs
 
 returns-2 : tie.Need-returns-2
 returns-2 c =
@@ -98,14 +80,11 @@ take-tagged-spec =
     tie.close
     (tie.spec
     enum-told
-    take-heading-requires
-    enum-known-tag
-    rows-open-requires
+    (λ c κs. search needs) (λ c. search needs) (λ c κs. search needs)
     take-table-row-requires
-    enum-told-2
+    (λ c. search needs)
     returns
-    same-length
-    same-length-2
+    (λ c. search needs) (λ c. search needs)
     returns-2
     returns-3
     returns-4)

@@ -2,14 +2,8 @@ use borrow.Author.Needs.{needs}
 use Rattle.tables.proofs.live.is_active_for.Statement.{statement}
 use Rattle.tables.proofs.live.is_active_for.Tie as tie
 
-is-defunct-requires : tie.Need-is-defunct-requires
-is-defunct-requires c κs = search needs
-
 returns : tie.Need-returns
 returns c = rw (← (c .before .is-defunct .ensures), c .if1 .taken)
-
-is-defunct-requires-2 : tie.Need-is-defunct-requires-2
-is-defunct-requires-2 c κs = search needs
 
 returns-2 : tie.Need-returns-2
 returns-2 c =
@@ -19,4 +13,4 @@ returns-2 c =
 
 pub is-active-for-spec : {M : Type 1} → statement M
 is-active-for-spec =
-    tie.close (tie.spec is-defunct-requires returns is-defunct-requires-2 returns-2)
+    tie.close (tie.spec (λ c κs. search needs) returns (λ c κs. search needs) returns-2)

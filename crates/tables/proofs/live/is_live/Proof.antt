@@ -11,14 +11,8 @@ use Rattle.tables.proofs.Widths.{common-within}
 use Rattle.tables.proofs.live.is_live.Statement.{statement}
 use Rattle.tables.proofs.live.is_live.Tie as tie
 
-table-of-requires : tie.Need-table-of-requires
-table-of-requires c κs = search needs
-
 row-count-requires : tie.Need-row-count-requires
 row-count-requires c κs = rw (c .table-of .ensures) (c .before .before .before .pre .0 .long)
-
-number-of-requires : tie.Need-number-of-requires
-number-of-requires c κs = search needs
 
 returns : tie.Need-returns
 unfolding live
@@ -93,9 +87,9 @@ pub is-live-spec : {M : Type 1} → statement M
 is-live-spec =
     tie.close
     (tie.spec
-    table-of-requires
+    (λ c κs. search needs)
     row-count-requires
-    number-of-requires
+    (λ c κs. search needs)
     returns
     row-requires
     is-active-for-requires

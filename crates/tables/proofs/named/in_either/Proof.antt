@@ -2,14 +2,8 @@ use borrow.Author.Needs.{needs}
 use Rattle.tables.proofs.named.in_either.Statement.{statement}
 use Rattle.tables.proofs.named.in_either.Tie as tie
 
-has-requires : tie.Need-has-requires
-has-requires c κs = search needs
-
 returns : tie.Need-returns
 returns c = rw (← (c .before .has .ensures), c .if1 .taken)
-
-has-requires-2 : tie.Need-has-requires-2
-has-requires-2 c κs = search needs
 
 returns-2 : tie.Need-returns-2
 returns-2 c =
@@ -18,4 +12,8 @@ returns-2 c =
     rw (← (c₂ .has .ensures), c₁ .if1 .left) (c .has2 .ensures)
 
 pub in-either-spec : {M : Type 1} → statement M
-in-either-spec = tie.close (tie.spec has-requires returns has-requires-2 returns-2)
+in-either-spec = tie.close (tie.spec
+    (λ c κs. search needs)
+    returns
+    (λ c κs. search needs)
+    returns-2)

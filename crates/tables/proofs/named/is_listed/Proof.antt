@@ -6,27 +6,6 @@ use Rattle.tables.proofs.named.is_listed.Tie as tie
 enum-told : tie.Need-enum-told
 enum-told c = search needs
 
-fixed-auxiliary-requires : tie.Need-fixed-auxiliary-requires
-fixed-auxiliary-requires c κs = search needs
-
-open-auxiliary-requires : tie.Need-open-auxiliary-requires
-open-auxiliary-requires c κs = search needs
-
-in-either-requires : tie.Need-in-either-requires
-in-either-requires c κs = search needs
-
-enum-told-2 : tie.Need-enum-told-2
-enum-told-2 c = search needs
-
-fixed-superior-requires : tie.Need-fixed-superior-requires
-fixed-superior-requires c κs = search needs
-
-open-superior-requires : tie.Need-open-superior-requires
-open-superior-requires c κs = search needs
-
-in-either-requires-2 : tie.Need-in-either-requires-2
-in-either-requires-2 c κs = search needs
-
 returns : tie.Need-returns
 unfolding lists
 returns c =
@@ -48,12 +27,7 @@ is-listed-spec =
     tie.close
     (tie.spec
     enum-told
-    fixed-auxiliary-requires
-    open-auxiliary-requires
-    in-either-requires
-    enum-told-2
-    fixed-superior-requires
-    open-superior-requires
-    in-either-requires-2
+    (λ c κs. search needs) (λ c κs. search needs) (λ c κs. search needs) (λ c. search needs) (λ c κs. search needs)
+    (λ c κs. search needs) (λ c κs. search needs)
     returns
     returns-2)

@@ -3,12 +3,6 @@ use Rattle.tables.specs.Named.{namedBy}
 use Rattle.tables.proofs.named.is_named_by.Statement.{statement}
 use Rattle.tables.proofs.named.is_named_by.Tie as tie
 
-naming-attribute-requires : tie.Need-naming-attribute-requires
-naming-attribute-requires c κs = search needs
-
-enum-known-named : tie.Need-enum-known-named
-enum-known-named c = search needs
-
 enum-told : tie.Need-enum-told
 enum-told c = search needs
 
@@ -25,4 +19,4 @@ returns-2 c = rw (← (c .before .before .naming-attribute .ensures), c .enum-to
 
 pub is-named-by-spec : {M : Type 1} → statement M
 is-named-by-spec =
-    tie.close (tie.spec naming-attribute-requires enum-known-named enum-told returns returns-2)
+    tie.close (tie.spec (λ c κs. search needs) (λ c. search needs) enum-told returns returns-2)

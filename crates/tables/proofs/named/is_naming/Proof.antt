@@ -2,15 +2,6 @@ use borrow.Author.Needs.{needs}
 use Rattle.tables.proofs.named.is_naming.Statement.{statement}
 use Rattle.tables.proofs.named.is_naming.Tie as tie
 
-enum-known-id : tie.Need-enum-known-id
-enum-known-id c = search needs
-
-names-attribute-requires : tie.Need-names-attribute-requires
-names-attribute-requires c κs = search needs
-
-enum-known-id-2 : tie.Need-enum-known-id-2
-enum-known-id-2 c = search needs
-
 names-class-requires : tie.Need-names-class-requires
 names-class-requires c κs =
     let c₁ = c .before in
@@ -27,9 +18,7 @@ pub is-naming-spec : {M : Type 1} → statement M
 is-naming-spec =
     tie.close
     (tie.spec
-    enum-known-id
-    names-attribute-requires
-    enum-known-id-2
+    (λ c. search needs) (λ c κs. search needs) (λ c. search needs)
     names-class-requires
     returns
     returns-2)

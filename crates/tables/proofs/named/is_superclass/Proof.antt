@@ -7,12 +7,6 @@ use Rattle.schema.specs.NumbersLaws.{class-is, class-beyond}
 use Rattle.tables.proofs.named.is_superclass.Statement.{statement}
 use Rattle.tables.proofs.named.is_superclass.Tie as tie
 
-superclass-requires : tie.Need-superclass-requires
-superclass-requires c κs = search needs
-
-enum-known-read : tie.Need-enum-known-read
-enum-known-read c = search needs
-
 enum-told : tie.Need-enum-told
 enum-told c = search needs
 
@@ -33,4 +27,4 @@ returns-2 c =
 
 pub is-superclass-spec : {M : Type 1} → statement M
 is-superclass-spec =
-    tie.close (tie.spec superclass-requires enum-known-read enum-told returns returns-2)
+    tie.close (tie.spec (λ c κs. search needs) (λ c. search needs) enum-told returns returns-2)

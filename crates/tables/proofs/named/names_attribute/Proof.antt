@@ -3,24 +3,12 @@ use Rattle.tables.specs.Named.{names}
 use Rattle.tables.proofs.named.names_attribute.Statement.{statement}
 use Rattle.tables.proofs.named.names_attribute.Tie as tie
 
-mandatory-requires : tie.Need-mandatory-requires
-mandatory-requires c κs = search needs
-
-has-requires : tie.Need-has-requires
-has-requires c κs = search needs
-
 returns : tie.Need-returns
 unfolding names
 returns c =
     let c₁ = c .before in
     let c₂ = c₁ .before in
     rw (← (c₂ .mandatory .ensures), ← (c₁ .has .ensures), c .if1 .taken)
-
-fixed-optional-requires : tie.Need-fixed-optional-requires
-fixed-optional-requires c κs = search needs
-
-has-requires-2 : tie.Need-has-requires-2
-has-requires-2 c κs = search needs
 
 returns-2 : tie.Need-returns-2
 unfolding names
@@ -31,12 +19,6 @@ returns-2 c =
     let c₄ = c₃ .before in
     let c₅ = c₄ .before in
     rw (← (c₅ .mandatory .ensures), ← (c₄ .has .ensures), c₃ .if1 .left, ← (c₂ .fixed-optional .ensures), ← (c₁ .has2 .ensures), c .if2 .taken)
-
-open-optional-requires : tie.Need-open-optional-requires
-open-optional-requires c κs = search needs
-
-has-requires-3 : tie.Need-has-requires-3
-has-requires-3 c κs = search needs
 
 returns-3 : tie.Need-returns-3
 unfolding names
@@ -61,9 +43,6 @@ returns-3 c =
       ← (c₁ .has3 .ensures),
       c .if3 .taken,
     )
-
-is-named-by-requires : tie.Need-is-named-by-requires
-is-named-by-requires c κs = search needs
 
 returns-4 : tie.Need-returns-4
 unfolding names
@@ -95,14 +74,11 @@ pub names-attribute-spec : {M : Type 1} → statement M
 names-attribute-spec =
     tie.close
     (tie.spec
-    mandatory-requires
-    has-requires
+    (λ c κs. search needs) (λ c κs. search needs)
     returns
-    fixed-optional-requires
-    has-requires-2
+    (λ c κs. search needs) (λ c κs. search needs)
     returns-2
-    open-optional-requires
-    has-requires-3
+    (λ c κs. search needs) (λ c κs. search needs)
     returns-3
-    is-named-by-requires
+    (λ c κs. search needs)
     returns-4)

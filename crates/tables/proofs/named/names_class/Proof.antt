@@ -4,15 +4,9 @@ use Rattle.tables.specs.Named.{names}
 use Rattle.tables.proofs.named.names_class.Statement.{statement}
 use Rattle.tables.proofs.named.names_class.Tie as tie
 
-is-superclass-requires : tie.Need-is-superclass-requires
-is-superclass-requires c κs = search needs
-
 returns : tie.Need-returns
 unfolding names
 returns c = rw (sym (c .before .is-superclass .ensures) ∙ c .if1 .taken)
-
-is-listed-requires : tie.Need-is-listed-requires
-is-listed-requires c κs = search needs
 
 returns-2 : tie.Need-returns-2
 unfolding names
@@ -21,9 +15,6 @@ returns-2 c =
     let c₂ = c₁ .before in
     let c₃ = c₂ .before in
     rw (sym (c₃ .is-superclass .ensures) ∙ c₂ .if1 .left, ← (c₁ .is-listed .ensures), c .if2 .taken)
-
-is-listed-requires-2 : tie.Need-is-listed-requires-2
-is-listed-requires-2 c κs = search needs
 
 returns-3 : tie.Need-returns-3
 unfolding names
@@ -38,9 +29,9 @@ pub names-class-spec : {M : Type 1} → statement M
 names-class-spec =
     tie.close
     (tie.spec
-    is-superclass-requires
+    (λ c κs. search needs)
     returns
-    is-listed-requires
+    (λ c κs. search needs)
     returns-2
-    is-listed-requires-2
+    (λ c κs. search needs)
     returns-3)

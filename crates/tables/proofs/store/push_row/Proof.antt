@@ -13,9 +13,6 @@ use Rattle.tables.specs.Filled.{countBytes, putIn, plusIn}
 use Rattle.tables.proofs.store.push_row.Statement.{statement}
 use Rattle.tables.proofs.store.push_row.Tie as tie
 
-row-count-requires : tie.Need-row-count-requires
-row-count-requires c κs = search needs
-
 row-id-requires : tie.Need-row-id-requires
 row-id-requires c κs = let start = c .before .before .before .before .before in omega (arith, c .before .row-count .ensures, start .pre .1)
 
@@ -33,12 +30,6 @@ add-write-count c =
     let start = c₁ .before .before .before .before in
     omega
     (arith, c₁ .row-count .ensures, start .pre .1, limit-u16 (start .args .table))
-
-write-count-requires : tie.Need-write-count-requires
-write-count-requires c κs = search needs
-
-same-length : tie.Need-same-length
-same-length c = search needs
 
 returns : tie.Need-returns
 unfolding plusIn
@@ -60,10 +51,9 @@ pub push-row-spec : {M : Type 1} → statement M
 push-row-spec =
     tie.close
     (tie.spec
-    row-count-requires
+    (λ c κs. search needs)
     row-id-requires
     put-row-requires
     add-write-count
-    write-count-requires
-    same-length
+    (λ c κs. search needs) (λ c. search needs)
     returns)

@@ -12,15 +12,6 @@ use borrow.Author.Needs.{needs}
 use Rattle.tables.proofs.store.put_row.Statement.{statement}
 use Rattle.tables.proofs.store.put_row.Tie as tie
 
-row-start-requires : tie.Need-row-start-requires
-row-start-requires c κs = search needs
-
-table-of-requires : tie.Need-table-of-requires
-table-of-requires c κs = search needs
-
-row-width-requires : tie.Need-row-width-requires
-row-width-requires c κs = search needs
-
 add-end : tie.Need-add-end
 add-end c =
     let c₁ = c .before in
@@ -32,12 +23,6 @@ add-end c =
     let room : c₂ .row-start .result + c .row-width .result ≤ length store = rw e (row-room (tableOf id) (numberOf id) store (c .row-width .result)
     (numberOf id) (c .row-width .ensures ∙ ap rowWidth (c₁ .table-of .ensures)) refl (start .pre .0) (start .pre .1)) in omega
     (arith, room, start .good .0 .0)
-
-sub-copy-padded : tie.Need-sub-copy-padded
-sub-copy-padded c = search needs
-
-part-copy-padded-start : tie.Need-part-copy-padded-start
-part-copy-padded-start c = search needs
 
 part-copy-padded-end : tie.Need-part-copy-padded-end
 part-copy-padded-end c =
@@ -68,9 +53,6 @@ copy-padded-requires c κs =
           room,
     )
 
-same-length : tie.Need-same-length
-same-length c = search needs
-
 returns : tie.Need-returns
 unfolding putIn
 returns c =
@@ -92,13 +74,10 @@ pub put-row-spec : {M : Type 1} → statement M
 put-row-spec =
     tie.close
     (tie.spec
-    row-start-requires
-    table-of-requires
-    row-width-requires
+    (λ c κs. search needs) (λ c κs. search needs) (λ c κs. search needs)
     add-end
-    sub-copy-padded
-    part-copy-padded-start
+    (λ c. search needs) (λ c. search needs)
     part-copy-padded-end
     copy-padded-requires
-    same-length
+    (λ c. search needs)
     returns)

@@ -11,26 +11,11 @@ enum-told c = search needs
 cast-write-u16 : tie.Need-cast-write-u16
 cast-write-u16 c = let start = c .before .before .before .before in omega (arith, start .pre .1, limit-u16 (start .args .table))
 
-write-u16-requires : tie.Need-write-u16-requires
-write-u16-requires c κs = search needs
-
-enum-told-2 : tie.Need-enum-told-2
-enum-told-2 c = search needs
-
 cast-store : tie.Need-cast-store
 cast-store c = let start = c .before .before .before in omega (arith, start .pre .1, limit-byte (start .args .table) (c .enum-told2 .given .1))
 
-slice-write-store : tie.Need-slice-write-store
-slice-write-store c = search needs
-
-same-length : tie.Need-same-length
-same-length c = search needs
-
 returns : tie.Need-returns
 returns c = let c₁ = c .before .before in let c₂ = c₁ .before .before in rw (c₂ .enum-told .given .1) (c₁ .write-u16 .ensures)
-
-same-length-2 : tie.Need-same-length-2
-same-length-2 c = search needs
 
 returns-2 : tie.Need-returns-2
 returns-2 c =
@@ -44,11 +29,9 @@ write-count-spec =
     (tie.spec
     enum-told
     cast-write-u16
-    write-u16-requires
-    enum-told-2
+    (λ c κs. search needs) (λ c. search needs)
     cast-store
-    slice-write-store
-    same-length
+    (λ c. search needs) (λ c. search needs)
     returns
-    same-length-2
+    (λ c. search needs)
     returns-2)

@@ -2,18 +2,9 @@ use borrow.Author.Needs.{needs}
 use Rattle.schema.proofs.answer.Answer.broken_by.Statement.{statement}
 use Rattle.schema.proofs.answer.Answer.broken_by.Tie as tie
 
-table-of-requires : tie.Need-table-of-requires
-table-of-requires c κs = search needs
-
-table-number-requires : tie.Need-table-number-requires
-table-number-requires c κs = search needs
-
-number-of-requires : tie.Need-number-of-requires
-number-of-requires c κs = search needs
-
 returns : tie.Need-returns
 returns c = let c₁ = c .before in let c₂ = c₁ .before in rw (c₁ .table-number .ensures, c₂ .table-of .ensures, c .number-of .ensures)
 
 pub broken-by-spec : {M : Type 1} → statement M
 broken-by-spec =
-    tie.close (tie.spec table-of-requires table-number-requires number-of-requires returns)
+    tie.close (tie.spec (λ c κs. search needs) (λ c κs. search needs) (λ c κs. search needs) returns)
