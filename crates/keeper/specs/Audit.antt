@@ -8,7 +8,8 @@ use Rattle.schema.specs.Answers.{passed}
 use Rattle.graph.specs.Graph.{isFresh}
 use Rattle.rules.specs.declared.row.Added.the-variants.{Nothing}
 use Rattle.rules.specs.Judge.{judged}
-use Rattle.keeper.specs.Answering.{refusedIf, firstAnswer, shapeAnswers}
+use Rattle.schema.specs.Answering.{refusedIf, firstAnswer}
+use Rattle.keeper.specs.InShape.{shapeAnswers}
 use Rattle.schema.specs.Refusals as refusal
 
 -- "3 .. Audit: only kept sets are wrong", so it stands behind rules 12 to 29, which come in the order of judging ("by number" in document 01) with "the

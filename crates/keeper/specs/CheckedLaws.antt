@@ -1,5 +1,5 @@
 -- What a call knows once its stores were checked: the answer, or that they are in shape and the rest of its answers decides.
-use mathlib.Core.List.{List, _++_, _∷_}
+use mathlib.Core.List.{List, _++_}
 use mathlib.Core.Path.{_≡_, refl, sym, ap, _∙_}
 use Rattle.schema.specs.declared.number.TableId.the-variants.{Attributes, Classes}
 use Rattle.schema.specs.Store.{Stores}
@@ -9,21 +9,10 @@ use Rattle.tables.specs.Shaped.{Shaped}
 use Rattle.graph.specs.Graph.{Readable}
 use Rattle.sheet_write.specs.Writing.{Writable}
 use Rattle.tables_shape.specs.ShapeLaws.{says-formed, formed-shaped, formed-readable}
-use Rattle.keeper.specs.Answering.{firstAnswer, NoneRefuses, shapeAnswers, InShape}
-use Rattle.keeper.specs.AnsweringLaws.{first-refused, first-passed, zero-iff-pass, append-passed, append-refused, shape-passed}
-
--- the same number
-number-is : {a b : Answer} → a ≡ b → b .number ≡ 0 → a .number ≡ 0
-number-is e z = ap (λ (x : Answer). x .number) e ∙ z
-
--- ---- an answer that was found before the others
-
-module _ {a r : Answer} (is : r ≡ a) (answers : List Answer) (last : Answer) where
-  pub found-refused : ¬ (r .number ≡ 0) → r ≡ firstAnswer (a ∷ answers) last
-  found-refused d = is ∙ sym (first-refused a answers last (λ z. d (number-is is z)))
-
-  pub found-passed : r .number ≡ 0 → firstAnswer (a ∷ answers) last ≡ firstAnswer answers last
-  found-passed z = first-passed a answers last (number-is (sym is) z)
+use Rattle.schema.specs.Answering.{firstAnswer, NoneRefuses}
+use Rattle.keeper.specs.InShape.{shapeAnswers, InShape}
+use Rattle.schema.specs.AnsweringLaws.{append-passed, append-refused, number-is, zero-iff-pass}
+use Rattle.keeper.specs.InShapeLaws.{shape-passed}
 
 -- ---- the stores
 

@@ -7,7 +7,8 @@ use lib.Dec.{ltb}
 use Rattle.schema.specs.Store.{Stores, schemaOf}
 use Rattle.schema.specs.declared.answer.Answer.{Answer}
 use Rattle.graph.specs.Depth.{depthOf, depthAnswer}
-use Rattle.keeper.specs.Answering.{refusedIf, firstAnswer, shapeAnswers}
+use Rattle.schema.specs.Answering.{refusedIf, firstAnswer}
+use Rattle.keeper.specs.InShape.{shapeAnswers}
 use Rattle.schema.specs.Refusals as refusal
 
 unfoldable pub depth : Stores → ℕ → Answer

@@ -11,8 +11,9 @@ use Rattle.schema.specs.Store.{Stores, schemaOf}
 use Rattle.schema.specs.declared.answer.Answer.{Answer}
 use Rattle.schema.specs.Answers.{passed, shortOutput, done, refused}
 use Rattle.graph.specs.Depth.{depthOf, depthAnswer}
-use Rattle.keeper.specs.Answering.{firstAnswer, shapeAnswers}
-use Rattle.keeper.specs.AnsweringLaws.{first-last, tested-holds, tested-fails}
+use Rattle.schema.specs.Answering.{firstAnswer}
+use Rattle.keeper.specs.InShape.{shapeAnswers}
+use Rattle.schema.specs.AnsweringLaws.{first-last, tested-holds, tested-fails}
 use Rattle.keeper.specs.Write.{sheetOf, written, writeAnswer, write}
 use Rattle.keeper.specs.Depth.{depth}
 use Rattle.keeper.specs.CheckedLaws.{shape-refused, shape-onward}

@@ -1,6 +1,6 @@
 -- The public calls: load, write, audit and depth, each as one definition of its answer and of the bytes that it leaves.
-pub mod Answering
-pub mod AnsweringLaws
+pub mod InShape
+pub mod InShapeLaws
 pub mod Load
 pub mod LoadLaws
 pub mod Write

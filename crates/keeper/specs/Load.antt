@@ -16,7 +16,7 @@ use Rattle.graph.specs.Graph.{closureRows}
 use Rattle.sheet_read.specs.Reading.{Rows, SheetOut, schemaFrom, sheetAnswer, readSheet}
 use Rattle.rules.specs.declared.row.Added.the-variants.{Nothing}
 use Rattle.rules.specs.Judge.{judged}
-use Rattle.keeper.specs.Answering.{firstAnswer}
+use Rattle.schema.specs.Answering.{firstAnswer}
 use Rattle.schema.specs.Refusals as refusal
 
 -- every byte of the three stores zero; "bytes past [the lengths] are never touched"

@@ -31,7 +31,7 @@ use Rattle.rules.specs.Judge.{judged}
 use Rattle.tables_shape.specs.FilledShapeLaws.{filled-formed}
 use Rattle.tables_shape.specs.Shape.{storesFormed, tableFormed}
 use Rattle.tables_shape.specs.ShapeLaws.{formed-readable, formed-shaped}
-use Rattle.keeper.specs.AnsweringLaws.{first-last, first-passed, first-refused}
+use Rattle.schema.specs.AnsweringLaws.{first-last, first-passed, first-refused}
 use Rattle.keeper.specs.Load.{emptied, filled, load, loaded, readAnswer}
 use Rattle.schema.specs.Refusals as refusal
 

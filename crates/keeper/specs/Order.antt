@@ -7,7 +7,8 @@ use Rattle.rules.specs.Judge.{judged}
 use Rattle.schema.specs.declared.answer.Answer.{Answer}
 use Rattle.schema.specs.Store.{Stores, schemaOf}
 use Rattle.graph.specs.Graph.{isFresh}
-use Rattle.keeper.specs.Answering.{refusedIf, shapeAnswers}
+use Rattle.schema.specs.Answering.{refusedIf}
+use Rattle.keeper.specs.InShape.{shapeAnswers}
 use Rattle.schema.specs.Refusals as refusal
 
 -- of stores in shape: no row breaks a rule, and the closure is afresh

@@ -9,8 +9,10 @@ use Rattle.rules.specs.Judge.{judged}
 use Rattle.schema.specs.declared.answer.Answer.{Answer}
 use Rattle.schema.specs.Store.{Stores, schemaOf}
 use Rattle.schema.specs.Answers.{passed, refused}
-use Rattle.keeper.specs.Answering.{InShape, NoneRefuses, firstAnswer}
-use Rattle.keeper.specs.AnsweringLaws.{if-passed, passed-any, refused-any, shape-passed, zero-iff-pass}
+use Rattle.schema.specs.Answering.{NoneRefuses, firstAnswer}
+use Rattle.keeper.specs.InShape.{InShape}
+use Rattle.schema.specs.AnsweringLaws.{if-passed, passed-any, refused-any, zero-iff-pass}
+use Rattle.keeper.specs.InShapeLaws.{shape-passed}
 use Rattle.keeper.specs.Order.{inOrder, orderAnswers}
 use Rattle.graph.specs.Graph.{isFresh}
 use Rattle.prelude.specs.SaysLaws.{says-and, says-eq, says-test}

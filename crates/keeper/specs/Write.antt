@@ -10,7 +10,8 @@ use Rattle.schema.specs.Store.{Stores, schemaOf}
 use Rattle.schema.specs.declared.answer.Answer.{Answer}
 use Rattle.schema.specs.Answers.{shortOutput, done}
 use Rattle.sheet_write.specs.Writing.{sheetBytes}
-use Rattle.keeper.specs.Answering.{answerIf, firstAnswer, shapeAnswers}
+use Rattle.schema.specs.Answering.{answerIf, firstAnswer}
+use Rattle.keeper.specs.InShape.{shapeAnswers}
 use Rattle.schema.specs.Refusals as refusal
 
 -- the sheet of the stores

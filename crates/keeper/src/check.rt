@@ -12,7 +12,8 @@ use tables_shape::stores_formed;
 ghost use mathlib.Core.Path.{_≡_};
 ghost use Rattle.schema.specs.Answers.{passed};
 ghost use Rattle.schema.specs.Store.{stores};
-ghost use Rattle.keeper.specs.Answering.{firstAnswer, shapeAnswers};
+ghost use Rattle.schema.specs.Answering.{firstAnswer};
+ghost use Rattle.keeper.specs.InShape.{shapeAnswers};
 ghost use Rattle.keeper.specs.Order.{orderAnswers};
 
 // 1 where a store is short, 2 where the shape is broken, else 0.

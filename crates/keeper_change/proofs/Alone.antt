@@ -42,8 +42,10 @@ use Rattle.change_model.specs.Model.{addedBy, answerBy, changedCases}
 use Rattle.change_model.specs.ThereLaws.{class-room, entry-there}
 use Rattle.closure_change.specs.After.{Updatable, closureAfter, demandBefore, demandChanges}
 use Rattle.closure_change.specs.SameLaws.{after-same, demand-same}
-use Rattle.keeper.specs.Answering.{InShape, firstAnswer, shapeAnswers}
-use Rattle.keeper.specs.AnsweringLaws.{passed-last, passed-shape, refused-any}
+use Rattle.schema.specs.Answering.{firstAnswer}
+use Rattle.keeper.specs.InShape.{InShape, shapeAnswers}
+use Rattle.schema.specs.AnsweringLaws.{passed-last, refused-any}
+use Rattle.keeper.specs.InShapeLaws.{passed-shape}
 use Rattle.keeper_change.specs.declared.rows.Before.{Before}
 use Rattle.keeper_change.specs.Judged.{RowThere, judgedRow}
 use Rattle.keeper_change.specs.Made.{Allowed, before, rowsMade}

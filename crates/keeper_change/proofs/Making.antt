@@ -24,7 +24,7 @@ use Rattle.keeper_change.specs.Made.{Restorable, rowsBack, rowsMade, bef
 use Rattle.keeper_change.specs.PlainLaws.{taken-back}
 use Rattle.keeper_change.specs.MadeLaws.{made-applicable, made-shape, row-table, row-within}
 use Rattle.change_model.specs.ThereLaws.{class-room}
-use Rattle.keeper.specs.Answering.{InShape}
+use Rattle.keeper.specs.InShape.{InShape}
 use Rattle.graph.specs.Graph.{Readable}
 use Rattle.tables.specs.Shaped.{Shaped}
 use Rattle.tables_shape.specs.Shape.{StoresFormed}

@@ -24,7 +24,8 @@ use Rattle.keeper_change.specs.PlainLaws.{plain-done, plain-kept, whole-
 use Rattle.keeper_change.specs.Judged.{judgedWhole}
 use Rattle.keeper_change.specs.MadeLaws.{row-table}
 use Rattle.keeper_change.specs.PlainLaws.{plain-order}
-use Rattle.keeper.specs.Answering.{InShape, firstAnswer}
+use Rattle.schema.specs.Answering.{firstAnswer}
+use Rattle.keeper.specs.InShape.{InShape}
 use Rattle.keeper.specs.OrderLaws.{order-fresh, order-shape, order-onward}
 use Rattle.keeper.specs.Order.{orderAnswers}
 use Rattle.graph.specs.Graph.{closureRows}

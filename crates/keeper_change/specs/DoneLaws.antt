@@ -21,7 +21,7 @@ use Rattle.change_model.specs.Conditions.{Condition}
 use Rattle.change_model.specs.Model.{addedBy, changeNumber}
 use Rattle.change_model.specs.ModelLaws.{asked-zero}
 use Rattle.change_model.specs.ConditionsLaws.{change-zero}
-use Rattle.keeper.specs.Answering.{InShape}
+use Rattle.keeper.specs.InShape.{InShape}
 use Rattle.tables.specs.Same.{SameRows}
 use Rattle.tables.specs.SameLaws.{same-symmetric}
 use Rattle.graph.specs.FreshLaws.{bytes-fresh, closure-rows-length}

@@ -7,7 +7,7 @@ use Rattle.change_read.specs.declared.read.Change.{Change}
 use Rattle.change_read.specs.declared.read.ChangeRead.the-variants.{Read}
 use Rattle.change_read.specs.Reading.{readChange, changeOut}
 use Rattle.change_asked.specs.Asked.{firstAsked}
-use Rattle.keeper.specs.Answering.{InShape}
+use Rattle.keeper.specs.InShape.{InShape}
 use Rattle.schema.specs.Refusals as refusal
 use Rattle.schema.specs.Store.{Stores, schemaOf, stores, tableStore, withStore, countIn, storeOf, tableIn}
 use Rattle.schema.specs.Layout.{classWidth, rowWidth, storeLength}

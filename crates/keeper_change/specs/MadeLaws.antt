@@ -21,7 +21,7 @@ use Rattle.prelude.specs.SaysLaws.{true-or-false}
 use Rattle.change_read.specs.declared.read.Change.{Change}
 use Rattle.change_read.specs.ChangeLaws.{Reads, change-length}
 use Rattle.change_read.specs.Carried.{targetOf}
-use Rattle.keeper.specs.Answering.{InShape}
+use Rattle.keeper.specs.InShape.{InShape}
 use Rattle.tables.specs.Same.{Same, SameRows}
 use Rattle.tables_shape.specs.Shape.{StoresFormed, TableFormed}
 use Rattle.tables_shape.specs.PutShapeLaws.{plus-formed, put-formed}

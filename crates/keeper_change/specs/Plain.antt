@@ -12,7 +12,7 @@ use Rattle.schema.specs.declared.answer.Answer.{Answer}
 use Rattle.schema.specs.Store.{Result, Stores, schemaOf, result}
 use Rattle.schema.specs.Answers.{passed}
 use Rattle.change_model.specs.Model.{answerTo}
-use Rattle.keeper.specs.Answering.{firstAnswer}
+use Rattle.schema.specs.Answering.{firstAnswer}
 use Rattle.keeper.specs.Order.{orderAnswers}
 use Rattle.keeper_change.specs.Made.{Allowed, WasRead, rowsMade, refreshed}
 use Rattle.schema.specs.Refusals as refusal

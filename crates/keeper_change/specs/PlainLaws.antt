@@ -25,7 +25,8 @@ use Rattle.prelude.specs.First.{_when_, firstOf}
 use Rattle.prelude.specs.FirstLaws.{append-cong}
 use Rattle.prelude.specs.SaysLaws.{says-eq, says-false, says-true}
 use Rattle.prelude.specs.PartLaws.{part-between}
-use Rattle.keeper.specs.Answering.{InShape, firstAnswer}
+use Rattle.schema.specs.Answering.{firstAnswer}
+use Rattle.keeper.specs.InShape.{InShape}
 use Rattle.change_model.specs.Model.{addedBy, answerTo, resultCases}
 use Rattle.change_asked.specs.Asked.{firstAsked}
 use Rattle.graph.specs.Graph.{demandsDiffer, isFresh, mandatoryDiffers}

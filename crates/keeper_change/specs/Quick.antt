@@ -17,7 +17,8 @@ use Rattle.change_rows.specs.Rows.{schemaAfter}
 use Rattle.change_asked.specs.Asked.{askedCases}
 use Rattle.change_model.specs.Model.{answerBy, changedCases}
 use Rattle.closure_change.specs.After.{closureAfter, demandChanges}
-use Rattle.keeper.specs.Answering.{InShape, firstAnswer, shapeAnswers}
+use Rattle.schema.specs.Answering.{firstAnswer}
+use Rattle.keeper.specs.InShape.{InShape, shapeAnswers}
 use Rattle.keeper_change.specs.Made.{WasRead, rowsMade}
 use Rattle.schema.specs.Refusals as refusal
 

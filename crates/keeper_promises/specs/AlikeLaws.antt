@@ -27,8 +27,10 @@ use Rattle.tables_shape.specs.FrontLaws.{formed-front}
 use Rattle.tables_shape.specs.Shape.{StoresFormed, storesFormed}
 use Rattle.tables_shape.specs.ShapeLaws.{says-formed}
 use Rattle.sheet_write.specs.SameLaws.{sheet-same}
-use Rattle.keeper.specs.Answering.{InShape, answerIf, firstAnswer, refusedIf, shapeAnswers}
-use Rattle.keeper.specs.AnsweringLaws.{append-passed, append-refused, broken-stores, not-short, passed-shape, tested-holds}
+use Rattle.schema.specs.Answering.{answerIf, firstAnswer, refusedIf}
+use Rattle.keeper.specs.InShape.{InShape, shapeAnswers}
+use Rattle.schema.specs.AnsweringLaws.{append-passed, append-refused, tested-holds}
+use Rattle.keeper.specs.InShapeLaws.{broken-stores, not-short, passed-shape}
 use Rattle.keeper.specs.Audit.{audit}
 use Rattle.keeper.specs.Depth.{depth}
 use Rattle.keeper.specs.Write.{sheetOf, write, writeAnswer, written}

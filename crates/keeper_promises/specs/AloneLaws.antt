@@ -39,7 +39,7 @@ use Rattle.change_asked.specs.AskedLaws.{asked-there}
 use Rattle.change_model.specs.Model.{addedBy, answerBy, changedCases}
 use Rattle.change_model.specs.ThereLaws.{entry-class}
 use Rattle.change_model.specs.SameLaws.{after-same, asked-same, row-number-same}
-use Rattle.keeper.specs.Answering.{InShape}
+use Rattle.keeper.specs.InShape.{InShape}
 use Rattle.keeper_change.specs.Quick.{quickChange, quickDiffers, quickNumber, quickTo}
 use Rattle.keeper_promises.specs.AfterLaws.{after-changed}
 use Rattle.keeper_promises.specs.AlikeLaws.{front-rows, same-formed}

@@ -21,8 +21,9 @@ use Rattle.rules.specs.declared.row.Added.{Added}
 use Rattle.rules.specs.declared.row.Added.the-variants.{Nothing}
 use Rattle.rules.specs.Meets.{Met, classNotLive}
 use Rattle.tables_shape.specs.ShapeLaws.{says-formed}
-use Rattle.keeper.specs.Answering.{firstAnswer, shapeAnswers}
-use Rattle.keeper.specs.AnsweringLaws.{broken-stores, formed-stores, not-short, short-stores}
+use Rattle.schema.specs.Answering.{firstAnswer}
+use Rattle.keeper.specs.InShape.{shapeAnswers}
+use Rattle.keeper.specs.InShapeLaws.{broken-stores, formed-stores, not-short, short-stores}
 use Rattle.keeper.specs.CheckedLaws.{readable-classes}
 use Rattle.keeper.specs.Depth.{depth}
 use Rattle.keeper.specs.Write.{sheetOf, write, writeAnswer, written}

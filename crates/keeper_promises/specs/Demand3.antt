@@ -7,7 +7,7 @@ use mathlib.Core.Path.{_≡_}
 use Prim.Native.Nat.{_<_, _≤_, suc, zero, ℕ}
 use lib.ListN.{getD, length}
 use Rattle.prelude.specs.Part.{Bytes, part}
-use Rattle.schema.specs.Answers.{changed}
+use Rattle.schema.specs.Answers.{RowChanged, SameTold}
 use Rattle.schema.specs.Layout.{storeLength}
 use Rattle.schema.specs.Numbers.{attributeLimit, classLimit, limit}
 use Rattle.schema.specs.Store.{Result, Schema, Stores, Table, closureAt, demandedIn, schemaOf, table}
@@ -83,7 +83,7 @@ ReachesIn t c k = Reaches (t .count) (inherits t) c k
 
 -- by the rows of t, class c does not reach the class that an answer says was changed or added, if it says so of a class
 abbrev pub ReachesNone : Answer → Table → ℕ → Type 0
-ReachesNone a t c = (k : ℕ) → a ≡ changed Classes k → ¬ (ReachesIn t c k)
+ReachesNone a t c = (k : ℕ) → RowChanged a Classes k → ¬ (ReachesIn t c k)
 
 -- a change was answered by a, and has made t of the stores s. "Every row but the one changed stays put, and so do the kept sets of classes that do not
 -- then reach it."
@@ -91,7 +91,7 @@ pub record Stays (a : Answer) (s t : Stores) : Type 0 where
   -- "A refused change alters no byte of any lent store"
   pub refused : ¬ (a .number ≡ 0) → t ≡ s
   -- every row, unused ones too, but the one that was changed or added
-  pub rows : (u : TableId) (k : ℕ) → k < limit u → ¬ (a ≡ changed u k) → table u (schemaOf t) .row k ≡ table u (schemaOf s) .row k
+  pub rows : (u : TableId) (k : ℕ) → k < limit u → ¬ (RowChanged a u k) → table u (schemaOf t) .row k ≡ table u (schemaOf s) .row k
   -- the kept sets, also of numbers without a row. A change of an attribute leaves all of them
   pub closure : (c : ℕ) → c < classLimit → ReachesNone a (schemaOf t .classes) c → closureAt (t .closure) c ≡ closureAt (s .closure) c
   -- "bytes past [the lengths] are never touched"
@@ -154,5 +154,5 @@ pub record Demand3 : Type 0 where
   -- "For every list of changes given to both, unreadable and otherwise refused ones among them, this holds."
   pub agree : (sheet : List ℕ) (first : Stores) (xs : List (List ℕ)) → Bytes sheet → AllBytes xs → load sheet first .answer .number ≡ 0
       → Agreement sheet first xs
-  -- "On any two lots of stores, in order or not, .. quick answers to the same change are equal."
-  pub alone : (x : List ℕ) (s t : Stores) → AlikeFor x s t → quickChange x s .answer ≡ quickChange x t .answer
+  -- "On any two lots of stores, in order or not, .. quick answers to the same change are equal": in number, table and place
+  pub alone : (x : List ℕ) (s t : Stores) → AlikeFor x s t → SameTold (quickChange x s .answer) (quickChange x t .answer)

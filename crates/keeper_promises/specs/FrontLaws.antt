@@ -22,7 +22,7 @@ use Rattle.graph.specs.Graph.{closureRows}
 use Rattle.graph.specs.FreshLaws.{closure-rows-length}
 use Rattle.sheet_read.specs.Reading.{readSheet, rowsIn}
 use Rattle.sheet_read.specs.ReadingLaws.{sheet-sound}
-use Rattle.keeper.specs.AnsweringLaws.{not-short}
+use Rattle.keeper.specs.InShapeLaws.{not-short}
 use Rattle.keeper.specs.Load.{emptied, readAnswer, filled, loaded, load}
 use Rattle.keeper.specs.LoadLaws.{load-long, empty-long}
 use Rattle.keeper_promises.specs.Promises.{moved, SamePast}

@@ -36,7 +36,7 @@ use Rattle.rules.specs.Meets.{Meets, Met, RuleName, ruleNumber}
 use Rattle.rules.specs.MeetsLaws.{meets, judged-before}
 use Rattle.rules.specs.SameLaws.{kept-same}
 use Rattle.tables_shape.specs.ShapeLaws.{says-formed}
-use Rattle.keeper.specs.AnsweringLaws.{not-short}
+use Rattle.keeper.specs.InShapeLaws.{not-short}
 use Rattle.keeper.specs.Audit.{audit}
 use Rattle.keeper.specs.Load.{emptied, filled, load, readAnswer}
 use Rattle.keeper.specs.LoadLaws.{both-formed, both-lent, both-same, load-accepted, load-rejected, load-short, read-bad, read-full, read-judged}

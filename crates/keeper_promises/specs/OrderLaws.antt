@@ -21,9 +21,11 @@ use Rattle.rules.specs.JudgeLaws.{judged-first, judged-zero}
 use Rattle.rules.specs.Meets.{Meets, Met, RuleName, ruleNumber}
 use Rattle.rules.specs.MeetsLaws.{meets, judged-before}
 use Rattle.tables_shape.specs.ShapeLaws.{says-formed}
-use Rattle.keeper.specs.Answering.{InShape, NoneRefuses, firstAnswer, refusedIf, shapeAnswers}
-use Rattle.keeper.specs.AnsweringLaws.{append-passed, append-refused, broken-stores, first-passed, first-refused, if-fails, if-holds, if-passed}
-use Rattle.keeper.specs.AnsweringLaws.{not-short, passed-last, passed-shape, shape-passed, short-stores, zero-iff-pass}
+use Rattle.schema.specs.Answering.{NoneRefuses, firstAnswer, refusedIf}
+use Rattle.keeper.specs.InShape.{InShape, shapeAnswers}
+use Rattle.schema.specs.AnsweringLaws.{append-passed, append-refused, first-passed, first-refused, if-fails, if-holds, if-passed, passed-last, zero-iff-pass}
+use Rattle.keeper.specs.InShapeLaws.{broken-stores}
+use Rattle.keeper.specs.InShapeLaws.{not-short, passed-shape, shape-passed, short-stores}
 use Rattle.keeper.specs.Audit.{audit}
 use Rattle.keeper_promises.specs.Promises.{Fresh, InOrder, Shape, SomeShort}
 use Rattle.schema.specs.Refusals as refusal

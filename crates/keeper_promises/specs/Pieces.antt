@@ -51,7 +51,7 @@ classRow name arcs guid category superclass = common name arcs guid ++ (category
 
 -- the answer of the judge, of attributes and classes
 unfoldable pub judgedRows : List (List ℕ) → List (List ℕ) → Answer
-judgedRows a c = judged Nothing (schema (tableFrom a) (tableFrom c))
+judgedRows a c = judged Nothing (schema (tableFrom a) (tableFrom c) 0)
 
 -- `area-Ha`
 unfoldable pub areaHa : List ℕ
@@ -124,7 +124,7 @@ threeClasses bits =
     ∷ []
 
 unfoldable pub sample : ℕ → Schema
-sample bits = schema (tableFrom twoAttributes) (tableFrom (threeClasses bits))
+sample bits = schema (tableFrom twoAttributes) (tableFrom (threeClasses bits)) 0
 
 -- the number for an entry added to the open auxiliaries of class 1, where class 2 demands what is given
 unfoldable pub joining : ℕ → ℕ → ℕ

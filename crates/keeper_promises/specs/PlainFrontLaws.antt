@@ -32,7 +32,8 @@ use Rattle.change_read.specs.declared.read.ChangeRead.{ChangeRead}
 use Rattle.graph.specs.Graph.{closureRows}
 use Rattle.change_read.specs.ChangeLaws.{Reads, change-bytes}
 use Rattle.schema.specs.Layout.{storeLength, closureLength}
-use Rattle.keeper.specs.Answering.{InShape, firstAnswer, refusedIf}
+use Rattle.schema.specs.Answering.{firstAnswer, refusedIf}
+use Rattle.keeper.specs.InShape.{InShape}
 use Rattle.prelude.specs.Part.{Bytes, part}
 use Rattle.keeper_promises.specs.BytesLaws.{closure-rows-bytes}
 use Rattle.prelude.specs.BytesLaws.{splice-bytes}

@@ -16,13 +16,16 @@ use Rattle.rules.specs.Judge.{judged}
 use Rattle.rules.specs.MeetsLaws.{met-of}
 use Rattle.schema.specs.declared.answer.Answer.{Answer}
 use Rattle.schema.specs.Store.{LongEnough, Schema, Stores, result, schemaOf, Result}
-use Rattle.schema.specs.Answers.{passed, refused, unreadable, changed}
+use Rattle.schema.specs.AnswersLaws.{told-changed}
+use Rattle.schema.specs.Answers.{RowChanged, passed, refused, unreadable}
 use Rattle.schema.specs.Order.{rank}
 use Rattle.schema.specs.StoreLaws.{says-short}
 use Rattle.keeper_promises.specs.Promises.{Fresh, InOrder, Shape, SomeShort, Accepted}
 use Rattle.keeper_promises.specs.OrderLaws.{has-shape, judged-meets, meets-judged, order-shape}
-use Rattle.keeper.specs.AnsweringLaws.{append-refused, broken-stores, first-last, if-fails, not-short, passed-shape, short-stores, tested-fails, passed-last}
-use Rattle.keeper.specs.Answering.{firstAnswer, shapeAnswers, InShape}
+use Rattle.schema.specs.AnsweringLaws.{append-passed, append-refused, first-last, if-fails, passed-last, refused-any, tested-fails, tested-holds}
+use Rattle.keeper.specs.InShapeLaws.{broken-stores, not-short, passed-shape, short-stores}
+use Rattle.schema.specs.Answering.{firstAnswer}
+use Rattle.keeper.specs.InShape.{shapeAnswers, InShape}
 use Rattle.keeper.specs.Order.{inOrder, orderAnswers}
 use Rattle.change_model.specs.Model.{answerTo, addedBy, changeNumber, rowsAfter}
 use Rattle.change_model.specs.Conditions.{Condition}
@@ -32,7 +35,6 @@ use Rattle.keeper_change.specs.PlainLaws.{plain-order}
 use Rattle.keeper_change.specs.Plain.{plainAnswer, plainChange, plainRead, plainMade}
 use Rattle.keeper_change.specs.DoneLaws.{done-fresh, done-meets, done-same, done-shape}
 use Rattle.keeper_change.specs.Made.{rowsMade, refreshed}
-use Rattle.keeper.specs.AnsweringLaws.{tested-holds, append-passed, refused-any}
 use Rattle.prelude.specs.SaysLaws.{says-eq, says-false, says-test, says-true}
 use Rattle.prelude.specs.Part.{Bytes}
 use Rattle.tables_shape.specs.ShapeLaws.{says-formed}
@@ -186,8 +188,10 @@ module _ (x : List ℕ) (s : Stores) where
         demands = λ d. none refusal.mandatoryDiffers (Condition.mandatoryDiffers d);
       }
 
-  pub plain-done : InOrder s → (h : Accepted x m) → plainChange x s .answer ≡ changed (tableFor (h .change)) (numberFor (h .change) (h .carried) m)
-  plain-done o h = read-answer o (h .change) (h .carried) (h .reads) ∙ answer-done (h .change) (h .carried) m (accepted-zero h)
+  pub plain-done : InOrder s → (h : Accepted x m) → RowChanged (plainChange x s .answer) (tableFor (h .change)) (numberFor (h .change) (h .carried) m)
+  plain-done o h =
+      told-changed (tableFor (h .change)) (numberFor (h .change) (h .carried) m) (read-answer o (h .change) (h .carried) (h .reads)
+      ∙ answer-done (h .change) (h .carried) m (accepted-zero h))
 
   -- a 0 comes from stores in order
   pub zero-order : plainChange x s .answer .number ≡ 0 → InOrder s

@@ -12,7 +12,7 @@ use Rattle.wire.specs.Wire.{fieldAt}
 use Rattle.wire.specs.declared.FieldRead.the-variants.{Field}
 use Rattle.schema.specs.declared.number.TableId.{TableId}
 use Rattle.schema.specs.declared.number.TableId.the-variants.{Attributes, Classes}
-use Rattle.schema.specs.Answers.{answer, passed, done, refused, shortOutput, changed, fieldAnswer, classAnswer, numberAnswer}
+use Rattle.schema.specs.Answers.{RowChanged, answer, passed, done, refused, shortOutput, fieldAnswer, classAnswer, numberAnswer}
 use Rattle.schema.specs.Layout.{storeLength, closureLength}
 use Rattle.schema.specs.Numbers.{classLimit, classRead, numberRead}
 use Rattle.schema.specs.Order.{order, rank}
@@ -213,7 +213,7 @@ pub record Demand2 : Type 0 where
   pub plain-order : (x : List ℕ) (s : Stores) → Bytes x → plainChange x s .answer .number ≡ 0 → InOrder (plainChange x s .left)
   -- "table and row changed or added"
   pub plain-done : (x : List ℕ) (s : Stores) → InOrder s → (h : Accepted x (schemaOf s))
-      → plainChange x s .answer ≡ changed (tableFor (h .change)) (numberFor (h .change) (h .carried) (schemaOf s))
+      → RowChanged (plainChange x s .answer) (tableFor (h .change)) (numberFor (h .change) (h .carried) (schemaOf s))
   -- else 1, 2, 3, 4 with its place, or the first number from 5 on, in the order of judging, whose condition holds
   pub plain-one : (x : List ℕ) (s : Stores) → SomeShort s → plainChange x s ≡ result (refused refusal.shortStore) s
   pub plain-two : (x : List ℕ) (s : Stores) → LongEnough s → ¬ Shape s → plainChange x s ≡ result (refused refusal.brokenShape) s

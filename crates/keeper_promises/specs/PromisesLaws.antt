@@ -1,4 +1,5 @@
 -- The promises, kept: each demand, with no assumption left.
+use Rattle.schema.specs.AnswersLaws.{same-told}
 use Rattle.schema.specs.OrderLaws.{rank-apart}
 use Rattle.sheet_read.specs.StoppingLaws.{sheet-stops}
 use Rattle.rules.specs.MeetsLaws.{kept-met}
@@ -115,4 +116,4 @@ demand2 = record {
 }
 
 pub demand3 : Demand3
-demand3 = record { agree = agreement; alone = apart.quick-alone }
+demand3 = record { agree = agreement; alone = λ x s t h. same-told (apart.quick-alone x s t h) }

@@ -43,7 +43,7 @@ use Rattle.change_model.specs.SameLaws.{after-same}
 use Rattle.change_model.specs.ThereLaws.{entry-class}
 use Rattle.closure_change.specs.After.{closureAfter, entryJoined}
 use Rattle.closure_change.specs.Kept.{eachHolding, holds, joinedInto, namedSets, newRow, ownRow, refreshedAt, rowWhere, withNew}
-use Rattle.keeper.specs.AnsweringLaws.{not-short}
+use Rattle.keeper.specs.InShapeLaws.{not-short}
 use Rattle.keeper_change.specs.Quick.{quickChange, quickMade, quickNumber}
 use Rattle.keeper_promises.specs.AfterLaws.{after-changed}
 use Rattle.keeper_promises.specs.AlikeLaws.{same-rows}

@@ -3,7 +3,7 @@ use mathlib.Core.Bool.{true}
 use mathlib.Core.List.{List}
 use mathlib.Core.Path.{_≡_}
 use Prim.Native.Nat.{ℕ, _≤_}
-use Rattle.schema.specs.Answers.{changed, refused}
+use Rattle.schema.specs.Answers.{RowChanged, refused}
 use Rattle.schema.specs.Order.{rank}
 use Rattle.schema.specs.Store.{LongEnough, Stores, schemaOf}
 use Rattle.rules.specs.Rules.{breaks}
@@ -31,7 +31,7 @@ pub data QuickCondition (change : Change) (r : List ℕ) (s : Stores) : ℕ → 
 module _ (x : List ℕ) (s : Stores) where
   pub record QuickAnswers (change : Change) (r : List ℕ) : Type 0 where
     -- "0 done; table and row changed or added"
-    pub done : Done x s → quickChange x s .answer ≡ changed (tableFor change) (numberFor change r (schemaOf s))
+    pub done : Done x s → RowChanged (quickChange x s .answer) (tableFor change) (numberFor change r (schemaOf s))
     -- "with changes, table and place are 0 on refusal"; the number is one whose condition holds
     pub told : ¬ (Done x s) → quickChange x s .answer ≡ refused (quickChange x s .answer .number)
     pub holds : ¬ (Done x s) → QuickCondition change r s (quickChange x s .answer .number)

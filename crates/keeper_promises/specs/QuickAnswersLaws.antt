@@ -9,7 +9,8 @@ use native.Mathlib.Omega.{arith}
 use Rattle.prelude.specs.First.{Among, Case}
 use Rattle.prelude.specs.FirstLaws.{among-above, among-append, among-left, among-right, first-among, first-least, other-first}
 use Rattle.prelude.specs.SaysLaws.{says-eq, says-false, says-true}
-use Rattle.schema.specs.Answers.{changed, refused}
+use Rattle.schema.specs.Answers.{RowChanged, refused}
+use Rattle.schema.specs.AnswersLaws.{told-changed}
 use Rattle.schema.specs.Order.{rank, position}
 use Rattle.schema.specs.Store.{Schema, Stores, schemaOf}
 use Rattle.schema.specs.declared.answer.Answer.{Answer}
@@ -23,7 +24,7 @@ use Rattle.change_asked.specs.Asked.{askedCases}
 use Rattle.change_model.specs.ConditionsLaws.{among-condition, condition-among, result-rise}
 use Rattle.change_model.specs.Model.{addedBy, answerBy, changedCases, resultCases}
 use Rattle.change_model.specs.ModelLaws.{answer-number}
-use Rattle.keeper.specs.Answering.{InShape}
+use Rattle.keeper.specs.InShape.{InShape}
 use Rattle.keeper_change.specs.Quick.{quickChange, quickNumber, quickTo}
 use Rattle.keeper_promises.specs.OrderLaws.{has-shape}
 use Rattle.keeper_promises.specs.QuickAnswers.{AnswersQuickly, QuickCondition}
@@ -90,9 +91,11 @@ module _ (x : List ℕ) (s : Stores) (change : Change) (r : List ℕ) (reads : R
     number-by : quickChange x s .answer .number ≡ quickNumber change r m (s .closure)
     number-by = ap (λ (a : Answer). a .number) answer-is ∙ answer-number change r m (quickNumber change r m (s .closure))
 
-    answer-done : Done x s → quickChange x s .answer ≡ changed (tableFor change) (numberFor change r m)
+    answer-done : Done x s → RowChanged (quickChange x s .answer) (tableFor change) (numberFor change r m)
     unfolding answerBy
-    answer-done z = answer-is ∙ rw (says-true (says-eq (quickNumber change r m (s .closure)) 0) (sym number-by ∙ z))
+    answer-done z =
+        told-changed (tableFor change) (numberFor change r m) (answer-is
+        ∙ rw (says-true (says-eq (quickNumber change r m (s .closure)) 0) (sym number-by ∙ z)))
 
     answer-told : ¬ (Done x s) → quickChange x s .answer ≡ refused (quickChange x s .answer .number)
     unfolding answerBy

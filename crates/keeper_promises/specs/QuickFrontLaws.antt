@@ -26,8 +26,10 @@ use Rattle.change_asked.specs.AskedLaws.{asked-room}
 use Rattle.change_model.specs.Model.{changedCases}
 use Rattle.change_model.specs.ModelLaws.{answer-number}
 use Rattle.change_model.specs.Sound.{rowNumber}
-use Rattle.keeper.specs.Answering.{InShape, firstAnswer, shapeAnswers}
-use Rattle.keeper.specs.AnsweringLaws.{refused-any, shape-passed, zero-iff-pass}
+use Rattle.schema.specs.Answering.{firstAnswer}
+use Rattle.keeper.specs.InShape.{InShape, shapeAnswers}
+use Rattle.schema.specs.AnsweringLaws.{refused-any, zero-iff-pass}
+use Rattle.keeper.specs.InShapeLaws.{shape-passed}
 use Rattle.keeper_change.specs.Quick.{quickAnswer, quickChange, quickDiffers, quickMade, quickNumber, quickRead, quickTo}
 use Rattle.keeper_promises.specs.PlainFrontLaws.{made-bytes, made-past, past-reflexive}
 use Rattle.keeper_promises.specs.BytesLaws.{closure-after-bytes}

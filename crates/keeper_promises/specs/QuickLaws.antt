@@ -12,8 +12,10 @@ use Rattle.tables_shape.specs.ShapeLaws.{says-formed}
 use Rattle.change_read.specs.Reading.{readChange}
 use Rattle.change_read.specs.declared.read.ChangeRead.{ChangeRead}
 use Rattle.change_read.specs.declared.read.ChangeRead.the-variants.{Bad}
-use Rattle.keeper.specs.Answering.{InShape, firstAnswer, shapeAnswers}
-use Rattle.keeper.specs.AnsweringLaws.{broken-stores, not-short, passed-last, passed-shape, refused-any, short-stores}
+use Rattle.schema.specs.Answering.{firstAnswer}
+use Rattle.keeper.specs.InShape.{InShape, shapeAnswers}
+use Rattle.schema.specs.AnsweringLaws.{passed-last, refused-any}
+use Rattle.keeper.specs.InShapeLaws.{broken-stores, not-short, passed-shape, short-stores}
 use Rattle.keeper_change.specs.Quick.{quickAnswer, quickChange, quickRead, quickTo}
 use Rattle.keeper_promises.specs.OrderLaws.{has-shape}
 use Rattle.keeper_promises.specs.Promises.{Shape, SomeShort}

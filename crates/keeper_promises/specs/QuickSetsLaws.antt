@@ -32,7 +32,7 @@ use Rattle.change_read.specs.declared.read.ChangeRead.the-variants.{Read}
 use Rattle.change_rows.specs.Rows.{editedRow, schemaAfter, tableAfter}
 use Rattle.change_asked.specs.Asked.{firstAsked}
 use Rattle.change_asked.specs.AskedLaws.{asked-room}
-use Rattle.keeper.specs.Answering.{InShape}
+use Rattle.keeper.specs.InShape.{InShape}
 use Rattle.keeper_change.specs.MadeLaws.{made-same, made-shape}
 use Rattle.keeper_change.specs.Quick.{quickChange, quickMade}
 use Rattle.keeper_promises.specs.KeptLaws.{Has, has-members, has-new, has-option, has-union, kept-has}

@@ -11,7 +11,7 @@ use Rattle.prelude.specs.Part.{Bytes, sameBytes, zeros}
 use Rattle.prelude.specs.SaysLaws.{says-eq, says-false, says-split, says-true}
 use Rattle.sets.specs.Sets.{setOf}
 use Rattle.sets.specs.SetsLaws.{says-same-sets, set-cong}
-use Rattle.schema.specs.Answers.{changed}
+use Rattle.schema.specs.Answers.{RowChanged}
 use Rattle.schema.specs.Layout.{attributeSet, rowWidth}
 use Rattle.schema.specs.Numbers.{SameRow, attributeLimit, classLimit, limit}
 use Rattle.schema.specs.Store.{Schema, Stores, Table, closureAt, schemaOf, table}
@@ -207,15 +207,15 @@ module _ (x : List ℕ) (bytes : Bytes x) (s : Stores) (h : InOrder s) where
     past = plain-past x bytes s;
   }
     where
-      told : (z : Done) → plainChange x s .answer ≡ changed (tableFor (change z)) (number z)
+      told : (z : Done) → RowChanged (plainChange x s .answer) (tableFor (change z)) (number z)
       told z = plain-done x s h (accepted z)
 
-      rows : (u : TableId) (k : ℕ) → k < limit u → ¬ (plainChange x s .answer ≡ changed u k) → Dec Done → table u (schemaOf left) .row k ≡ table u m .row k
-      rows u k l other (yes z) = done-row z u k l (λ q. other (told z ∙ ap₂ changed (q .0) (q .1)))
+      rows : (u : TableId) (k : ℕ) → k < limit u → ¬ (RowChanged (plainChange x s .answer) u k) → Dec Done → table u (schemaOf left) .row k ≡ table u m .row k
+      rows u k l other (yes z) = done-row z u k l (λ q. other (rw (← q .0, ← q .1) (told z)))
       rows u k l other (no d) = rw (plain-kept x s d)
 
       closure : (c : ℕ) → c < classLimit → ReachesNone (plainChange x s .answer) (schemaOf left .classes) c → Dec Done
           → closureAt (left .closure) c ≡ closureAt (s .closure) c
       closure c l never (yes z) =
-          step-order .fresh c l ∙ done-closure z c (λ e. never (number z) (told z ∙ ap (λ (t : TableId). changed t (number z)) e)) ∙ sym (h .fresh c l)
+          step-order .fresh c l ∙ done-closure z c (λ e. never (number z) (rw (← e) (told z))) ∙ sym (h .fresh c l)
       closure c l never (no d) = rw (plain-kept x s d)

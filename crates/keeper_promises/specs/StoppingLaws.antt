@@ -33,7 +33,8 @@ use Rattle.rules.specs.RulesLaws.{rising}
 use Rattle.tables_shape.specs.ShapeLaws.{says-formed}
 use Rattle.change_model.specs.ConditionsLaws.{cases-rise}
 use Rattle.change_model.specs.Model.{changeCases, changeNumber}
-use Rattle.keeper.specs.Answering.{InShape, firstAnswer}
+use Rattle.schema.specs.Answering.{firstAnswer}
+use Rattle.keeper.specs.InShape.{InShape}
 use Rattle.keeper.specs.Order.{orderAnswers}
 use Rattle.keeper.specs.Load.{emptied, load}
 use Rattle.keeper_change.specs.Plain.{plainChange}

@@ -35,7 +35,7 @@ use Rattle.change_rows.specs.Rows.{schemaAfter}
 use Rattle.change_asked.specs.Asked.{askedCases}
 use Rattle.change_model.specs.Model.{changedCases}
 use Rattle.change_model.specs.ModelLaws.{answer-number}
-use Rattle.keeper.specs.Answering.{InShape}
+use Rattle.keeper.specs.InShape.{InShape}
 use Rattle.keeper_change.specs.Quick.{quickChange, quickDiffers, quickNumber, quickTo}
 use Rattle.keeper_promises.specs.QuickLaws.{quick-shaped}
 use Rattle.keeper_promises.specs.QuickSets.{DemandsMore, DemandsOther, Done, Thirty, Unrefused}

@@ -28,7 +28,7 @@ use Rattle.sheet_read.specs.Held.{Lent}
 use Rattle.sheet_read.specs.Reading.{readSheet, schemaFrom}
 use Rattle.sheet_read.specs.ReadingLaws.{sheet-sound}
 use Rattle.keeper.specs.Load.{readAnswer, filled, loaded, load}
-use Rattle.keeper.specs.AnsweringLaws.{not-short}
+use Rattle.keeper.specs.InShapeLaws.{not-short}
 use Rattle.keeper.specs.LoadLaws.{load-long, load-accepted, both-same, both-shaped, empty-long}
 use Rattle.list_text.specs.Listing.{keptCounts, definedCounts, classLine, classLines, headLine, listing, refusedLine, tooLong, sheetLimit}
 use Rattle.list_text.specs.Listing.{loadedText, listed, ListingOf, Counts, identifierText}

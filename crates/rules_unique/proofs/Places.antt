@@ -18,17 +18,18 @@ use Rattle.sets.specs.SetsLaws.{bit-with, bit-with-other, says-member}
 use Rattle.schema.specs.declared.number.TableId.{TableId}
 use Rattle.schema.specs.declared.number.TableId.the-variants.{Attributes, Classes}
 use Rattle.schema.specs.declared.number.RowId.{RowId}
-use Rattle.schema.specs.Numbers.{rowId, tableOf, numberOf}
+use Rattle.schema.specs.Numbers.{rowId, tableOf, numberOf, placeId}
 use Rattle.schema.specs.NumbersLaws.{id-table, id-number}
 use Rattle.schema.specs.Row.{nameOf, identifierOf, guidOf}
 use Rattle.schema.specs.AttributeRow.{mapiOf, linkOf}
-use Rattle.schema.specs.Store.{Schema, table}
+use Rattle.schema.specs.PlaceLaws.{place-back, place-high, place-low, place-row}
+use Rattle.schema.specs.Store.{Schema, placeOf, placeRow, table}
 use Rattle.rules_names.specs.Name.{folded, between}
 use Rattle.rules_unique.specs.declared.Key.{Key}
 use Rattle.rules_unique.specs.declared.Key.the-variants.{Name, Identifier, Guid, Mapi, Link}
 use Rattle.rules_unique.specs.Unique.{everyRow, hasKey, taken, SameKey, Rival}
 use Rattle.rules_unique.specs.UniqueLaws.{says-taken, clash-turned}
-use Rattle.rules_unique.specs.Marks.{absent, anyTaken, caseless, keyMark, markCount, markOf, marksWidth, met, placeCount, placeId, whole}
+use Rattle.rules_unique.specs.Marks.{absent, anyTaken, caseless, keyMark, markCount, markOf, marksWidth, met, placeCount, whole}
 
 -- ---- marks
 
@@ -85,34 +86,10 @@ module _ (key : Key) (m : Schema) where
   abbrev first : ℕ
   first = m .attributes .count
 
-  abbrev at-place : ℕ → RowId
-  at-place p = placeId first p
-
   abbrev pub rowOf : ℕ → List ℕ
-  rowOf p = table (tableOf (at-place p)) m .row (numberOf (at-place p))
+  rowOf p = placeRow m p
 
-  -- the place of a row
-  abbrev place : TableId → ℕ → ℕ
-  place Attributes k = k
-  place Classes k = first + k
-
-  place-low : (p : ℕ) → p < first → placeId first p ≡ rowId Attributes p
-  unfolding placeId
-  place-low p l = ap (λ (b : Bool). cond b (rowId Attributes p) (rowId Classes (p - first))) (says-true (says-lt p first) l)
-
-  place-high : (p : ℕ) → first ≤ p → placeId first p ≡ rowId Classes (p - first)
-  unfolding placeId
-  place-high p l = ap (λ (b : Bool). cond b (rowId Attributes p) (rowId Classes (p - first))) (says-false (says-lt p first) (λ h. omega (arith, h)))
-
-  place-back : (t : TableId) (k : ℕ) → k < table t m .count → placeId first (place t k) ≡ rowId t k
-  place-back Attributes k l = place-low k l
-  place-back Classes k l = let e : first + k - first ≡ k = omega arith in place-high (first + k) (omega arith) ∙ ap (rowId Classes) e
-
-  place-row : (t : TableId) (k : ℕ) → k < table t m .count → rowOf (place t k) ≡ table t m .row k
-  place-row Attributes k l = ap (λ (i : RowId). table (tableOf i) m .row (numberOf i)) (place-back Attributes k l)
-  place-row Classes k l = ap (λ (i : RowId). table (tableOf i) m .row (numberOf i)) (place-back Classes k l)
-
-  place-below : (t : TableId) (k : ℕ) → hasKey key t ≡ true → k < table t m .count → place t k < placeCount key m
+  place-below : (t : TableId) (k : ℕ) → hasKey key t ≡ true → k < table t m .count → placeOf m t k < placeCount key m
   unfolding placeCount
   place-below Attributes k h l = omega (arith, l)
   place-below Classes k h l = rw h (omega (arith, l))
@@ -126,7 +103,7 @@ module _ (key : Key) (m : Schema) where
   record Placed (p : ℕ) (i : RowId) : Type 0 where
     there : numberOf i < table (tableOf i) m .count
     has : hasKey key (tableOf i) ≡ true
-    back : place (tableOf i) (numberOf i) ≡ p
+    back : placeOf m (tableOf i) (numberOf i) ≡ p
 
   placed : (p : ℕ) → p < placeCount key m → Placed p (placeId first p)
   unfolding placeCount hasKey
@@ -135,11 +112,11 @@ module _ (key : Key) (m : Schema) where
       classes : ¬ (p < first) → (hasKey key Classes ≡ true) ⊎ (hasKey key Classes ≡ false) → Placed p (placeId first p)
       classes h (inl q) =
           let low : p < first + m .classes .count = rw q at l in
-          subst (Placed p) (sym (place-high p (omega (arith, h)))) (record { there = omega (arith, low, h); has = q; back = omega (arith, h) })
+          subst (Placed p) (sym (place-high first p (omega (arith, h)))) (record { there = omega (arith, low, h); has = q; back = omega (arith, h) })
       classes h (inr q) = let low : p < first + 0 = rw q at l in absurd (h (omega (arith, low)))
 
       go : Dec (p < first) → Placed p (placeId first p)
-      go (yes h) = subst (Placed p) (sym (place-low p h)) (record { there = h; has = refl; back = refl })
+      go (yes h) = subst (Placed p) (sym (place-low first p h)) (record { there = h; has = refl; back = refl })
       go (no h) = classes h (true-or-false (hasKey key Classes))
 
   pub place-there : (p : ℕ) → p < placeCount key m → numberOf (placeId first p) < table (tableOf (placeId first p)) m .count
@@ -182,18 +159,18 @@ module _ (key : Key) (m : Schema) where
           let x = placed p below in
           let y = placed i (omega (arith, low, below)) in
           let mark : member marks (keyMark key (rowOf p)) ≡ true = ap (member marks) (mark-same key (rowOf p) (rowOf i) s′) ∙ h i low in
-          let rival : Rival everyRow key m (tableOf (at-place p)) (numberOf (at-place p)) = record {
+          let rival : Rival everyRow key m (tableOf (placeId first p)) (numberOf (placeId first p)) = record {
             has = x .has;
-            of = tableOf (at-place i);
+            of = tableOf (placeId first i);
             its = y .has;
-            at = numberOf (at-place i);
+            at = numberOf (placeId first i);
             below = y .there;
-            other = λ q. omega (arith, low, sym (x .back) ∙ ap₂ place (q .0) (q .1) ∙ y .back);
+            other = λ q. omega (arith, low, sym (x .back) ∙ ap₂ (placeOf m) (q .0) (q .1) ∙ y .back);
             clash = record { first = refl; second = refl; same = s′ };
           } in
           true≢false
           (sym (rw (present-same key (rowOf p) (rowOf i) s′, mark)
-          (says-taken everyRow key m (tableOf (at-place p)) (numberOf (at-place p)) .passes rival)) ∙ calm)
+          (says-taken everyRow key m (tableOf (placeId first p)) (numberOf (placeId first p)) .passes rival)) ∙ calm)
 
   pub none-taken : Apart (placeCount key m) → anyTaken key m ≡ false
   unfolding anyTaken
@@ -208,23 +185,23 @@ module _ (key : Key) (m : Schema) where
           rival r = go (decLt p q)
             where
               p : ℕ
-              p = place t k
+              p = placeOf m t k
 
               q : ℕ
-              q = place (r .of) (r .at)
+              q = placeOf m (r .of) (r .at)
 
               same : SameKey key (rowOf p) (rowOf q)
-              same = rw (place-row t k l, place-row (r .of) (r .at) (r .below)) (r .clash .same)
+              same = rw (place-row m t k l, place-row m (r .of) (r .at) (r .below)) (r .clash .same)
 
               turned : SameKey key (rowOf q) (rowOf p)
-              turned = rw (place-row t k l, place-row (r .of) (r .at) (r .below)) (clash-turned {counts = everyRow} {key = key} (r .clash) .same)
+              turned = rw (place-row m t k l, place-row m (r .of) (r .at) (r .below)) (clash-turned {counts = everyRow} {key = key} (r .clash) .same)
 
               apart : ¬ (p ≡ q)
               apart e = r .other
                   (sym (id-table t k) ∙ ap tableOf ids ∙ id-table (r .of) (r .at), sym (id-number t k) ∙ ap numberOf ids ∙ id-number (r .of) (r .at))
                 where
                   ids : rowId t k ≡ rowId (r .of) (r .at)
-                  ids = sym (place-back t k l) ∙ ap (placeId first) e ∙ place-back (r .of) (r .at) (r .below)
+                  ids = sym (place-back m t k l) ∙ ap (placeId first) e ∙ place-back m (r .of) (r .at) (r .below)
 
               go : Dec (p < q) → ⊥
               go (yes h) = a p q h (place-below (r .of) (r .at) (r .its) (r .below)) turned
@@ -234,8 +211,8 @@ module _ (key : Key) (m : Schema) where
       → (met key (rowOf p) (keyMark key (rowOf p)) marks && taken everyRow key m (tableOf (placeId first p)) (numberOf (placeId first p))) ≡ true
       → anyTaken key m ≡ true
   unfolding anyTaken
-  one-taken p marks l e = go (tableOf (at-place p)) (numberOf (at-place p)) (placed p l .there)
-      (second (met key (rowOf p) (keyMark key (rowOf p)) marks) (taken everyRow key m (tableOf (at-place p)) (numberOf (at-place p))) e)
+  one-taken p marks l e = go (tableOf (placeId first p)) (numberOf (placeId first p)) (placed p l .there)
+      (second (met key (rowOf p) (keyMark key (rowOf p)) marks) (taken everyRow key m (tableOf (placeId first p)) (numberOf (placeId first p))) e)
     where
       second : (a b : Bool) → (a && b) ≡ true → b ≡ true
       second true b q = q

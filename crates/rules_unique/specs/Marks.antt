@@ -1,15 +1,13 @@
 -- Marks of keys: rows that have the same key have the same mark. The code's way to tell in one pass that no key is taken; no promise speaks of it.
 use mathlib.Core.Bool.{Bool, false, not, cond, _&&_, _||_}
 use mathlib.Core.List.{List}
-use Prim.Native.Nat.{ℕ, zero, suc, _+_, _-_, _*_, _%_}
+use Prim.Native.Nat.{ℕ, zero, suc, _+_, _*_, _%_}
 use lib.Bits.{bitAnd}
-use lib.Dec.{eqb, ltb}
+use lib.Dec.{eqb}
 use lib.ListN.{length, getD}
 use Rattle.prelude.specs.Below.{anyBelow}
 use Rattle.sets.specs.Sets.{member}
-use Rattle.schema.specs.declared.number.RowId.{RowId}
 use Rattle.schema.specs.declared.number.TableId.the-variants.{Attributes, Classes}
-use Rattle.schema.specs.Numbers.{rowId}
 use Rattle.schema.specs.Row.{nameOf, identifierOf, guidOf}
 use Rattle.schema.specs.AttributeRow.{linkOf, mapiOf}
 use Rattle.schema.specs.Store.{Schema}
@@ -55,10 +53,6 @@ absent Link row = eqb (linkOf row) 0
 -- a row has the key, and its mark is among those met
 unfoldable pub met : Key → List ℕ → ℕ → List ℕ → Bool
 met key row mark marks = not (absent key row) && member marks mark
-
--- place p of the rows of both tables, the n attributes first
-unfoldable pub placeId : ℕ → ℕ → RowId
-placeId n p = cond (ltb p n) (rowId Attributes p) (rowId Classes (p - n))
 
 -- so many of these rows have the key
 unfoldable pub placeCount : Key → Schema → ℕ

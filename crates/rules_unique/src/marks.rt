@@ -8,7 +8,7 @@ use schema::attribute::link;
 use schema::attribute::mapi;
 use schema::number::RowId;
 use schema::number::TableId;
-use schema::number::row_id;
+use schema::number::place_id;
 use schema::row::guid;
 use schema::row::identifier;
 use schema::row::name;
@@ -16,14 +16,14 @@ use schema::store::row_count;
 use schema::store::schema_row;
 ghost use mathlib.Core.Bool.{_&&_};
 ghost use mathlib.Core.Path.{_≡_};
-ghost use Prim.Native.Nat.{_+_, _≤_, _<_};
+ghost use Prim.Native.Nat.{_<_};
 ghost use lib.ListN.{length};
 ghost use Rattle.prelude.specs.Part.{zeros};
-ghost use Rattle.schema.specs.Numbers.{attributeLimit, classLimit, tableOf, numberOf};
+ghost use Rattle.schema.specs.Numbers.{tableOf, numberOf};
 ghost use Rattle.schema.specs.Store.{table, schemaIn};
 ghost use Rattle.tables.specs.Shaped.{Shaped};
 ghost use Rattle.rules_unique.specs.Unique.{everyRow, taken, Keyed};
-ghost use Rattle.rules_unique.specs.Marks.{absent, anyTaken, keyMark, marksWidth, markOf, met, placeCount, placeId};
+ghost use Rattle.rules_unique.specs.Marks.{absent, anyTaken, keyMark, marksWidth, markOf, met, placeCount};
 
 // So many marks there are, and so many bytes hold them.
 const MARKS: usize = 16384;
@@ -88,17 +88,6 @@ fn is_met(key: Key, row: &[u8], mark: usize, marks: &[u8]) -> bool
     sets::has(marks, mark)
 }
 
-// Place p of the rows of both tables, the attributes first.
-fn id_at(attributes: usize, p: usize) -> RowId
-    requires { ⌜ (attributes ≤ attributeLimit) × (p < attributes + classLimit) ⌝ }
-    ensures { λ r. ⌜ r ≡ placeId attributes p ⌝ }
-{
-    if p < attributes {
-        return row_id(TableId::Attributes, p);
-    }
-    row_id(TableId::Classes, p - attributes)
-}
-
 // How many rows have the key.
 fn place_count(attributes: &[u8], classes: &[u8], key: Key) -> usize
     requires { ⌜ Shaped (now attributes) (now classes) ⌝ }
@@ -139,7 +128,7 @@ fn any_repeated<'a>(attributes: &'a [u8], classes: &'a [u8], key: Key, marks: &m
     let count = place_count(attributes, classes, key);
     let mut p = 0;
     while p < count {
-        let id = id_at(first, p);
+        let id = place_id(first, p);
         let mark = key_mark(key, schema_row(attributes, classes, id));
         if is_repeated(attributes, classes, key, id, mark, marks) {
             return true;

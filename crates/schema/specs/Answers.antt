@@ -1,5 +1,6 @@
 -- The answer of a call, and what each enum answer of the lower crates is in the paper's numbers.
 -- Document 01: "Every answer has a number, a table (0 none, 1 attribute, 2 class) and a place; what is not named below is 0."
+use mathlib.Core.Path.{_≡_}
 use Prim.Native.Nat.{ℕ}
 use Rattle.wire.specs.declared.FieldRead.{FieldRead}
 use Rattle.wire.specs.declared.FieldRead.the-variants.{Field, End, Bad}
@@ -14,7 +15,7 @@ use Rattle.schema.specs.declared.number.NumberRead.the-variants as numbe
 use Rattle.schema.specs.Refusals as refusal
 
 abbrev pub answer : ℕ → ℕ → ℕ → Answer
-answer n t p = record { number = n; table = t; place = p }
+answer n t p = record { number = n; table = t; place = p; visits = 0 }
 
 -- "a table (0 none, 1 attribute, 2 class)"
 abbrev pub tableNumber : TableId → ℕ
@@ -31,6 +32,18 @@ passed = done 0
 -- "0 done; table and row changed or added"
 abbrev pub changed : TableId → ℕ → Answer
 changed t k = answer refusal.done (tableNumber t) k
+
+-- an answer that tells row k of a table as changed or added, by its number, table and place
+pub record RowChanged (a : Answer) (t : TableId) (k : ℕ) : Type 0 where
+  pub number : a .number ≡ refusal.done
+  pub table : a .table ≡ tableNumber t
+  pub place : a .place ≡ k
+
+-- two answers with the same number, table and place
+pub record SameTold (a b : Answer) : Type 0 where
+  pub number : a .number ≡ b .number
+  pub table : a .table ≡ b .table
+  pub place : a .place ≡ b .place
 
 abbrev pub refused : ℕ → Answer
 refused n = answer n 0 0

@@ -4,6 +4,9 @@ pub mod Refusals
 pub mod Order
 pub mod OrderLaws
 pub mod Answers
+pub mod AnswersLaws
+pub mod Answering
+pub mod AnsweringLaws
 pub mod Layout
 pub mod LayoutLaws
 pub mod Row
@@ -15,3 +18,4 @@ pub mod ObjectClassesLaws
 pub mod Store
 pub mod NumbersLaws
 pub mod StoreLaws
+pub mod PlaceLaws

@@ -1,7 +1,7 @@
 -- Class numbers and attribute numbers with their limits. Document 01: "at most 128 classes and 256 attributes (house)".
 use mathlib.Core.Bool.{Bool, cond, true, false, _&&_}
 use mathlib.Core.Path.{_≡_}
-use Prim.Native.Nat.{ℕ}
+use Prim.Native.Nat.{ℕ, _-_}
 use lib.Dec.{eqb, ltb}
 use Rattle.schema.specs.declared.number.ClassRead.{ClassRead}
 use Rattle.schema.specs.declared.number.AttributeRead.{AttributeRead}
@@ -51,6 +51,10 @@ numberOf (Class c) = c .0
 -- a number where a row of a table is meant
 abbrev pub numberRead : TableId → ℕ → NumberRead
 numberRead t n = cond (ltb n (limit t)) (number.Row (rowId t n)) number.Beyond
+
+-- place p of the rows of both tables, the n attributes first
+unfoldable pub placeId : ℕ → ℕ → RowId
+placeId n p = cond (ltb p n) (rowId Attributes p) (rowId Classes (p - n))
 
 -- two tables are one
 unfoldable pub sameTable : TableId → TableId → Bool

@@ -1,12 +1,13 @@
 -- The stores, the tables that they hold, the schema that these are together, and what a call comes to.
 use mathlib.Core.Bool.{Bool, cond, _||_}
 use mathlib.Core.List.{List}
-use Prim.Native.Nat.{ℕ, suc, _≤_}
+use Prim.Native.Nat.{ℕ, suc, _+_, _≤_}
 use lib.Dec.{eqb, ltb}
 use lib.ListN.{length, getD}
 use Rattle.prelude.specs.Part.{rowAt, part}
 use Rattle.prelude.specs.BigEndian.{bigEndian}
 use Rattle.schema.specs.Layout.{rowsAt, rowWidth, closureWidth, storeLength, closureLength, allowedAt, attributeSet, classSet, demandedAt, reachedAt}
+use Rattle.schema.specs.Numbers.{numberOf, placeId, tableOf}
 use Rattle.schema.specs.declared.number.TableId.{TableId}
 use Rattle.schema.specs.declared.number.TableId.the-variants.{Attributes, Classes}
 use Rattle.schema.specs.declared.answer.Answer.{Answer}
@@ -29,18 +30,27 @@ plusRow t new = record { count = suc (t .count); row = λ j. cond (eqb j (t .cou
 pub record Schema : Type 0 where
   pub attributes : Table
   pub classes : Table
+  pub profile : ℕ
 
-abbrev pub schema : Table → Table → Schema
-schema a c = record { attributes = a; classes = c }
+abbrev pub schema : Table → Table → ℕ → Schema
+schema a c p = record { attributes = a; classes = c; profile = p }
 
 abbrev pub table : TableId → Schema → Table
 table Attributes m = m .attributes
 table Classes m = m .classes
 
+-- the place of a row among the rows of both tables, the attributes first, and the row at a place
+abbrev pub placeOf : Schema → TableId → ℕ → ℕ
+placeOf m Attributes k = k
+placeOf m Classes k = m .attributes .count + k
+
+abbrev pub placeRow : Schema → ℕ → List ℕ
+placeRow m p = table (tableOf (placeId (m .attributes .count) p)) m .row (numberOf (placeId (m .attributes .count) p))
+
 -- the schema with one table replaced
 abbrev pub withTable : TableId → Table → Schema → Schema
-withTable Attributes t m = schema t (m .classes)
-withTable Classes t m = schema (m .attributes) t
+withTable Attributes t m = schema t (m .classes) (m .profile)
+withTable Classes t m = schema (m .attributes) t (m .profile)
 
 -- ---- stores
 
@@ -60,7 +70,7 @@ storeOf Classes a c = c
 
 -- the schema that the two stores hold
 abbrev pub schemaIn : List ℕ → List ℕ → Schema
-schemaIn a c = schema (tableIn Attributes a) (tableIn Classes c)
+schemaIn a c = schema (tableIn Attributes a) (tableIn Classes c) (getD c 1 0)
 
 -- the three kept sets of class c as they stand in the closure store
 abbrev pub closureAt : List ℕ → ℕ → List ℕ

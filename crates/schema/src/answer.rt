@@ -17,6 +17,7 @@ pub struct Answer {
     pub number: u8,
     pub table: u8,
     pub place: usize,
+    pub visits: usize,
 }
 
 // The number of a table in an answer; 0 stands for none.
@@ -47,6 +48,7 @@ impl Answer {
             number: DONE,
             table: Answer::NO_TABLE,
             place,
+            visits: 0,
         }
     }
 
@@ -58,6 +60,7 @@ impl Answer {
             number: DONE,
             table: table_number(table_of(id)),
             place: number_of(id),
+            visits: 0,
         }
     }
 
@@ -69,6 +72,7 @@ impl Answer {
             number,
             table: Answer::NO_TABLE,
             place: 0,
+            visits: 0,
         }
     }
 
@@ -80,6 +84,7 @@ impl Answer {
             number: UNREADABLE,
             table: Answer::NO_TABLE,
             place,
+            visits: 0,
         }
     }
 
@@ -91,6 +96,7 @@ impl Answer {
             number: NO_FREE_ROW,
             table: table_number(table),
             place: row_limit(table),
+            visits: 0,
         }
     }
 
@@ -102,6 +108,7 @@ impl Answer {
             number: SHORT_OUTPUT,
             table: Answer::NO_TABLE,
             place: needed,
+            visits: 0,
         }
     }
 
@@ -113,6 +120,7 @@ impl Answer {
             number,
             table: table_number(table_of(id)),
             place: number_of(id),
+            visits: 0,
         }
     }
 }

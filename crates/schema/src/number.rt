@@ -2,10 +2,10 @@
 // a type of its own, so that a class row cannot be looked up by an attribute's number. What serves both tables takes a number that says which table
 // it is of.
 ghost use mathlib.Core.Path.{_≡_};
-ghost use Prim.Native.Nat.{_<_};
+ghost use Prim.Native.Nat.{_+_, _<_, _≤_};
 ghost use lib.Dec.{ltb};
 ghost use Rattle.schema.specs.Numbers.{classLimit, attributeLimit, limit, classRead, attributeRead, numberRead};
-ghost use Rattle.schema.specs.Numbers.{rowId, tableOf, numberOf, sameTable, sameRow};
+ghost use Rattle.schema.specs.Numbers.{placeId, rowId, tableOf, numberOf, sameTable, sameRow};
 
 pub struct ClassNumber(pub usize);
 
@@ -135,6 +135,17 @@ pub fn row_id(table: TableId, k: usize) -> RowId
         TableId::Attributes => RowId::Attribute(AttributeNumber(k)),
         TableId::Classes => RowId::Class(ClassNumber(k)),
     }
+}
+
+// Place p of the rows of both tables, the attributes first.
+pub fn place_id(attributes: usize, p: usize) -> RowId
+    requires { ⌜ (attributes ≤ attributeLimit) × (p < attributes + classLimit) ⌝ }
+    ensures { λ r. ⌜ r ≡ placeId attributes p ⌝ }
+{
+    if p < attributes {
+        return row_id(TableId::Attributes, p);
+    }
+    row_id(TableId::Classes, p - attributes)
 }
 
 // The table of a row, and its number there.

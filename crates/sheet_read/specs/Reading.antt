@@ -62,7 +62,7 @@ plus Classes row x = rows (x .attributes) (x .classes ++ (row ∷ []))
 
 -- the schema that they are
 abbrev pub schemaFrom : Rows → Schema
-schemaFrom x = schema (tableFrom (x .attributes)) (tableFrom (x .classes))
+schemaFrom x = schema (tableFrom (x .attributes)) (tableFrom (x .classes)) 0
 
 -- ---- what may come
 

@@ -4,8 +4,8 @@ use native.Mathlib.Omega.{arith}
 use borrow.Author.Needs.{needs}
 use Rattle.schema.specs.Store.{stores}
 use Rattle.keeper.specs.Audit.{audit}
-use Rattle.keeper.specs.AnsweringLaws.{first-last, tested-fails, tested-holds}
-use Rattle.keeper.specs.CheckedLaws.{shape-refused, shape-onward, shaped-stores, readable-classes, in-shape, found-refused, found-passed}
+use Rattle.schema.specs.AnsweringLaws.{first-last, found-passed, found-refused, tested-fails, tested-holds}
+use Rattle.keeper.specs.CheckedLaws.{shape-refused, shape-onward, shaped-stores, readable-classes, in-shape}
 use Rattle.keeper.proofs.audit.audit.Statement.{statement}
 use Rattle.keeper.proofs.audit.audit.Tie as tie
 

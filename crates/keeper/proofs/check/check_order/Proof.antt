@@ -4,7 +4,7 @@ use mathlib.Core.Bool.{_&&_, not}
 use mathlib.Core.Path.{_∙_, ap, ap₂, sym}
 use borrow.Author.Needs.{needs}
 use Rattle.keeper.proofs.check.check_order.Statement.{statement}
-use Rattle.keeper.specs.AnsweringLaws.{first-last, tested-fails, tested-holds}
+use Rattle.schema.specs.AnsweringLaws.{first-last, tested-fails, tested-holds}
 use Rattle.keeper.specs.CheckedLaws.{in-shape, readable-classes, shape-onward, shape-refused, shaped-stores}
 use Rattle.keeper.specs.Order.{inOrder}
 use Rattle.graph.specs.Graph.{isFresh}

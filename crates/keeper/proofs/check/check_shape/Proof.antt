@@ -2,7 +2,7 @@ use mathlib.Core.Path.{sym, _∙_}
 use borrow.Author.Needs.{needs}
 use Rattle.schema.specs.Store.{stores}
 use Rattle.schema.specs.StoreLaws.{long-enough}
-use Rattle.keeper.specs.AnsweringLaws.{short-stores, formed-stores, broken-stores}
+use Rattle.keeper.specs.InShapeLaws.{short-stores, formed-stores, broken-stores}
 use Rattle.keeper.proofs.check.check_shape.Statement.{statement}
 use Rattle.keeper.proofs.check.check_shape.Tie as tie
 

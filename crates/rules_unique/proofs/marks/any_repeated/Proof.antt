@@ -1,10 +1,10 @@
 use Rattle.rules_unique.proofs.Places.{Apart, Marked, apart-more, marked-more, none-taken, one-taken, place-there, places-few}
-use Rattle.rules_unique.specs.Marks.{keyMark, marksWidth, met, placeCount, placeId}
+use Rattle.rules_unique.specs.Marks.{keyMark, marksWidth, met, placeCount}
 use Rattle.rules_unique.specs.Unique.{everyRow, taken}
 use Rattle.rules_unique.specs.UniqueLaws.{schema-keyed}
 use Rattle.tables.specs.ShapedLaws.{shaped-within}
 use Rattle.schema.specs.Store.{schemaIn, table}
-use Rattle.schema.specs.Numbers.{tableOf, numberOf}
+use Rattle.schema.specs.Numbers.{numberOf, placeId, tableOf}
 use Rattle.schema.specs.declared.number.RowId.{RowId}
 use Rattle.sets.specs.SetsLaws.{with-length}
 use Rattle.sets.specs.Sets.{withMember}
@@ -40,8 +40,8 @@ loop-holds c =
     let start = c .before .before .before .before .before in
     (search needs, ap length (start .pre .1) ∙ zeros-length marksWidth, (λ j l. absurd (omega (arith, l)), λ i j l b. absurd (omega (arith, b))))
 
-id-at-requires : tie.Need-id-at-requires Inv-loop μ-loop
-id-at-requires c κs =
+place-id-requires : tie.Need-place-id-requires Inv-loop μ-loop
+place-id-requires c κs =
     let c₁ = c .before in
     let c₂ = c₁ .before in
     let c₃ = c₂ .before in
@@ -68,8 +68,8 @@ schema-row-requires c κs =
     let m = (schemaIn (start .args .attributes .now) (start .args .classes .now)) in (
       start .pre .0 .attributes .long,
       start .pre .0 .classes .long,
-      shaped-within (start .pre .0) (tableOf (c .id-at .result)) (numberOf (c .id-at .result)) (subst (λ (i : RowId). numberOf i < table
-          (tableOf i) m .count) (sym (c .id-at .ensures ∙ ap (λ (n : ℕ). placeId n (c₂ .loop .p)) (c₄ .row-count .ensures))) (place-there (start .args .key) m
+      shaped-within (start .pre .0) (tableOf (c .place-id .result)) (numberOf (c .place-id .result)) (subst (λ (i : RowId). numberOf i < table
+          (tableOf i) m .count) (sym (c .place-id .ensures ∙ ap (λ (n : ℕ). placeId n (c₂ .loop .p)) (c₄ .row-count .ensures))) (place-there (start .args .key) m
           (c₂ .loop .p) (omega (arith, c₁ .loop-test .taken, c₃ .place-count .ensures)))),
     )
 
@@ -82,8 +82,8 @@ key-mark-requires c κs =
     let c₅ = c₄ .before in
     let start = c₅ .before .before .before .before in
     let m = (schemaIn (start .args .attributes .now) (start .args .classes .now)) in
-    rw (c .schema-row .ensures) (schema-keyed (start .pre .0) (tableOf (c₁ .id-at .result)) (numberOf (c₁ .id-at .result)) (subst (λ
-    (i : RowId). numberOf i < table (tableOf i) m .count) (sym (c₁ .id-at .ensures ∙ ap (λ (n : ℕ). placeId n (c₃ .loop .p)) (c₅ .row-count .ensures)))
+    rw (c .schema-row .ensures) (schema-keyed (start .pre .0) (tableOf (c₁ .place-id .result)) (numberOf (c₁ .place-id .result)) (subst (λ
+    (i : RowId). numberOf i < table (tableOf i) m .count) (sym (c₁ .place-id .ensures ∙ ap (λ (n : ℕ). placeId n (c₃ .loop .p)) (c₅ .row-count .ensures)))
     (place-there (start .args .key) m (c₃ .loop .p) (omega (arith, c₂ .loop-test .taken, c₄ .place-count .ensures)))))
 
 is-repeated-requires : tie.Need-is-repeated-requires Inv-loop μ-loop
@@ -96,7 +96,7 @@ is-repeated-requires c κs =
     let start = c₅ .before .before .before .before in
     let m = (schemaIn (start .args .attributes .now) (start .args .classes .now)) in (
       start .pre .0,
-      (subst (λ (i : RowId). numberOf i < table (tableOf i) m .count) (sym (c₁ .id-at .ensures ∙ ap (λ (n : ℕ). placeId n (c₃ .loop .p))
+      (subst (λ (i : RowId). numberOf i < table (tableOf i) m .count) (sym (c₁ .place-id .ensures ∙ ap (λ (n : ℕ). placeId n (c₃ .loop .p))
           (c₅ .row-count .ensures))) (place-there (start .args .key) m (c₃ .loop .p) (omega (arith, c₂ .loop-test .taken, c₄ .place-count .ensures)))),
     )
 
@@ -120,9 +120,9 @@ returns c =
     let m = (schemaIn (start .args .attributes .now) (start .args .classes .now)) in
     sym (one-taken (start .args .key) m (c₆ .loop .p) (c₆ .loop .marks) (omega (arith, c₅ .loop-test .taken, c₇ .place-count .ensures)) (subst (λ
     (i : RowId). (met (start .args .key) (table (tableOf i) m .row (numberOf i)) (keyMark (start .args .key) (table (tableOf i) m .row (numberOf i)))
-    (c₆ .loop .marks) && taken everyRow (start .args .key) m (tableOf i) (numberOf i)) ≡ true) (c₄ .id-at .ensures ∙ ap (λ (n : ℕ). placeId n
-    (c₆ .loop .p)) (c₈ .row-count .ensures)) (ap (λ (x : ℕ). met (start .args .key) (table (tableOf (c₄ .id-at .result)) m .row (numberOf
-    (c₄ .id-at .result))) x (c₆ .loop .marks) && taken everyRow (start .args .key) m (tableOf (c₄ .id-at .result)) (numberOf (c₄ .id-at .result))) (sym
+    (c₆ .loop .marks) && taken everyRow (start .args .key) m (tableOf i) (numberOf i)) ≡ true) (c₄ .place-id .ensures ∙ ap (λ (n : ℕ). placeId n
+    (c₆ .loop .p)) (c₈ .row-count .ensures)) (ap (λ (x : ℕ). met (start .args .key) (table (tableOf (c₄ .place-id .result)) m .row (numberOf
+    (c₄ .place-id .result))) x (c₆ .loop .marks) && taken everyRow (start .args .key) m (tableOf (c₄ .place-id .result)) (numberOf (c₄ .place-id .result))) (sym
     (c₂ .key-mark .ensures ∙ ap (keyMark (start .args .key)) (c₃ .schema-row .ensures))) ∙ sym (c₁ .is-repeated .ensures) ∙ c .if1 .taken)))
 
 loop-again : tie.Need-loop-again Inv-loop μ-loop
@@ -141,17 +141,17 @@ loop-again c =
     let m = (schemaIn (start .args .attributes .now) (start .args .classes .now)) in
     let marked = c₁ .insert .ensures ∙ ap (λ (x : ℕ). withMember x (c₈ .loop .marks)) (c₄ .key-mark .ensures ∙ ap (keyMark (start .args .key))
     (c₅ .schema-row .ensures)) ∙ ap (λ (i : RowId). withMember (keyMark (start .args .key) (table (tableOf i) m .row (numberOf i))) (c₈ .loop .marks))
-    (c₆ .id-at .ensures ∙ ap (λ (n : ℕ). placeId n (c₈ .loop .p)) (c₁₀ .row-count .ensures)) in (
+    (c₆ .place-id .ensures ∙ ap (λ (n : ℕ). placeId n (c₈ .loop .p)) (c₁₀ .row-count .ensures)) in (
       omega (arith, c₇ .loop-test .taken),
       ap length marked ∙ with-length _ (c₈ .loop .marks) ∙ c₈ .loop .inv .1,
       (
         marked-more (start .args .key) m (c₈ .loop .p) (c₈ .loop .marks) _ (c₈ .loop .inv .1) marked (c₈ .loop .inv .2 .0),
         apart-more (start .args .key) m (c₈ .loop .p) (c₈ .loop .marks) (omega (arith, c₇ .loop-test .taken, c₉ .place-count .ensures))
             (c₈ .loop .inv .2 .0) (subst (λ (i : RowId). (met (start .args .key) (table (tableOf i) m .row (numberOf i)) (keyMark (start .args .key) (table
-            (tableOf i) m .row (numberOf i))) (c₈ .loop .marks) && taken everyRow (start .args .key) m (tableOf i) (numberOf i)) ≡ false) (c₆ .id-at .ensures
+            (tableOf i) m .row (numberOf i))) (c₈ .loop .marks) && taken everyRow (start .args .key) m (tableOf i) (numberOf i)) ≡ false) (c₆ .place-id .ensures
             ∙ ap (λ (n : ℕ). placeId n (c₈ .loop .p)) (c₁₀ .row-count .ensures)) (ap (λ (x : ℕ). met (start .args .key) (table (tableOf
-            (c₆ .id-at .result)) m .row (numberOf (c₆ .id-at .result))) x (c₈ .loop .marks) && taken everyRow (start .args .key) m (tableOf
-            (c₆ .id-at .result)) (numberOf (c₆ .id-at .result))) (sym (c₄ .key-mark .ensures ∙ ap (keyMark (start .args .key)) (c₅ .schema-row .ensures)))
+            (c₆ .place-id .result)) m .row (numberOf (c₆ .place-id .result))) x (c₈ .loop .marks) && taken everyRow (start .args .key) m (tableOf
+            (c₆ .place-id .result)) (numberOf (c₆ .place-id .result))) (sym (c₄ .key-mark .ensures ∙ ap (keyMark (start .args .key)) (c₅ .schema-row .ensures)))
             ∙ sym (c₃ .is-repeated .ensures) ∙ c₂ .if1 .left)) (c₈ .loop .inv .2 .1),
       ),
     )
@@ -180,7 +180,7 @@ any-repeated-spec =
     row-count-requires
     place-count-requires
     loop-holds
-    id-at-requires
+    place-id-requires
     schema-row-requires
     key-mark-requires
     is-repeated-requires

@@ -1,19 +1,14 @@
--- Laws of the first answer that refuses, and what it means that the stores pass as in shape.
-use mathlib.Core.Bool.{Bool, true, false, not}
+-- Laws of the first answer that refuses.
+use mathlib.Core.Bool.{Bool, true, false}
 use mathlib.Core.List.{List, [], _∷_, _++_}
 use mathlib.Core.Logic.{_↔_, _⊎_, inl, inr, ⊎-elim}
 use mathlib.Core.Path.{_≡_, refl, sym, ap, _∙_}
 use Prim.Native.Nat.{_<_}
 use native.Mathlib.Omega.{arith}
-use borrow.Author.Tests.{not-false}
 use Rattle.prelude.specs.SaysLaws.{says-eq, says-true, says-false, says-split}
-use Rattle.schema.specs.Store.{Stores, LongEnough, anyShort}
-use Rattle.schema.specs.StoreLaws.{says-short, long-enough}
+use Rattle.schema.specs.Answering.{NoneRefuses, answerIf, firstAnswer}
+use Rattle.schema.specs.Answers.{passed}
 use Rattle.schema.specs.declared.answer.Answer.{Answer}
-use Rattle.schema.specs.Answers.{passed, refused}
-use Rattle.tables_shape.specs.Shape.{storesFormed}
-use Rattle.keeper.specs.Answering.{answerIf, firstAnswer, NoneRefuses, shapeAnswers, InShape}
-use Rattle.schema.specs.Refusals as refusal
 
 -- ---- one answer, for a function that tests one after the other
 
@@ -96,36 +91,15 @@ append-refused (a ∷ p) q middle last z d =
     (λ e. first-passed a (p ++ q) last e ∙ append-refused p q middle last z (λ f. d (ap (λ (x : Answer). x .number) (first-passed a p middle e) ∙ f))
     ∙ sym (first-passed a p middle e)) (refuses-or-not a)
 
--- ---- stores in shape
+-- the same number
+pub number-is : {a b : Answer} → a ≡ b → b .number ≡ 0 → a .number ≡ 0
+number-is e z = ap (λ (x : Answer). x .number) e ∙ z
 
-pub shape-passed : (s : Stores) → NoneRefuses (shapeAnswers s) → InShape s
-shape-passed s h =
-    record {
-      long = long-enough s (if-passed (anyShort s) (refused refusal.shortStore) (omega arith) (h .0));
-      formed = not-false (storesFormed (s .attributes) (s .classes))
-          (if-passed (not (storesFormed (s .attributes) (s .classes))) (refused refusal.brokenShape) (omega arith) (h .1 .0));
-    }
+-- ---- an answer that was found before the others
 
--- and the converse: stores in shape pass
-pub not-short : (s : Stores) → LongEnough s → anyShort s ≡ false
-not-short s h =
-    says-false (says-short s) (⊎-elim (λ l. omega (arith, h .attributes)) (⊎-elim (λ l. omega (arith, h .classes)) (λ l. omega (arith, h .closure))))
+module _ {a r : Answer} (is : r ≡ a) (answers : List Answer) (last : Answer) where
+  pub found-refused : ¬ (r .number ≡ 0) → r ≡ firstAnswer (a ∷ answers) last
+  found-refused d = is ∙ sym (first-refused a answers last (λ z. d (number-is is z)))
 
-pub passed-shape : (s : Stores) → InShape s → NoneRefuses (shapeAnswers s)
-passed-shape s h = (
-  ap (λ (x : Answer). x .number) (if-fails (anyShort s) (refused refusal.shortStore) (not-short s (h .long))),
-  (ap (λ (x : Answer). x .number) (if-fails (not (storesFormed (s .attributes) (s .classes))) (refused refusal.brokenShape) (ap not (h .formed))), tt),
-)
-
-module _ (s : Stores) where
-  pub short-stores : anyShort s ≡ true → refused refusal.shortStore ≡ firstAnswer (shapeAnswers s) passed
-  short-stores e = sym (tested-holds (refused refusal.shortStore) _ passed (λ z. omega arith) e)
-
-  pub broken-stores : anyShort s ≡ false → storesFormed (s .attributes) (s .classes) ≡ false → refused refusal.brokenShape
-      ≡ firstAnswer (shapeAnswers s) passed
-  broken-stores e f = sym (tested-fails (refused refusal.shortStore) _ passed e
-      ∙ tested-holds (refused refusal.brokenShape) [] passed (λ z. omega arith) (ap not f))
-
-  pub formed-stores : anyShort s ≡ false → storesFormed (s .attributes) (s .classes) ≡ true → passed ≡ firstAnswer (shapeAnswers s) passed
-  formed-stores e f = sym (tested-fails (refused refusal.shortStore) _ passed e ∙ tested-fails (refused refusal.brokenShape) [] passed (ap not f)
-      ∙ first-last passed)
+  pub found-passed : r .number ≡ 0 → firstAnswer (a ∷ answers) last ≡ firstAnswer answers last
+  found-passed z = first-passed a answers last (number-is (sym is) z)

@@ -1,16 +1,14 @@
 -- How a call finds its answer. Document 01: "The smallest number whose condition holds. Every answer has a number, a table .. and a place; what is not
 -- named below is 0." Each call has a list of answers in the order of judging, but that audit's 3 comes last; the first that
 -- refuses is given.
-use mathlib.Core.Bool.{Bool, true, cond, not}
+use mathlib.Core.Bool.{Bool, cond}
 use mathlib.Core.List.{List, [], _∷_}
 use mathlib.Core.Path.{_≡_}
 use Prim.Native.Nat.{ℕ}
 use lib.Dec.{eqb}
-use Rattle.schema.specs.Store.{Stores, LongEnough, anyShort}
-use Rattle.schema.specs.declared.answer.Answer.{Answer}
 use Rattle.schema.specs.Answers.{passed, refused}
-use Rattle.tables_shape.specs.Shape.{storesFormed}
+use Rattle.schema.specs.declared.answer.Answer.{Answer}
 use Rattle.schema.specs.Refusals as refusal
 
 -- an answer that is given where a condition holds, and passed over where it does not
 unfoldable pub answerIf : Bool → Answer → Answer
@@ -29,12 +27,3 @@ firstAnswer (a ∷ answers) last = cond (eqb (a .number) refusal.done) (firstAns
 abbrev pub NoneRefuses : List Answer → Type 0
 NoneRefuses [] = Unit {0}
 NoneRefuses (a ∷ answers) = (a .number ≡ refusal.done) × NoneRefuses answers
-
--- what every call but load asks of its stores: "1 a lent store is shorter than its length", "2 shape broken (not at load)"
-abbrev pub shapeAnswers : Stores → List Answer
-shapeAnswers s = refusedIf refusal.shortStore (anyShort s) ∷ refusedIf refusal.brokenShape (not (storesFormed (s .attributes) (s .classes))) ∷ []
-
--- every store has its length, and the shape is not broken
-pub record InShape (s : Stores) : Type 0 where
-  pub long : LongEnough s
-  pub formed : storesFormed (s .attributes) (s .classes) ≡ true

@@ -1,8 +1,8 @@
 use borrow.Author.Needs.{needs}
 use borrow.Author.Tests.{lt-ltb, le-ltb}
-use Rattle.rules_unique.specs.Marks.{placeId}
-use Rattle.rules_unique.proofs.marks.id_at.Statement.{statement}
-use Rattle.rules_unique.proofs.marks.id_at.Tie as tie
+use Rattle.schema.specs.Numbers.{placeId}
+use Rattle.schema.proofs.number.place_id.Statement.{statement}
+use Rattle.schema.proofs.number.place_id.Tie as tie
 
 returns : tie.Need-returns
 unfolding placeId
@@ -12,8 +12,8 @@ returns-2 : tie.Need-returns-2
 unfolding placeId
 returns-2 c = rw (le-ltb _ _ (c .before .if1 .left)) (c .row-id2 .ensures)
 
-pub id-at-spec : {M : Type 1} → statement M
-id-at-spec = tie.close (tie.spec
+pub place-id-spec : {M : Type 1} → statement M
+place-id-spec = tie.close (tie.spec
     (λ c κs. search needs)
     returns
     (λ c κs. search needs)
