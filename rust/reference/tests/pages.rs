@@ -1,5 +1,6 @@
 //! The pages of the repository cite what is there: links lead to files, a name
-//! cited "in" a file stands in it, and every number has one name everywhere.
+//! cited "in" a file, or under a heading "of" it, stands in it, every promise has
+//! its row, and every number has one name everywhere.
 
 use std::fs;
 use std::path::{Path, PathBuf};
@@ -15,12 +16,28 @@ fn text(path: &str) -> String {
     text
 }
 
-/// A page: the folder that it stands in, and its words with single spaces, so
-/// that it does not matter where its lines end.
-fn pages() -> Vec<(String, String, String)> {
+/// A page's text with its links in full: a page may give the paths at its end,
+/// as `[LABEL]: PATH`, and have only `[LABEL]` where it cites.
+fn with_links(page: &str) -> String {
+    let mut text = text(page);
+    for line in text.clone().lines() {
+        let link = line
+            .strip_prefix('[')
+            .and_then(|line| line.split_once("]: "));
+        let Some((label, path)) = link else { continue };
+        text = text.replace(&format!("{line}\n"), "");
+        let full = text.replace(&format!("[{label}]"), &format!("[{label}]({path})"));
+        assert_ne!(full, text, "{page}: no one cites {label}");
+        text = full;
+    }
+    text
+}
+
+/// A page: its path, the folder that it stands in, and its text.
+fn page_texts() -> Vec<(String, String, String)> {
     let mut paths = vec!["README.md".to_owned(), "CONTRIBUTING.md".to_owned()];
     paths.push("rust/README.md".to_owned());
-    for folder in ["docs", "docs/requests"] {
+    for folder in ["docs", "docs/requests", "docs/proofs"] {
         let entries = fs::read_dir(top().join(folder)).into_iter().flatten();
         let names = entries.filter_map(|entry| entry.ok()?.file_name().into_string().ok());
         let names = names.filter(|name| name.ends_with(".md"));
@@ -28,18 +45,25 @@ fn pages() -> Vec<(String, String, String)> {
     }
     let page = |path: String| {
         let folder = path.rsplit_once('/').map_or("", |(folder, _)| folder);
-        let words: Vec<_> = text(&path).split_whitespace().map(str::to_owned).collect();
-        (path.clone(), folder.to_owned(), words.join(" "))
+        (path.clone(), folder.to_owned(), with_links(&path))
     };
     paths.into_iter().map(page).collect()
+}
+
+/// The pages with their words one space apart, so that it does not matter where
+/// their lines end.
+fn pages() -> Vec<(String, String, String)> {
+    let words = |text: String| text.split_whitespace().collect::<Vec<_>>().join(" ");
+    let page = |(path, folder, text)| (path, folder, words(text));
+    page_texts().into_iter().map(page).collect()
 }
 
 /// The file that a text begins with the path of: a link from a folder, or a
 /// path from the top.
 fn target(folder: &str, text: &str) -> Option<PathBuf> {
     if let Some(link) = text.strip_prefix('[') {
-        let (_, rest) = link.split_once("](")?;
-        let (path, _) = rest.split_once(')')?;
+        let (_, rest) = link.split_once(']')?;
+        let (path, _) = rest.strip_prefix('(')?.split_once(')')?;
         let path = path.split('#').next()?;
         return (!path.contains("://")).then(|| top().join(folder).join(path));
     }
@@ -66,6 +90,10 @@ fn links_and_paths_lead_to_files() {
             let path = target(&folder, text);
             let is_there = path.as_ref().is_none_or(|path| path.exists());
             assert!(is_there, "{page}: {path:?}");
+        }
+        for (at, _) in words.match_indices('[').filter(|_| folder == "docs/proofs") {
+            let label = &words[at..words.len().min(at + 80)];
+            assert!(target(&folder, &words[at..]).is_some(), "{page}: {label}");
         }
     }
 }
@@ -113,6 +141,58 @@ fn a_name_cited_in_a_file_stands_in_it() {
         }
     }
     assert!(count > 200, "{count} names");
+}
+
+/// A column headed ".. of [FILE]" names what stands in that file, but where a
+/// part of a cell, up to its semicolon, says in which other.
+#[test]
+fn a_name_in_a_column_stands_in_the_file_of_its_heading() {
+    let mut count = 0;
+    for (page, folder, text) in page_texts() {
+        for table in text.split("\n\n").filter(|part| part.starts_with("| ")) {
+            let mut rows = table.lines().map(|line| line.split(" | "));
+            for (column, heading) in rows.next().into_iter().flatten().enumerate() {
+                let file = heading.find(" of [").map(|at| &heading[at + 4..]);
+                let Some(path) = file.and_then(|file| target(&folder, file)) else {
+                    continue;
+                };
+                let file = fs::read_to_string(&path).unwrap_or_default();
+                let cells = rows.clone().filter_map(|mut cells| cells.nth(column));
+                let parts = cells.flat_map(|cell| cell.split("; "));
+                let parts = parts.filter(|part| !part.contains(" in ["));
+                for name in parts.flat_map(|part| part.split('`').skip(1).step_by(2)) {
+                    assert!(has_name(&file, name), "{page}: {name} in {path:?}");
+                    count += 1;
+                }
+            }
+        }
+    }
+    assert!(count > 200, "{count} names");
+}
+
+/// The page of the calls names every member of the records of promises.
+#[test]
+fn every_promise_has_its_row() {
+    let page = text("docs/proofs/CALLS.md");
+    let mut count = 0;
+    for file in ["Promises", "Demand3"] {
+        let code = text(&format!("crates/keeper_promises/specs/{file}.antt"));
+        let records = code.split("pub record ").skip(1);
+        let records = records.filter(|record| {
+            let name = record.split(' ').next().unwrap_or_default();
+            name.starts_with("Demand") || name == "Agreement"
+        });
+        for line in records.flat_map(str::lines) {
+            let member = line.trim_start().strip_prefix("pub ");
+            let member = member.and_then(|line| Some(line.split_once(" : ")?.0));
+            let Some(name) = member.filter(|name| !name.contains(' ')) else {
+                continue;
+            };
+            assert!(page.contains(&format!("`{name}`")), "{file}: {name}");
+            count += 1;
+        }
+    }
+    assert!(count > 80, "{count} promises");
 }
 
 /// All files of a folder, their paths and texts one after the other.
@@ -265,11 +345,11 @@ fn what_must_be_believed_is_what_the_promises_bring_in() {
         next += 1;
     }
     found.sort();
-    let page = text("docs/PROOFS.md");
+    let page = text("docs/proofs/BELIEVED.md");
     let section = page.split("## What must be believed\n").nth(1);
     let section = section.and_then(|rest| rest.split("\nFor what stands beside").next());
     let listed = section.unwrap_or_default().lines().filter_map(|line| {
-        let (_, link) = line.strip_prefix("- [")?.split_once("](../")?;
+        let (_, link) = line.strip_prefix("- [")?.split_once("](../../")?;
         Some(link.split_once(')')?.0.to_owned())
     });
     let mut listed: Vec<String> = listed.collect();
