@@ -213,7 +213,7 @@ module _ (x : List ℕ) (s : Stores) where
   pub plain-zero : (plainChange x s .answer .number ≡ 0) ↔ (InOrder s × Accepted x m)
   plain-zero = (
     λ z. (zero-order z, zero-reads read refl z),
-    λ h. ap (λ (a : Answer). a .number) (plain-done (h .0) (h .1)),
+    λ h. plain-done (h .0) (h .1) .number,
   )
 
   -- ---- what is left
