@@ -9,27 +9,27 @@ pub struct Declared;
 
 impl Keeper for Declared {
     fn load(&self, sheet: &[u8], s: LentMut<'_>, detail: &mut [u64]) -> u64 {
-        keeper::c::load(sheet, s.attributes, s.classes, s.closure, detail)
+        keeper::c::load(sheet, [s.attributes, s.classes, s.closure], detail)
     }
 
     fn write(&self, s: Lent<'_>, output: &mut [u8], detail: &mut [u64]) -> u64 {
-        keeper::c::write(s.attributes, s.classes, s.closure, output, detail)
+        keeper::c::write([s.attributes, s.classes, s.closure], output, detail)
     }
 
     fn audit(&self, s: Lent<'_>, detail: &mut [u64]) -> u64 {
-        keeper::c::audit(s.attributes, s.classes, s.closure, detail)
+        keeper::c::audit([s.attributes, s.classes, s.closure], detail)
     }
 
     fn plain_change(&self, change: &[u8], s: LentMut<'_>, detail: &mut [u64]) -> u64 {
-        keeper::c::plain_change(change, s.attributes, s.classes, s.closure, detail)
+        keeper::c::plain_change(change, [s.attributes, s.classes, s.closure], detail)
     }
 
     fn quick_change(&self, change: &[u8], s: LentMut<'_>, detail: &mut [u64]) -> u64 {
-        keeper::c::quick_change(change, s.attributes, s.classes, s.closure, detail)
+        keeper::c::quick_change(change, [s.attributes, s.classes, s.closure], detail)
     }
 
     fn depth(&self, s: Lent<'_>, class: u16, detail: &mut [u64]) -> u64 {
-        keeper::c::depth(s.attributes, s.classes, s.closure, class, detail)
+        keeper::c::depth([s.attributes, s.classes, s.closure], class, detail)
     }
 }
 

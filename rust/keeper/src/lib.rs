@@ -61,17 +61,17 @@ fn answer(call: impl FnOnce(&mut [u64]) -> u64) -> Answer {
 
 /// Loads a sheet into the stores.
 pub fn load(sheet: &[u8], attributes: &mut [u8], classes: &mut [u8], closure: &mut [u8]) -> Answer {
-    answer(|detail| c::load(sheet, attributes, classes, closure, detail))
+    answer(|detail| c::load(sheet, [attributes, classes, closure], detail))
 }
 
 /// Writes the stores as a sheet to the front of the output.
 pub fn write(attributes: &[u8], classes: &[u8], closure: &[u8], output: &mut [u8]) -> Answer {
-    answer(|detail| c::write(attributes, classes, closure, output, detail))
+    answer(|detail| c::write([attributes, classes, closure], output, detail))
 }
 
 /// Whether the stores are in order.
 pub fn audit(attributes: &[u8], classes: &[u8], closure: &[u8]) -> Answer {
-    answer(|detail| c::audit(attributes, classes, closure, detail))
+    answer(|detail| c::audit([attributes, classes, closure], detail))
 }
 
 /// Makes a change, where the schema with it is in order too. Refused, no byte of
@@ -82,7 +82,7 @@ pub fn plain_change(
     classes: &mut [u8],
     closure: &mut [u8],
 ) -> Answer {
-    answer(|detail| c::plain_change(change, attributes, classes, closure, detail))
+    answer(|detail| c::plain_change(change, [attributes, classes, closure], detail))
 }
 
 /// Makes a change as [`plain_change`] does, but judges the changed row alone and
@@ -96,10 +96,10 @@ pub fn quick_change(
     classes: &mut [u8],
     closure: &mut [u8],
 ) -> Answer {
-    answer(|detail| c::quick_change(change, attributes, classes, closure, detail))
+    answer(|detail| c::quick_change(change, [attributes, classes, closure], detail))
 }
 
 /// How many steps lead from a class up its superclasses to class 0.
 pub fn depth(attributes: &[u8], classes: &[u8], closure: &[u8], class: u16) -> Answer {
-    answer(|detail| c::depth(attributes, classes, closure, class, detail))
+    answer(|detail| c::depth([attributes, classes, closure], class, detail))
 }
