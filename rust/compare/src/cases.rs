@@ -4,9 +4,8 @@ use crate::case::{Call, Case};
 use crate::lists;
 use crate::page;
 use crate::pokes;
-use generate::stores::{self, PAST};
-use generate::{Random, Stores, changes, sheets};
-use reference::layout::{ATTRIBUTE_STORE, CLASS_STORE, CLOSURE_STORE};
+use generate::{Random, changes, sheets, stores};
+use reference::{LENGTHS, PAST, Stores};
 
 /// "A whole sheet, 67 bytes"
 const WHOLE: &[u8] = &[
@@ -109,26 +108,19 @@ pub fn any_stores(random: &mut Random) -> Stores {
         _ => stores::any(random),
     };
     if random.once_in(30) {
-        let lengths = [ATTRIBUTE_STORE, CLASS_STORE, CLOSURE_STORE];
-        for (store, exact) in (0..).zip(lengths) {
+        for (bytes, exact) in stores.0.iter_mut().zip(LENGTHS) {
             let length = match random.below(4) {
                 0 => random.below(exact + 64),
                 _ => exact + random.below(64),
             };
-            if let Some(bytes) = stores.store_mut(store) {
-                bytes.resize(length, PAST);
-            }
+            bytes.resize(length, PAST);
         }
     }
     stores
 }
 
 fn noise(random: &mut Random) -> Stores {
-    Stores {
-        attrs: random.bytes(ATTRIBUTE_STORE + 16),
-        classes: random.bytes(CLASS_STORE + 16),
-        closure: random.bytes(CLOSURE_STORE + 16),
-    }
+    Stores(LENGTHS.map(|length| random.bytes(length + 16)))
 }
 
 /// Lengths around the one needed, and others.

@@ -27,12 +27,12 @@ fn stores() -> Lent {
 
 /// The first bytes of a class's kept sets: reached, mandatory, optional.
 fn kept(lent: &Lent, class: usize) -> [u8; 3] {
-    [0, 16, 48].map(|set| lent.closure[class * 80 + set])
+    [0, 16, 48].map(|set| lent.0.0[2][class * 80 + set])
 }
 
 fn poke(lent: &mut Lent, class: usize, kept: [u8; 3]) {
     for (set, byte) in [0, 16, 48].into_iter().zip(kept) {
-        lent.closure[class * 80 + set] = byte;
+        lent.0.0[2][class * 80 + set] = byte;
     }
 }
 
@@ -136,9 +136,9 @@ fn rule_30_for_a_removal_looks_at_the_rows_alone() {
     poke(&mut lent, 3, [0b1011, 0b1, 0]);
     assert_eq!(lent.quick(&entry(0x4A, 3, 0x17, 1)), (0, 2, 3));
     let mut lent = stores();
-    lent.classes[2 + 315 + 155] = 0b10;
+    lent.0.0[1][2 + 315 + 155] = 0b10;
     assert_eq!(lent.quick(&entry(0x4A, 3, 0x17, 1)), (30, 0, 0));
-    lent.classes[2 + 3 * 315 + 155] = 0b10;
+    lent.0.0[1][2 + 3 * 315 + 155] = 0b10;
     assert_eq!(lent.quick(&entry(0x4A, 3, 0x17, 1)), (0, 2, 3));
 }
 
@@ -149,7 +149,7 @@ fn rule_30_for_a_removal_looks_at_the_rows_alone() {
 fn a_chain_that_goes_astray_above_the_changed_row_is_not_asked_for() {
     for above in [4, 3, 127] {
         let mut lent = stores();
-        lent.classes[2 + 3 * 315 + 152] = above;
+        lent.0.0[1][2 + 3 * 315 + 152] = above;
         assert_eq!(lent.audit(), (18, 2, 3));
         assert_eq!(lent.depth(4), (18, 0, 0));
         assert_eq!(lent.plain(&change(0x46, 4, &[])), (3, 0, 0));
@@ -172,7 +172,7 @@ fn a_chain_that_goes_astray_above_the_changed_row_is_not_asked_for() {
 fn sets_are_worked_out_afresh_over_a_loop() {
     let mut lent = stores();
     assert_eq!(lent.quick(&entry(0x49, 4, 0x15, 2)), (0, 2, 4));
-    lent.classes[2 + 3 * 315 + 152] = 4;
+    lent.0.0[1][2 + 3 * 315 + 152] = 4;
     poke(&mut lent, 3, [0b11000, 0, 0]);
     assert_eq!(lent.quick(&entry(0x4A, 4, 0x15, 2)), (0, 2, 4));
     assert_eq!(kept(&lent, 3), [0b11011, 0, 0b1]);
@@ -182,7 +182,7 @@ fn sets_are_worked_out_afresh_over_a_loop() {
 #[test]
 fn the_superclass_of_row_0_is_asked_for_at_row_0_alone() {
     let mut lent = stores();
-    lent.classes[2 + 152] = 4;
+    lent.0.0[1][2 + 152] = 4;
     assert_eq!(lent.quick(&change(0x46, 0, &[])), (11, 0, 0));
     assert_eq!(lent.quick(&entry(0x49, 0, 0x15, 0)), (18, 0, 0));
     assert_eq!(lent.quick(&Row::class(5, 1, 4).added()), (0, 2, 5));
@@ -194,19 +194,19 @@ fn rules_38_to_40_of_a_changed_row() {
     let category = |class: usize| 2 + class * 315 + 151;
     for (above, own, number) in [(1, 2, 38), (3, 1, 40), (1, 3, 39)] {
         let mut lent = stores();
-        lent.classes[category(3)] = above;
-        lent.classes[category(4)] = own;
+        lent.0.0[1][category(3)] = above;
+        lent.0.0[1][category(4)] = own;
         let renamed = change(0x44, 4, &[field(0x01, b"other")]);
         assert_eq!(lent.quick(&renamed), (number, 0, 0));
-        lent.classes[2 + 3 * 315 + 152] = 4;
+        lent.0.0[1][2 + 3 * 315 + 152] = 4;
         assert_eq!(lent.quick(&renamed), (number, 0, 0));
-        lent.classes[2 + 4 * 315 + 152] = 5;
+        lent.0.0[1][2 + 4 * 315 + 152] = 5;
         assert_eq!(lent.quick(&renamed), (18, 0, 0));
     }
     let mut lent = stores();
     poke(&mut lent, 2, [0b101, 0b1000_0000, 0]);
     assert_eq!(lent.quick(&entry(0x49, 4, 0x17, 2)), (30, 0, 0));
-    lent.classes[category(4)] = 2;
+    lent.0.0[1][category(4)] = 2;
     assert_eq!(lent.quick(&entry(0x49, 4, 0x17, 2)), (38, 0, 0));
 }
 
@@ -214,15 +214,15 @@ fn rules_38_to_40_of_a_changed_row() {
 #[test]
 fn rule_45_of_a_changed_row() {
     let mut lent = stores();
-    lent.attrs[2 + 184] = 2;
+    lent.0.0[0][2 + 184] = 2;
     assert_eq!(lent.audit(), (45, 1, 0));
     assert_eq!(lent.quick(&change(0x42, 0, &[])), (45, 0, 0));
     let renamed = change(0x43, 0, &[field(0x01, b"other")]);
     assert_eq!(lent.quick(&renamed), (45, 0, 0));
     assert_eq!(lent.quick(&change(0x45, 2, &[])), (0, 1, 2));
-    lent.attrs[2 + 2 * 189 + 184] = 2;
+    lent.0.0[0][2 + 2 * 189 + 184] = 2;
     assert_eq!(lent.quick(&change(0x47, 2, &[])), (28, 0, 0));
-    lent.attrs[2 + 184] = 0;
+    lent.0.0[0][2 + 184] = 0;
     assert_eq!(lent.quick(&change(0x47, 2, &[])), (45, 0, 0));
     assert_eq!(lent.quick(&renamed), (0, 1, 0));
 }
@@ -230,8 +230,8 @@ fn rule_45_of_a_changed_row() {
 #[test]
 fn only_the_changed_row_is_judged() {
     let mut lent = stores();
-    lent.attrs[2 + 1] = b'1';
-    lent.attrs[2 + 189 + 152] = 65;
+    lent.0.0[0][2 + 1] = b'1';
+    lent.0.0[0][2 + 189 + 152] = 65;
     assert_eq!(lent.quick(&change(0x45, 2, &[])), (0, 1, 2));
     assert_eq!(lent.quick(&change(0x45, 1, &[])), (26, 0, 0));
     assert_eq!(lent.quick(&change(0x42, 1, &[])), (26, 0, 0));
@@ -241,7 +241,7 @@ fn only_the_changed_row_is_judged() {
 #[test]
 fn an_entry_already_listed_that_has_no_row_is_10() {
     let mut lent = stores();
-    lent.classes[2 + 3 * 315 + 219] = 0b1001;
+    lent.0.0[1][2 + 3 * 315 + 219] = 0b1001;
     assert_eq!(lent.quick(&entry(0x49, 3, 0x15, 3)), (10, 0, 0));
     assert_eq!(lent.quick(&entry(0x4A, 3, 0x15, 0)), (17, 0, 0));
     assert_eq!(lent.quick(&entry(0x4A, 3, 0x15, 3)), (0, 2, 3));
@@ -250,8 +250,8 @@ fn an_entry_already_listed_that_has_no_row_is_10() {
 #[test]
 fn numbers_without_a_row_are_passed_over_in_reach_but_not_in_lists() {
     let mut lent = stores();
-    lent.classes[2 + 315 + 155] = 0b100_0000;
-    lent.classes[2 + 315 + 251] = 0b1000_0000;
+    lent.0.0[1][2 + 315 + 155] = 0b100_0000;
+    lent.0.0[1][2 + 315 + 251] = 0b1000_0000;
     assert_eq!(lent.quick(&entry(0x4A, 3, 0x19, 4)), (0, 2, 3));
     assert_eq!(kept(&lent, 3), [0b1011, 0b100_0000, 0b1]);
 }

@@ -22,14 +22,11 @@ fn class_store() -> Vec<u8> {
 fn it_is_loaded_into_exactly_these_bytes() {
     let mut lent = Lent::filled(0x77);
     assert_eq!(lent.load(&PAPER_SHEET), (0, 0, 0));
-    assert!(lent.attrs[..LENGTHS[0]].iter().all(|byte| *byte == 0));
-    assert!(lent.classes[..LENGTHS[1]] == class_store());
-    assert_eq!(lent.closure[0], 1);
-    assert!(lent.closure[1..LENGTHS[2]].iter().all(|byte| *byte == 0));
-    for (store, length) in [&lent.attrs, &lent.classes, &lent.closure]
-        .iter()
-        .zip(LENGTHS)
-    {
+    assert!(lent.0.0[0][..LENGTHS[0]].iter().all(|byte| *byte == 0));
+    assert!(lent.0.0[1][..LENGTHS[1]] == class_store());
+    assert_eq!(lent.0.0[2][0], 1);
+    assert!(lent.0.0[2][1..LENGTHS[2]].iter().all(|byte| *byte == 0));
+    for (store, length) in lent.0.0.iter().zip(LENGTHS) {
         assert_eq!(store[length..], [PAST; 16]);
     }
 }

@@ -144,10 +144,10 @@ fn p9_two_auxiliaries_listing_each_other() {
     let one = Row::class(1, 3, 0).with_set(0x17, &[2]);
     let other = Row::class(2, 3, 0).with_set(0x16, &[1]);
     let lent = Lent::loaded(&sheet(&[top(), one, other]));
-    assert_eq!(lent.closure[80], 0b111);
-    assert_eq!(lent.closure[160], 0b111);
-    assert_eq!(lent.closure[81..160], [0; 79]);
-    assert_eq!(lent.closure[161..240], [0; 79]);
+    assert_eq!(lent.0.0[2][80], 0b111);
+    assert_eq!(lent.0.0[2][160], 0b111);
+    assert_eq!(lent.0.0[2][81..160], [0; 79]);
+    assert_eq!(lent.0.0[2][161..240], [0; 79]);
 }
 
 /// Attributes 0 and 1; an auxiliary 1 demanding these, under an auxiliary 3
@@ -169,7 +169,7 @@ fn auxiliary_and_target(own: &[u16], inherited: &[u16]) -> Lent {
 fn p10_auxiliary_demanding_what_the_target_already_demands() {
     let mut lent = auxiliary_and_target(&[0], &[]);
     assert_eq!(lent.both(&entry(0x49, 2, 0x17, 3)), (0, 2, 2));
-    assert_eq!(lent.closure[160], 0b1111);
+    assert_eq!(lent.0.0[2][160], 0b1111);
     let mut lent = auxiliary_and_target(&[], &[0]);
     assert_eq!(lent.both(&entry(0x49, 2, 0x17, 3)), (0, 2, 2));
     assert_eq!(lent.both(&entry(0x4A, 2, 0x17, 3)), (0, 2, 2));

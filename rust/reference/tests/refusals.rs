@@ -68,9 +68,9 @@ fn an_entry_in_fixed_and_open_list() {
     let mut lent = Lent::loaded(&sheet(&rows));
     assert_eq!(lent.both(&entry(0x49, 0, 0x15, 0)), (10, 0, 0));
     assert_eq!(lent.both(&entry(0x4A, 0, 0x15, 0)), (10, 0, 0));
-    let closure = lent.closure.clone();
+    let closure = lent.0.0[2].clone();
     assert_eq!(lent.both(&entry(0x4A, 0, 0x15, 1)), (0, 2, 0));
-    assert_eq!(lent.closure, closure);
+    assert_eq!(lent.0.0[2], closure);
 }
 
 /// Whether attribute 0 can be deactivated beside this class.

@@ -40,8 +40,7 @@ fn a_store_that_is_too_short_is_number_1_and_nothing_is_touched() {
     let whole = sheet(&[top()]);
     for short in 0..3 {
         let mut lent = Lent::filled(0x33);
-        let store = [&mut lent.attrs, &mut lent.classes, &mut lent.closure];
-        for (number, store) in store.into_iter().enumerate() {
+        for (number, store) in lent.0.0.iter_mut().enumerate() {
             store.truncate(LENGTHS[number] - usize::from(number == short));
         }
         let before = lent.clone();
@@ -83,7 +82,7 @@ fn shape_is_broken_by_each_of_these_bytes_of_the_attribute_store() {
     ];
     for (place, byte) in pokes {
         let mut lent = small();
-        lent.attrs[place] = byte;
+        lent.0.0[0][place] = byte;
         assert_broken(&lent);
     }
 }
@@ -108,7 +107,7 @@ fn shape_is_broken_by_each_of_these_bytes_of_the_class_store() {
     ];
     for (place, byte) in pokes {
         let mut lent = small();
-        lent.classes[place] = byte;
+        lent.0.0[1][place] = byte;
         assert_broken(&lent);
     }
 }
@@ -116,12 +115,12 @@ fn shape_is_broken_by_each_of_these_bytes_of_the_class_store() {
 #[test]
 fn an_object_class_that_the_reader_would_not_have_stored_breaks_shape() {
     let mut lent = small();
-    lent.attrs[in_attribute(1, 152)] = 64;
+    lent.0.0[0][in_attribute(1, 152)] = 64;
     assert_broken(&lent);
     let mut lent = small();
-    lent.attrs[in_attribute(1, 153)..in_attribute(1, 170)].fill(0);
+    lent.0.0[0][in_attribute(1, 153)..in_attribute(1, 170)].fill(0);
     assert_broken(&lent);
-    lent.attrs[in_attribute(1, 151)] = 2;
+    lent.0.0[0][in_attribute(1, 151)] = 2;
     assert_eq!(lent.audit(), (26, 1, 1));
 }
 
@@ -129,7 +128,7 @@ fn an_object_class_that_the_reader_would_not_have_stored_breaks_shape() {
 fn any_bytes_pass_for_kept_sets() {
     for place in [0, 80, 160, LENGTHS[2] - 1] {
         let mut lent = small();
-        lent.closure[place] ^= 0x80;
+        lent.0.0[2][place] ^= 0x80;
         assert_eq!(lent.audit(), (3, 0, 0));
         let before = lent.clone();
         assert_eq!(lent.plain(&[]), (3, 0, 0));
@@ -139,31 +138,31 @@ fn any_bytes_pass_for_kept_sets() {
         assert_eq!(lent.sheet(), small().sheet());
     }
     let mut lent = small();
-    lent.closure[LENGTHS[2]] = 0;
+    lent.0.0[2][LENGTHS[2]] = 0;
     assert_eq!(lent.audit(), (0, 0, 0));
 }
 
 #[test]
 fn a_counted_row_of_zeros_is_in_shape() {
     let mut lent = small();
-    lent.attrs[1] = 3;
+    lent.0.0[0][1] = 3;
     assert_eq!(lent.audit(), (12, 1, 2));
     let mut lent = small();
-    lent.classes[0] = 3;
+    lent.0.0[1][0] = 3;
     assert_eq!(lent.audit(), (12, 2, 2));
 }
 
 #[test]
 fn audit_tells_the_first_rule_and_then_the_lowest_row() {
     let mut lent = small();
-    lent.attrs[in_attribute(0, 151)] = 11;
+    lent.0.0[0][in_attribute(0, 151)] = 11;
     assert_eq!(lent.audit(), (26, 1, 0));
-    lent.classes[in_class(1, 152)] = 1;
+    lent.0.0[1][in_class(1, 152)] = 1;
     assert_eq!(lent.audit(), (18, 2, 1));
-    lent.classes[in_class(1, 1)] = b'A';
-    lent.classes[in_class(1, 2)..in_class(1, 5)].copy_from_slice(b"001");
+    lent.0.0[1][in_class(1, 1)] = b'A';
+    lent.0.0[1][in_class(1, 2)..in_class(1, 5)].copy_from_slice(b"001");
     assert_eq!(lent.audit(), (13, 1, 1));
-    lent.closure.fill(0xFF);
+    lent.0.0[2].fill(0xFF);
     assert_eq!(lent.audit(), (13, 1, 1));
     assert_eq!(lent.plain(&change(0x45, 0, &[])), (3, 0, 0));
 }
@@ -182,12 +181,12 @@ fn depth_counts_steps_and_refuses_a_superclass_not_earlier() {
     assert_eq!(lent.depth(3), (0, 0, 2));
     assert_eq!(lent.depth(4), (5, 0, 0));
     assert_eq!(lent.depth(65_535), (5, 0, 0));
-    lent.classes[in_class(0, 152)] = 3;
+    lent.0.0[1][in_class(0, 152)] = 3;
     assert_eq!(lent.depth(0), (0, 0, 0));
     assert_eq!(lent.depth(3), (0, 0, 2));
-    lent.classes[in_class(1, 152)] = 1;
+    lent.0.0[1][in_class(1, 152)] = 1;
     assert_eq!(lent.depth(3), (18, 0, 0));
-    lent.classes[in_class(1, 152)] = 100;
+    lent.0.0[1][in_class(1, 152)] = 100;
     assert_eq!(lent.depth(1), (18, 0, 0));
 }
 
@@ -205,10 +204,10 @@ fn fullest() -> Lent {
     .concat();
     let class = [&common[..], &[3, 127, 1, 255], &[0xFF; 160]].concat();
     assert_eq!((attribute.len(), class.len()), (189, 315));
-    lent.attrs[..2].copy_from_slice(&[1, 0]);
-    lent.attrs[2..LENGTHS[0]].copy_from_slice(&attribute.repeat(256));
-    lent.classes[..2].copy_from_slice(&[128, 0]);
-    lent.classes[2..LENGTHS[1]].copy_from_slice(&class.repeat(128));
+    lent.0.0[0][..2].copy_from_slice(&[1, 0]);
+    lent.0.0[0][2..LENGTHS[0]].copy_from_slice(&attribute.repeat(256));
+    lent.0.0[1][..2].copy_from_slice(&[128, 0]);
+    lent.0.0[1][2..LENGTHS[1]].copy_from_slice(&class.repeat(128));
     lent
 }
 

@@ -55,12 +55,12 @@ fn the_long_sheet_is_one_byte_too_long_and_all_zero() {
 #[test]
 fn the_forest_is_accepted_and_comes_back_byte_for_byte() {
     let sheet = bytes("forest.sheet");
-    let (mut attrs, mut classes, mut closure) = (vec![0; 48_386], vec![0; 40_322], vec![0; 10_240]);
-    let loaded = reference::load(&sheet, &mut attrs, &mut classes, &mut closure);
+    let mut stores = reference::Stores::default();
+    let loaded = stores.load(&sheet);
     assert_eq!((loaded.number, loaded.table, loaded.place), (0, 0, 0));
-    assert_eq!(reference::audit(&attrs, &classes, &closure).number, 0);
+    assert_eq!(stores.audit().number, 0);
     let mut out = vec![0; reference::LISTED_LIMIT];
-    let answer = reference::write(&attrs, &classes, &closure, &mut out);
+    let answer = stores.write(&mut out);
     assert_eq!((answer.number, answer.place), (0, sheet.len() as u64));
     assert!(out[..sheet.len()] == sheet);
 }

@@ -3,10 +3,10 @@
 
 #![allow(dead_code)]
 
-use reference::Answer;
+use reference::{Answer, Stores};
 use std::collections::BTreeMap;
 
-/// Lengths of the three stores.
+/// Lengths of the stores.
 pub const LENGTHS: [usize; 3] = [48_386, 40_322, 10_240];
 /// The byte that stands past the stores.
 pub const PAST: u8 = 0xA5;
@@ -30,27 +30,14 @@ pub fn triple(answer: Answer) -> Triple {
     (answer.number, answer.table, answer.place)
 }
 
-/// Three stores, 16 bytes longer than they need be.
+/// Stores, 16 bytes longer than they need be.
 #[derive(Clone, PartialEq, Eq)]
-pub struct Lent {
-    pub attrs: Vec<u8>,
-    pub classes: Vec<u8>,
-    pub closure: Vec<u8>,
-}
+pub struct Lent(pub Stores);
 
 impl Lent {
     /// Stores all of one byte, with other bytes past them.
     pub fn filled(byte: u8) -> Lent {
-        let [attrs, classes, closure] = LENGTHS.map(|length| {
-            let mut store = vec![byte; length];
-            store.resize(length + 16, PAST);
-            store
-        });
-        Lent {
-            attrs,
-            classes,
-            closure,
-        }
+        Lent(Stores::filled(byte))
     }
 
     /// Stores that a sheet was loaded into, which must be accepted.
@@ -61,30 +48,15 @@ impl Lent {
     }
 
     pub fn load(&mut self, sheet: &[u8]) -> Triple {
-        let Lent {
-            attrs,
-            classes,
-            closure,
-        } = self;
-        triple(reference::load(sheet, attrs, classes, closure))
+        triple(self.0.load(sheet))
     }
 
     pub fn plain(&mut self, change: &[u8]) -> Triple {
-        let Lent {
-            attrs,
-            classes,
-            closure,
-        } = self;
-        triple(reference::plain_change(attrs, classes, closure, change))
+        triple(self.0.plain(change))
     }
 
     pub fn quick(&mut self, change: &[u8]) -> Triple {
-        let Lent {
-            attrs,
-            classes,
-            closure,
-        } = self;
-        triple(reference::quick_change(attrs, classes, closure, change))
+        triple(self.0.quick(change))
     }
 
     /// Both changes, which must agree in answer and bytes.
@@ -97,25 +69,15 @@ impl Lent {
     }
 
     pub fn audit(&self) -> Triple {
-        triple(reference::audit(&self.attrs, &self.classes, &self.closure))
+        triple(self.0.audit())
     }
 
     pub fn depth(&self, class: u16) -> Triple {
-        let Lent {
-            attrs,
-            classes,
-            closure,
-        } = self;
-        triple(reference::depth(attrs, classes, closure, class))
+        triple(self.0.depth(class))
     }
 
     pub fn write(&self, out: &mut [u8]) -> Triple {
-        let Lent {
-            attrs,
-            classes,
-            closure,
-        } = self;
-        triple(reference::write(attrs, classes, closure, out))
+        triple(self.0.write(out))
     }
 
     /// The sheet written, which must be accepted.

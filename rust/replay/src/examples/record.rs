@@ -100,8 +100,7 @@ impl Record {
     /// A byte of a store is poked, and the one that stood there given back.
     pub fn poke(&mut self, store: u8, offset: usize, byte: u8) -> u8 {
         let stores = self.player.stores();
-        let bytes = [&stores.attrs, &stores.classes, &stores.closure];
-        let old = bytes[usize::from(store)].get(offset).copied();
+        let old = stores.0[usize::from(store)].get(offset).copied();
         let offset = offset as u32;
         self.step(
             Step::Poke {
