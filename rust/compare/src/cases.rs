@@ -4,17 +4,9 @@ use crate::case::{Call, Case};
 use crate::lists;
 use crate::page;
 use crate::pokes;
+use generate::sheets::PAPER;
 use generate::{Random, changes, sheets, stores};
 use reference::{LENGTHS, PAST, Stores};
-
-/// "A whole sheet, 67 bytes"
-const WHOLE: &[u8] = &[
-    0x01, 0x00, 0x01, 0x01, 0x30, 0x00, 0x3C, 0x01, 0x00, 0x03, 0x74, 0x6F, 0x70, 0x02, 0x00, 0x10,
-    0x00, 0x00, 0x00, 0x02, 0x00, 0x00, 0x00, 0x05, 0x00, 0x00, 0x00, 0x06, 0x00, 0x00, 0x00, 0x00,
-    0x03, 0x00, 0x10, 0x11, 0x11, 0x11, 0x11, 0x11, 0x11, 0x11, 0x11, 0x11, 0x11, 0x11, 0x11, 0x11,
-    0x11, 0x11, 0x11, 0x04, 0x00, 0x04, 0x00, 0x00, 0x00, 0x10, 0x10, 0x00, 0x01, 0x02, 0x11, 0x00,
-    0x02, 0x00, 0x00,
-];
 
 /// The sample of the repository.
 pub const FOREST: &[u8] = include_bytes!("../../../samples/forest.sheet");
@@ -22,7 +14,7 @@ pub const FOREST: &[u8] = include_bytes!("../../../samples/forest.sheet");
 /// So many inputs there are: the families in full, and those at random, of which
 /// there are four for each that is asked for.
 pub const fn expected(count: usize) -> usize {
-    let families = 256 * WHOLE.len() + (FOREST.len() + 1) + pokes::EXPECTED + page::EXPECTED;
+    let families = 256 * PAPER.len() + (FOREST.len() + 1) + pokes::EXPECTED + page::EXPECTED;
     families + 4 * count
 }
 
@@ -42,10 +34,10 @@ pub fn cases(seed: u64, count: usize) -> impl Iterator<Item = Case> {
 
 /// The whole sheet with each byte replaced by each value.
 fn every_byte() -> impl Iterator<Item = Case> {
-    let places = 0..WHOLE.len();
+    let places = 0..PAPER.len();
     places.flat_map(|place| {
         (0..=255).map(move |byte| {
-            let mut sheet = WHOLE.to_vec();
+            let mut sheet = PAPER.to_vec();
             sheet[place] = byte;
             Case::new(Call::Load(sheet), Stores::default())
         })
