@@ -127,10 +127,10 @@ fn first_of_two(record: &mut Record) {
 fn attributes_needed(record: &mut Record) {
     let named = [0x13, 0x14, 0x15].map(|tag| Row::class(1).set(tag, &[0]));
     for class in named.into_iter().chain([Row::class(1).naming(0)]) {
-        let rows = [Row::attribute(0).single(), Row::class(0)];
-        record.pass(&[&rows[..], &[class.clone()]].concat());
+        let rows = |class| [Row::attribute(0).single(), Row::class(0), class];
+        record.pass(&rows(class.clone()));
         record.refused(&alter(0x45, 0, &[]), 11);
-        record.pass(&[&rows[..], &[class.defunct()]].concat());
+        record.pass(&rows(class.defunct()));
         record.plain(&alter(0x45, 0, &[]), (0, 1, 0));
     }
 }
