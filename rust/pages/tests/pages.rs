@@ -70,7 +70,14 @@ fn target(folder: &str, text: &str) -> Option<PathBuf> {
     let of_path = |letter: char| letter.is_ascii_alphanumeric() || "/._-".contains(letter);
     let end = text.find(|letter| !of_path(letter)).unwrap_or(text.len());
     let path = text[..end].trim_end_matches('.');
-    let folders = ["crates/", "docs/", "include/", "examples/", "samples/"];
+    let folders = [
+        "crates/",
+        "docs/",
+        "include/",
+        "examples/",
+        "samples/",
+        "rust/",
+    ];
     let is_path = folders.iter().any(|folder| path.starts_with(folder));
     let named = !path.contains("NAME") && !text[end..].starts_with('*');
     (is_path && named).then(|| top().join(path))
