@@ -1,6 +1,6 @@
 //! Scripts are read as they were made, and played as the format says.
 
-use reference::CLOSURE;
+use reference::{CLOSURE, LENGTHS};
 use replay::{Kind, Player, Script, Step, Unplayable, fnv1a, steps};
 use std::collections::BTreeSet;
 
@@ -68,14 +68,15 @@ fn the_bytes_of_each_step() {
 
 #[test]
 fn a_script_that_cannot_be_read_is_told_by_its_step() {
+    let none = LENGTHS.len() as u8;
     let unplayable: [&[u8]; 8] = [
         &[0],
         &[9],
         &[1, 0, 0, 0, 2, 1],
         &[5, 0, 16, 0, 1],
         &[6, 0],
-        &[7, 3, 0, 0, 0, 0, 0],
-        &[8, 3, 0, 0, 0, 0],
+        &[7, none, 0, 0, 0, 0, 0],
+        &[8, none, 0, 0, 0, 0],
         &[8, 0, 0, 16, 0, 1],
     ];
     for bytes in unplayable {
