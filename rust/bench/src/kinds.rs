@@ -1,7 +1,7 @@
 //! One accepted change of each kind.
 
-use crate::stores::{Call, Stores};
 use generate::changes::bytes;
+use keeper::Stores;
 use reference::changes::{Alteration, Change};
 use reference::schema::{
     ATTRIBUTE_LIMIT, Attribute, CLASS_LIMIT, Class, Common, OpenList, Row, Schema,
@@ -76,10 +76,7 @@ fn first(
 ) -> Option<Kind> {
     let sheet = writing::sheet(schema);
     let stores = Stores::loaded(&sheet).ok()?;
-    let accepted = |change: &Vec<u8>| {
-        let mut tried = stores.clone();
-        tried.call(Call::Quick, change).number == keeper::DONE
-    };
+    let accepted = |change: &Vec<u8>| stores.clone().quick_change(change).number == keeper::DONE;
     let change = changes.into_iter().map(|change| bytes(&change));
     Some(Kind {
         name,

@@ -4,19 +4,20 @@
 //! the files named. The time is the processor's, the least and the median of
 //! many calls; instructions are counted where `valgrind` is there.
 
+mod call;
 mod clock;
 mod kinds;
 mod measure;
 mod schemas;
-mod stores;
 
+use call::Call;
 use clock::{Clock, Times};
+use keeper::Stores;
 use kinds::Kind;
 use measure::{Case, Cost, measured, one, one_pass};
 use reference::reading;
 use std::process::ExitCode;
 use std::time::Duration;
-use stores::{Call, Stores};
 
 /// A line of the table.
 fn line(name: &str, cost: &Cost, ratios: &str) -> String {

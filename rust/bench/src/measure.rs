@@ -1,8 +1,9 @@
 //! What one call costs: processor time, and instructions where `valgrind` is
 //! there.
 
+use crate::call::Call;
 use crate::clock::{Clock, Times};
-use crate::stores::{Call, Stores};
+use keeper::{LONGEST_SHEET, Stores};
 use std::fs;
 use std::process::Command;
 
@@ -27,8 +28,8 @@ pub struct Case<'a> {
 }
 
 /// Makes a call, which must be done: what a refusal costs is not asked.
-fn made(stores: &mut Stores, call: Call, bytes: &[u8]) -> Result<(), String> {
-    match stores.call(call, bytes).number {
+fn made(stores: &mut Stores, call: Call, bytes: &[u8], output: &mut [u8]) -> Result<(), String> {
+    match call.make(stores, bytes, output).number {
         keeper::DONE => Ok(()),
         number => Err(format!("{}: answered with {number}", call.name())),
     }
@@ -44,17 +45,18 @@ fn prepared(case: &Case<'_>) -> Result<Stores, String> {
             Call::Plain => Call::Quick,
             _ => Call::Plain,
         };
-        made(&mut stores, other, case.before)?;
+        made(&mut stores, other, case.before, &mut [])?;
     }
     Ok(stores)
 }
 
 /// The time of many calls, and the instructions of one.
 pub fn measured(case: &Case<'_>, clock: &Clock) -> Result<Cost, String> {
-    let stores = prepared(case)?;
-    let call = |lent: &mut Stores| made(lent, case.call, case.bytes);
+    let lent = (prepared(case)?, vec![0; LONGEST_SHEET]);
+    let call =
+        |(stores, output): &mut (Stores, Vec<u8>)| made(stores, case.call, case.bytes, output);
     Ok(Cost {
-        times: clock.times(|| stores.clone(), call)?,
+        times: clock.times(|| lent.clone(), call)?,
         instructions: counted(case),
     })
 }
@@ -67,8 +69,7 @@ pub fn one_pass(stores: &Stores, clock: &Clock) -> Result<Times, String> {
     let pass = |_: &mut ()| {
         for _ in 0..PASSES {
             let stores = std::hint::black_box(stores);
-            let all = [&stores.attributes, &stores.classes, &stores.closure];
-            let bytes = all.iter().flat_map(|store| store.iter());
+            let bytes = stores.0.iter().flatten();
             std::hint::black_box(bytes.fold(0, |gathered, byte| gathered | byte));
         }
         Ok(())
@@ -127,6 +128,6 @@ pub fn one(arguments: &[String]) -> Result<(), String> {
     let mut stores = prepared(&case)?;
     match case.call {
         Call::Load => Ok(()),
-        call => made(&mut stores, call, case.bytes),
+        call => made(&mut stores, call, case.bytes, &mut vec![0; LONGEST_SHEET]),
     }
 }

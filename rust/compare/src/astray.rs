@@ -3,14 +3,13 @@
 //! where nothing before it held; since document 02's wish 7 each "goes on to the
 //! next number whose condition holds".
 
-use generate::Stores;
 use reference::rules::{Judged, RULES};
 use reference::schema::{CLASS_LIMIT, Row, Schema};
-use reference::{changes, reading};
+use reference::{Stores, changes, reading};
 
 /// Whether a quick change of these stores is one of them.
 pub fn is_astray(stores: &Stores, change: &[u8]) -> bool {
-    let (Some(before), Ok(change)) = (stores.tables(), reading::change(change)) else {
+    let (Ok(before), Ok(change)) = (stores.tables(), reading::change(change)) else {
         return false;
     };
     let row = change.row(&before.schema);

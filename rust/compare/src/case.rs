@@ -1,10 +1,9 @@
 //! One input: a call, and all that is lent to it.
 
 use crate::astray::is_astray;
-use crate::keeper::{Keeper, Lent, LentMut};
+use crate::keeper::Keeper;
 use crate::outcome::Outcome;
-use generate::Stores;
-use generate::stores::PAST;
+use reference::{PAST, Stores};
 
 /// What stands in `detail` before the call.
 const UNTOLD: u64 = 0xA5A5_A5A5_A5A5_A5A5;
@@ -83,37 +82,12 @@ impl Case {
             Call::Write(length) => vec![PAST; length],
             _ => Vec::new(),
         };
-        let number = match &self.call {
-            Call::Load(sheet) => keeper.load(sheet, lent_mut(&mut stores), &mut detail),
-            Call::Write(_) => keeper.write(lent(&stores), &mut output, &mut detail),
-            Call::Audit => keeper.audit(lent(&stores), &mut detail),
-            Call::Plain(change) => keeper.plain_change(change, lent_mut(&mut stores), &mut detail),
-            Call::Quick(change) => keeper.quick_change(change, lent_mut(&mut stores), &mut detail),
-            Call::Depth(class) => keeper.depth(lent(&stores), *class, &mut detail),
-        };
+        let number = keeper.make(&self.call, &mut stores, &mut output, &mut detail);
         Outcome {
             number,
             detail,
             stores,
             output,
         }
-    }
-}
-
-/// The stores, to be read.
-fn lent(stores: &Stores) -> Lent<'_> {
-    Lent {
-        attributes: &stores.attrs,
-        classes: &stores.classes,
-        closure: &stores.closure,
-    }
-}
-
-/// The stores, to be written to.
-fn lent_mut(stores: &mut Stores) -> LentMut<'_> {
-    LentMut {
-        attributes: &mut stores.attrs,
-        classes: &mut stores.classes,
-        closure: &mut stores.closure,
     }
 }

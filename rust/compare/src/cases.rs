@@ -4,18 +4,9 @@ use crate::case::{Call, Case};
 use crate::lists;
 use crate::page;
 use crate::pokes;
-use generate::stores::{self, PAST};
-use generate::{Random, Stores, changes, sheets};
-use reference::layout::{ATTRIBUTE_STORE, CLASS_STORE, CLOSURE_STORE};
-
-/// "A whole sheet, 67 bytes"
-const WHOLE: &[u8] = &[
-    0x01, 0x00, 0x01, 0x01, 0x30, 0x00, 0x3C, 0x01, 0x00, 0x03, 0x74, 0x6F, 0x70, 0x02, 0x00, 0x10,
-    0x00, 0x00, 0x00, 0x02, 0x00, 0x00, 0x00, 0x05, 0x00, 0x00, 0x00, 0x06, 0x00, 0x00, 0x00, 0x00,
-    0x03, 0x00, 0x10, 0x11, 0x11, 0x11, 0x11, 0x11, 0x11, 0x11, 0x11, 0x11, 0x11, 0x11, 0x11, 0x11,
-    0x11, 0x11, 0x11, 0x04, 0x00, 0x04, 0x00, 0x00, 0x00, 0x10, 0x10, 0x00, 0x01, 0x02, 0x11, 0x00,
-    0x02, 0x00, 0x00,
-];
+use generate::sheets::PAPER;
+use generate::{Random, changes, sheets, stores};
+use reference::{LENGTHS, PAST, Stores};
 
 /// The sample of the repository.
 pub const FOREST: &[u8] = include_bytes!("../../../samples/forest.sheet");
@@ -23,7 +14,7 @@ pub const FOREST: &[u8] = include_bytes!("../../../samples/forest.sheet");
 /// So many inputs there are: the families in full, and those at random, of which
 /// there are four for each that is asked for.
 pub const fn expected(count: usize) -> usize {
-    let families = 256 * WHOLE.len() + (FOREST.len() + 1) + pokes::EXPECTED + page::EXPECTED;
+    let families = 256 * PAPER.len() + (FOREST.len() + 1) + pokes::EXPECTED + page::EXPECTED;
     families + 4 * count
 }
 
@@ -43,10 +34,10 @@ pub fn cases(seed: u64, count: usize) -> impl Iterator<Item = Case> {
 
 /// The whole sheet with each byte replaced by each value.
 fn every_byte() -> impl Iterator<Item = Case> {
-    let places = 0..WHOLE.len();
+    let places = 0..PAPER.len();
     places.flat_map(|place| {
         (0..=255).map(move |byte| {
-            let mut sheet = WHOLE.to_vec();
+            let mut sheet = PAPER.to_vec();
             sheet[place] = byte;
             Case::new(Call::Load(sheet), Stores::default())
         })
@@ -109,26 +100,19 @@ pub fn any_stores(random: &mut Random) -> Stores {
         _ => stores::any(random),
     };
     if random.once_in(30) {
-        let lengths = [ATTRIBUTE_STORE, CLASS_STORE, CLOSURE_STORE];
-        for (store, exact) in (0..).zip(lengths) {
+        for (bytes, exact) in stores.0.iter_mut().zip(LENGTHS) {
             let length = match random.below(4) {
                 0 => random.below(exact + 64),
                 _ => exact + random.below(64),
             };
-            if let Some(bytes) = stores.store_mut(store) {
-                bytes.resize(length, PAST);
-            }
+            bytes.resize(length, PAST);
         }
     }
     stores
 }
 
 fn noise(random: &mut Random) -> Stores {
-    Stores {
-        attrs: random.bytes(ATTRIBUTE_STORE + 16),
-        classes: random.bytes(CLASS_STORE + 16),
-        closure: random.bytes(CLOSURE_STORE + 16),
-    }
+    Stores(LENGTHS.map(|length| random.bytes(length + 16)))
 }
 
 /// Lengths around the one needed, and others.

@@ -19,7 +19,7 @@ mod run;
 
 pub use case::{Call, Case};
 pub use cases::{cases, expected};
-pub use keeper::{Keeper, Lent, LentMut, Reference};
+pub use keeper::{Keeper, Reference};
 pub use listings::{Listings, compare_listings};
 pub use long::{LENGTH, LongLists, compare_long};
 pub use outcome::{Difference, Outcome};

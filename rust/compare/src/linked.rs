@@ -1,35 +1,24 @@
 //! The keeper in the static library, by both ways that lead to it.
 
-use crate::keeper::{Keeper, Lent, LentMut, tell};
-use reference::Answer;
+use crate::case::Call;
+use crate::keeper::{Keeper, tell};
+use keeper::c;
+use reference::{Answer, Stores};
 
 /// Through the declarations of include/keeper.h.
 #[derive(Clone, Copy, Debug)]
 pub struct Declared;
 
 impl Keeper for Declared {
-    fn load(&self, sheet: &[u8], s: LentMut<'_>, detail: &mut [u64]) -> u64 {
-        keeper::c::load(sheet, s.attributes, s.classes, s.closure, detail)
-    }
-
-    fn write(&self, s: Lent<'_>, output: &mut [u8], detail: &mut [u64]) -> u64 {
-        keeper::c::write(s.attributes, s.classes, s.closure, output, detail)
-    }
-
-    fn audit(&self, s: Lent<'_>, detail: &mut [u64]) -> u64 {
-        keeper::c::audit(s.attributes, s.classes, s.closure, detail)
-    }
-
-    fn plain_change(&self, change: &[u8], s: LentMut<'_>, detail: &mut [u64]) -> u64 {
-        keeper::c::plain_change(change, s.attributes, s.classes, s.closure, detail)
-    }
-
-    fn quick_change(&self, change: &[u8], s: LentMut<'_>, detail: &mut [u64]) -> u64 {
-        keeper::c::quick_change(change, s.attributes, s.classes, s.closure, detail)
-    }
-
-    fn depth(&self, s: Lent<'_>, class: u16, detail: &mut [u64]) -> u64 {
-        keeper::c::depth(s.attributes, s.classes, s.closure, class, detail)
+    fn make(&self, call: &Call, stores: &mut Stores, out: &mut [u8], detail: &mut [u64]) -> u64 {
+        match call {
+            Call::Load(sheet) => c::load(sheet, stores.lent_mut(), detail),
+            Call::Write(_) => c::write(stores.lent(), out, detail),
+            Call::Audit => c::audit(stores.lent(), detail),
+            Call::Plain(change) => c::plain_change(change, stores.lent_mut(), detail),
+            Call::Quick(change) => c::quick_change(change, stores.lent_mut(), detail),
+            Call::Depth(class) => c::depth(stores.lent(), *class, detail),
+        }
     }
 }
 
@@ -53,49 +42,16 @@ fn same(answer: keeper::Answer) -> Answer {
 }
 
 impl Keeper for Wrapped {
-    fn load(&self, sheet: &[u8], s: LentMut<'_>, detail: &mut [u64]) -> u64 {
-        tell(detail, || {
-            same(keeper::load(sheet, s.attributes, s.classes, s.closure))
-        })
-    }
-
-    fn write(&self, s: Lent<'_>, output: &mut [u8], detail: &mut [u64]) -> u64 {
-        tell(detail, || {
-            same(keeper::write(s.attributes, s.classes, s.closure, output))
-        })
-    }
-
-    fn audit(&self, s: Lent<'_>, detail: &mut [u64]) -> u64 {
-        tell(detail, || {
-            same(keeper::audit(s.attributes, s.classes, s.closure))
-        })
-    }
-
-    fn plain_change(&self, change: &[u8], s: LentMut<'_>, detail: &mut [u64]) -> u64 {
-        tell(detail, || {
-            let LentMut {
-                attributes,
-                classes,
-                closure,
-            } = s;
-            same(keeper::plain_change(change, attributes, classes, closure))
-        })
-    }
-
-    fn quick_change(&self, change: &[u8], s: LentMut<'_>, detail: &mut [u64]) -> u64 {
-        tell(detail, || {
-            let LentMut {
-                attributes,
-                classes,
-                closure,
-            } = s;
-            same(keeper::quick_change(change, attributes, classes, closure))
-        })
-    }
-
-    fn depth(&self, s: Lent<'_>, class: u16, detail: &mut [u64]) -> u64 {
-        tell(detail, || {
-            same(keeper::depth(s.attributes, s.classes, s.closure, class))
-        })
+    fn make(&self, call: &Call, stores: &mut Stores, out: &mut [u8], detail: &mut [u64]) -> u64 {
+        let mut stores = keeper::Stores(stores.lent_mut());
+        let mut answer = || match call {
+            Call::Load(sheet) => stores.load(sheet),
+            Call::Write(_) => stores.write(out),
+            Call::Audit => stores.audit(),
+            Call::Plain(change) => stores.plain_change(change),
+            Call::Quick(change) => stores.quick_change(change),
+            Call::Depth(class) => stores.depth(*class),
+        };
+        tell(detail, || same(answer()))
     }
 }

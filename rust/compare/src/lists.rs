@@ -3,7 +3,8 @@
 use crate::case::{Call, Case};
 use crate::cases::{any_detail, any_stores};
 use crate::keeper::Reference;
-use generate::{Random, Stores, changes, stores};
+use generate::{Random, changes, stores};
+use reference::Stores;
 
 /// So many changes stand in a list.
 const LENGTH: u64 = 10;

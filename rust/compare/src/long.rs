@@ -7,8 +7,8 @@ use crate::cases::FOREST;
 use crate::keeper::Keeper;
 use crate::outcome::{Difference, Outcome};
 use generate::schemas::{self, Size};
-use generate::{Random, Stores, changes, sheets};
-use reference::writing;
+use generate::{Random, changes, sheets};
+use reference::{Stores, writing};
 
 /// So many changes stand in a list.
 pub const LENGTH: usize = 300;

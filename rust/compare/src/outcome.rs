@@ -1,6 +1,6 @@
 //! All that can be seen of a call, and where two calls differ.
 
-use generate::Stores;
+use reference::Stores;
 use std::fmt;
 
 /// All that can be seen of a call.
@@ -35,13 +35,10 @@ impl Outcome {
         format!("{} {}", self.number, detail.join(" "))
     }
 
-    fn parts(&self) -> [(&'static str, &[u8]); 4] {
-        [
-            ("attributes", &self.stores.attrs),
-            ("classes", &self.stores.classes),
-            ("closure", &self.stores.closure),
-            ("output", &self.output),
-        ]
+    fn parts(&self) -> impl Iterator<Item = (String, &[u8])> {
+        let stores = self.stores.lent().into_iter().enumerate();
+        let stores = stores.map(|(number, bytes)| (format!("store {number}"), bytes));
+        stores.chain([("output".to_owned(), self.output.as_slice())])
     }
 
     /// The first difference from an outcome, if there is one.
@@ -49,8 +46,8 @@ impl Outcome {
         if self == expected {
             return None;
         }
-        let pairs = self.parts().into_iter().zip(expected.parts());
-        let bytes = pairs.filter_map(|((part, got), (_, wanted))| first_byte(part, got, wanted));
+        let pairs = self.parts().zip(expected.parts());
+        let bytes = pairs.filter_map(|((part, got), (_, wanted))| first_byte(&part, got, wanted));
         let mut what = format!("answer {}, not {}", self.told(), expected.told());
         bytes.for_each(|byte| what += &byte);
         Some(Difference { what })

@@ -2,7 +2,7 @@
 //! in every way that one byte allows.
 
 use crate::case::{Call, Case};
-use generate::Stores;
+use reference::Stores;
 
 /// The schema that they are made to: `cn` and `standAge`, `top` and `stand`.
 const SHEET: &str = "01000101

@@ -3,10 +3,10 @@
 
 use crate::case::{Call, Case};
 use crate::cases::FOREST;
-use generate::Stores;
+use reference::Stores;
 
 /// Store and length of each front that is poked: counts and two rows.
-const FRONTS: [(u8, usize); 3] = [(0, 2 + 2 * 189), (1, 2 + 2 * 315), (2, 2 * 80)];
+const FRONTS: [(usize, usize); 3] = [(0, 2 + 2 * 189), (1, 2 + 2 * 315), (2, 2 * 80)];
 
 /// Each byte of them is poked with these.
 const POKES: [u8; 8] = [0x00, 0x01, 0x02, 0x0A, 0x40, 0x41, 0x7F, 0xFF];
@@ -64,9 +64,7 @@ fn poked(stores: Stores, calls: Vec<Call>) -> impl Iterator<Item = Case> {
     let pokes = places.flat_map(|place| POKES.map(|byte| (place, byte)));
     pokes.flat_map(move |((store, place), byte)| {
         let mut poked = stores.clone();
-        if let Some(bytes) = poked.store_mut(store) {
-            bytes[place] = byte;
-        }
+        poked.0[store][place] = byte;
         let case = |call| Case::new(call, poked.clone());
         calls.clone().into_iter().map(case).collect::<Vec<_>>()
     })

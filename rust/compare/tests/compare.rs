@@ -1,8 +1,8 @@
 //! The comparison finds what it is there to find, without the library linked.
 
-use compare::{Keeper, Lent, LentMut, Reference, compare, expected};
-use generate::Stores;
+use compare::{Call, Keeper, Reference, compare, expected};
 use generate::coverage::may_give;
+use reference::{ATTRIBUTES, CLOSURE, LENGTHS, Stores};
 
 /// So many inputs `rust/run` makes at random, from seed 1.
 const COUNT: usize = 20_000;
@@ -83,75 +83,54 @@ impl Wrong {
             _ => right,
         }
     }
-
-    /// Whether it leaves the stores as they were, though they should not be.
-    fn keeps_all(&self) -> bool {
-        matches!(self, Wrong::AllRefused | Wrong::NothingWritten)
-    }
 }
 
-impl Keeper for Wrong {
-    fn load(&self, sheet: &[u8], stores: LentMut<'_>, detail: &mut [u64]) -> u64 {
-        if let (Wrong::PastTheEnd, Some(past)) = (self, stores.attributes.get_mut(48_386)) {
+impl Wrong {
+    fn load(&self, call: &Call, stores: &mut Stores, detail: &mut [u64]) -> u64 {
+        let past = stores.0[ATTRIBUTES].get_mut(LENGTHS[ATTRIBUTES]);
+        if let (Wrong::PastTheEnd, Some(past)) = (self, past) {
             *past = 0;
         }
         if let (Wrong::ShortDetail, [told]) = (self, &mut *detail) {
             *told = 0;
         }
-        Reference.load(sheet, stores, detail)
+        Reference.make(call, stores, &mut [], detail)
     }
 
-    fn write(&self, stores: Lent<'_>, output: &mut [u8], detail: &mut [u64]) -> u64 {
-        let number = Reference.write(stores, output, detail);
-        let length = detail.get(1).copied().unwrap_or_default() as usize;
-        if let (Wrong::OneByteMore, 0, Some(more)) = (self, number, output.get_mut(length)) {
-            *more = 0;
-        }
-        number
-    }
-
-    fn audit(&self, stores: Lent<'_>, detail: &mut [u64]) -> u64 {
-        match (self, Reference.audit(stores, detail)) {
-            (Wrong::ClosurePassed, 3) => 0,
-            (_, number) => number,
-        }
-    }
-
-    fn plain_change(&self, change: &[u8], stores: LentMut<'_>, detail: &mut [u64]) -> u64 {
-        let mut made = Stores {
-            attrs: stores.attributes.to_vec(),
-            classes: stores.classes.to_vec(),
-            closure: stores.closure.to_vec(),
-        };
-        let lent = LentMut {
-            attributes: &mut made.attrs,
-            classes: &mut made.classes,
-            closure: &mut made.closure,
-        };
-        let number = Reference.plain_change(change, lent, detail);
+    fn plain(&self, call: &Call, stores: &mut Stores, detail: &mut [u64]) -> u64 {
+        let before = stores.clone();
+        let number = Reference.make(call, stores, &mut [], detail);
         match (self, number, &mut *detail) {
-            (Wrong::NotTakenBack, 12.., _) => made.attrs[3] ^= 1,
+            (Wrong::NotTakenBack, 12.., _) => stores.0[ATTRIBUTES][3] ^= 1,
             (Wrong::RowOfRefusal, 12.., [table, _]) => *table = 1,
+            (Wrong::ClosureLeft, ..) => stores.0[CLOSURE] = before.0[CLOSURE].clone(),
+            (Wrong::AllRefused | Wrong::NothingWritten, ..) => *stores = before,
             _ => {}
-        }
-        if !self.keeps_all() {
-            stores.attributes.copy_from_slice(&made.attrs);
-            stores.classes.copy_from_slice(&made.classes);
-        }
-        if !self.keeps_all() && !matches!(self, Wrong::ClosureLeft) {
-            stores.closure.copy_from_slice(&made.closure);
         }
         self.plain_number(number)
     }
+}
 
-    fn quick_change(&self, change: &[u8], stores: LentMut<'_>, detail: &mut [u64]) -> u64 {
-        Reference.quick_change(change, stores, detail)
-    }
-
-    fn depth(&self, stores: Lent<'_>, class: u16, detail: &mut [u64]) -> u64 {
-        let number = Reference.depth(stores, class, detail);
-        if let (Wrong::OneStepLess, [_, place]) = (self, detail) {
-            *place = place.saturating_sub(1);
+impl Keeper for Wrong {
+    fn make(&self, call: &Call, stores: &mut Stores, out: &mut [u8], detail: &mut [u64]) -> u64 {
+        match call {
+            Call::Load(_) => return self.load(call, stores, detail),
+            Call::Plain(_) => return self.plain(call, stores, detail),
+            _ => {}
+        }
+        let number = Reference.make(call, stores, out, detail);
+        let place = detail.get_mut(1);
+        match (self, call, number, place) {
+            (Wrong::OneByteMore, Call::Write(_), 0, Some(length)) => {
+                if let Some(more) = out.get_mut(*length as usize) {
+                    *more = 0;
+                }
+            }
+            (Wrong::OneStepLess, Call::Depth(_), _, Some(place)) => {
+                *place = place.saturating_sub(1);
+            }
+            (Wrong::ClosurePassed, Call::Audit, 3, _) => return 0,
+            _ => {}
         }
         number
     }

@@ -1,8 +1,8 @@
 //! The safe functions of `keeper` as a caller uses them: with the lengths and
 //! the stack that the crate names.
 
-use generate::{Stores, changes};
-use keeper::{Answer, DONE, LONGEST_SHEET};
+use generate::changes::bytes;
+use keeper::{Answer, DONE, LONGEST_SHEET, Stores};
 use reference::changes::{Alteration, Change};
 use reference::layout::Tables;
 use reference::schema::{
@@ -13,63 +13,6 @@ use reference::{closure, writing};
 use std::thread;
 
 const FOREST: &[u8] = include_bytes!("../../../samples/forest.sheet");
-
-/// Stores of just the lengths needed.
-#[derive(Clone, PartialEq, Eq)]
-struct Lent {
-    attributes: Vec<u8>,
-    classes: Vec<u8>,
-    closure: Vec<u8>,
-}
-
-impl Lent {
-    fn new() -> Lent {
-        Lent {
-            attributes: vec![0; keeper::ATTRIBUTES_LENGTH],
-            classes: vec![0; keeper::CLASSES_LENGTH],
-            closure: vec![0; keeper::CLOSURE_LENGTH],
-        }
-    }
-
-    fn load(&mut self, sheet: &[u8]) -> Answer {
-        let Lent {
-            attributes,
-            classes,
-            closure,
-        } = self;
-        keeper::load(sheet, attributes, classes, closure)
-    }
-
-    fn write(&self, output: &mut [u8]) -> Answer {
-        keeper::write(&self.attributes, &self.classes, &self.closure, output)
-    }
-
-    fn audit(&self) -> Answer {
-        keeper::audit(&self.attributes, &self.classes, &self.closure)
-    }
-
-    fn plain_change(&mut self, change: &Change) -> Answer {
-        let Lent {
-            attributes,
-            classes,
-            closure,
-        } = self;
-        keeper::plain_change(&changes::bytes(change), attributes, classes, closure)
-    }
-
-    fn quick_change(&mut self, change: &Change) -> Answer {
-        let Lent {
-            attributes,
-            classes,
-            closure,
-        } = self;
-        keeper::quick_change(&changes::bytes(change), attributes, classes, closure)
-    }
-
-    fn depth(&self, class: u16) -> Answer {
-        keeper::depth(&self.attributes, &self.classes, &self.closure, class)
-    }
-}
 
 /// An answer without a table.
 fn answer(number: u64, place: usize) -> Answer {
@@ -82,23 +25,23 @@ fn answer(number: u64, place: usize) -> Answer {
 
 #[test]
 fn the_forest_is_loaded_asked_and_written_back() {
-    let mut lent = Lent::new();
-    assert_eq!(lent.load(FOREST), answer(DONE, 0));
-    assert_eq!(lent.audit(), answer(DONE, 0));
-    assert_eq!(lent.depth(19), answer(DONE, 3));
-    assert_eq!(lent.depth(25), answer(5, 0));
+    let mut stores = Stores::default();
+    assert_eq!(stores.load(FOREST), answer(DONE, 0));
+    assert_eq!(stores.audit(), answer(DONE, 0));
+    assert_eq!(stores.depth(19), answer(DONE, 3));
+    assert_eq!(stores.depth(25), answer(5, 0));
     let mut output = vec![0; LONGEST_SHEET];
-    assert_eq!(lent.write(&mut output), answer(DONE, FOREST.len()));
+    assert_eq!(stores.write(&mut output), answer(DONE, FOREST.len()));
     assert!(output[..FOREST.len()] == *FOREST);
     let short = &mut output[..FOREST.len() - 1];
-    assert_eq!(lent.write(short), answer(31, FOREST.len()));
+    assert_eq!(stores.write(short), answer(31, FOREST.len()));
 }
 
 /// The answers name rows, too.
 #[test]
 fn a_refused_sheet_tells_table_and_row() {
     let refused = include_bytes!("../../../samples/refused.sheet");
-    let told = Lent::new().load(refused);
+    let told = Stores::default().load(refused);
     assert_eq!((told.number, told.table, told.place), (13, 1, 1));
 }
 
@@ -113,32 +56,35 @@ fn renamed(attribute: u16, name: &[u8]) -> Change {
 /// A change that is done tells its row, one that is refused alters nothing.
 #[test]
 fn the_forest_is_changed() {
-    let mut lent = Lent::new();
-    assert_eq!(lent.load(FOREST), answer(DONE, 0));
-    let loaded = lent.clone();
-    assert_eq!(lent.plain_change(&renamed(19, b"AREAHA")), answer(13, 0));
-    assert!(lent == loaded);
-    let told = lent.plain_change(&renamed(17, b"woodedHa"));
+    let mut stores = Stores::default();
+    assert_eq!(stores.load(FOREST), answer(DONE, 0));
+    let loaded = stores.clone();
+    assert_eq!(
+        stores.plain_change(&bytes(&renamed(19, b"AREAHA"))),
+        answer(13, 0)
+    );
+    assert!(stores == loaded);
+    let told = stores.plain_change(&bytes(&renamed(17, b"woodedHa")));
     assert_eq!((told.number, told.table, told.place), (0, 1, 17));
-    assert!(lent != loaded);
-    assert_eq!(lent.audit(), answer(DONE, 0));
-    let told = lent.plain_change(&renamed(19, b"AREAHA"));
+    assert!(stores != loaded);
+    assert_eq!(stores.audit(), answer(DONE, 0));
+    let told = stores.plain_change(&bytes(&renamed(19, b"AREAHA")));
     assert_eq!((told.number, told.table, told.place), (0, 1, 19));
 }
 
 /// The quick change gives what the plain one gives, in every answer and byte.
 #[test]
 fn the_forest_is_changed_quickly() {
-    let mut lent = Lent::new();
-    assert_eq!(lent.load(FOREST), answer(DONE, 0));
-    let mut copy = lent.clone();
+    let mut stores = Stores::default();
+    assert_eq!(stores.load(FOREST), answer(DONE, 0));
+    let mut copy = stores.clone();
     let made: [(u16, &[u8]); 3] = [(19, b"AREAHA"), (17, b"woodedHa"), (19, b"AREAHA")];
     for (attribute, name) in made {
-        let change = renamed(attribute, name);
-        assert_eq!(lent.quick_change(&change), copy.plain_change(&change));
-        assert!(lent == copy);
+        let change = bytes(&renamed(attribute, name));
+        assert_eq!(stores.quick_change(&change), copy.plain_change(&change));
+        assert!(stores == copy);
     }
-    assert_eq!(lent.audit(), answer(DONE, 0));
+    assert_eq!(stores.audit(), answer(DONE, 0));
 }
 
 /// All rows below the limit.
@@ -189,9 +135,9 @@ fn the_longest_sheet_is_as_long_as_counted() {
     let sheet = writing::sheet(&schema);
     assert_eq!(sheet.len(), LONGEST_SHEET);
     let kept = closure::afresh(&schema);
-    let stores = Stores::holding(&Tables { schema, kept });
+    let stores = reference::Stores::holding(&Tables { schema, kept });
     let mut output = vec![0; LONGEST_SHEET];
-    let written = keeper::write(&stores.attrs, &stores.classes, &stores.closure, &mut output);
+    let written = Stores(stores.lent()).write(&mut output);
     assert_eq!(written, answer(DONE, LONGEST_SHEET));
     assert!(output == sheet);
 }
@@ -254,19 +200,19 @@ fn allowed_less() -> Change {
 fn the_stack_named_is_enough_for_the_deepest_schema() {
     let sheet = writing::sheet(&deepest());
     let mut output = vec![0; sheet.len()];
-    let mut lent = Lent::new();
+    let mut stores = Stores::default();
     let calls = move || {
-        assert_eq!(lent.load(&sheet), answer(DONE, 0));
-        assert_eq!(lent.audit(), answer(DONE, 0));
-        assert_eq!(lent.depth(127), answer(DONE, 127));
-        assert_eq!(lent.write(&mut output), answer(DONE, sheet.len()));
+        assert_eq!(stores.load(&sheet), answer(DONE, 0));
+        assert_eq!(stores.audit(), answer(DONE, 0));
+        assert_eq!(stores.depth(127), answer(DONE, 127));
+        assert_eq!(stores.write(&mut output), answer(DONE, sheet.len()));
         assert!(output == sheet);
-        for change in [allowed_more(), allowed_less()] {
-            let mut copy = lent.clone();
+        for change in [allowed_more(), allowed_less()].map(|change| bytes(&change)) {
+            let mut copy = stores.clone();
             let told = copy.plain_change(&change);
             assert_eq!((told.number, told.table, told.place), (0, 2, 127));
-            assert_eq!(lent.quick_change(&change), told);
-            assert!(lent == copy);
+            assert_eq!(stores.quick_change(&change), told);
+            assert!(stores == copy);
         }
     };
     let thread = thread::Builder::new().stack_size(keeper::STACK);

@@ -1,11 +1,10 @@
 //! The comparison finds a quick change that is wrong in one thing, without the
 //! library linked.
 
-use compare::{Keeper, LENGTH, Lent, LentMut, Reference, compare, compare_long};
-use generate::Stores;
+use compare::{Call, Keeper, LENGTH, Reference, compare, compare_long};
 use reference::closure::afresh;
 use reference::layout::Tables;
-use reference::{changes, reading};
+use reference::{CLOSURE, Stores, changes, reading};
 
 /// So many inputs at random are enough to find each.
 const COUNT: usize = 2000;
@@ -42,25 +41,14 @@ impl Wrong {
     }
 }
 
-/// The stores as copies.
-fn copied(stores: &LentMut<'_>) -> Stores {
-    Stores {
-        attrs: stores.attributes.to_vec(),
-        classes: stores.classes.to_vec(),
-        closure: stores.closure.to_vec(),
-    }
-}
-
 /// Makes a change that can be read, whatever refuses it; its number is then 0.
-fn make(change: &[u8], stores: LentMut<'_>, detail: &mut [u64]) -> u64 {
-    let (Some(before), Ok(change)) = (copied(&stores).tables(), reading::change(change)) else {
+fn make(change: &[u8], stores: &mut Stores, detail: &mut [u64]) -> u64 {
+    let (Ok(before), Ok(change)) = (stores.tables(), reading::change(change)) else {
         return 30;
     };
     let schema = changes::applied(&before.schema, &change);
     let kept = afresh(&schema);
-    let after = Tables { schema, kept };
-    let (attributes, classes) = (stores.attributes, stores.classes);
-    reference::layout::encode(&after, attributes, classes, stores.closure);
+    reference::layout::encode(&Tables { schema, kept }, stores);
     if let [table, place, ..] = detail {
         *table = 2;
         *place = u64::from(change.row(&before.schema).number());
@@ -69,43 +57,21 @@ fn make(change: &[u8], stores: LentMut<'_>, detail: &mut [u64]) -> u64 {
 }
 
 impl Keeper for Wrong {
-    fn load(&self, sheet: &[u8], stores: LentMut<'_>, detail: &mut [u64]) -> u64 {
-        Reference.load(sheet, stores, detail)
-    }
-
-    fn write(&self, stores: Lent<'_>, output: &mut [u8], detail: &mut [u64]) -> u64 {
-        Reference.write(stores, output, detail)
-    }
-
-    fn audit(&self, stores: Lent<'_>, detail: &mut [u64]) -> u64 {
-        Reference.audit(stores, detail)
-    }
-
-    fn plain_change(&self, change: &[u8], stores: LentMut<'_>, detail: &mut [u64]) -> u64 {
-        Reference.plain_change(change, stores, detail)
-    }
-
-    fn quick_change(&self, change: &[u8], stores: LentMut<'_>, detail: &mut [u64]) -> u64 {
-        if matches!(self, Wrong::PlainRenamed) {
-            return Reference.plain_change(change, stores, detail);
-        }
-        let before = copied(&stores);
-        let lent = LentMut {
-            attributes: &mut *stores.attributes,
-            classes: &mut *stores.classes,
-            closure: &mut *stores.closure,
+    fn make(&self, call: &Call, stores: &mut Stores, out: &mut [u8], detail: &mut [u64]) -> u64 {
+        let Call::Quick(change) = call else {
+            return Reference.make(call, stores, out, detail);
         };
-        let number = Reference.quick_change(change, lent, detail);
+        if matches!(self, Wrong::PlainRenamed) {
+            return Reference.make(&Call::Plain(change.clone()), stores, out, detail);
+        }
+        let before = stores.0[CLOSURE].clone();
+        let number = Reference.make(call, stores, out, detail);
         match (self, number) {
             (Wrong::ForgetsThirty, 30) => return make(change, stores, detail),
-            (_, 0) if self.keeps_sets(change) => stores.closure.copy_from_slice(&before.closure),
+            (_, 0) if self.keeps_sets(change) => stores.0[CLOSURE] = before,
             _ => {}
         }
         number
-    }
-
-    fn depth(&self, stores: Lent<'_>, class: u16, detail: &mut [u64]) -> u64 {
-        Reference.depth(stores, class, detail)
     }
 }
 

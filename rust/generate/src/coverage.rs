@@ -1,9 +1,8 @@
 //! Which numbers each call has given, and how often.
 
-use crate::stores::PAST;
-use crate::{Random, Stores, changes, sheets, stores};
-use reference::NUMBERS;
+use crate::{Random, changes, sheets, stores};
 use reference::rules::RULES;
+use reference::{NUMBERS, PAST, Stores};
 use std::collections::BTreeMap;
 use std::fmt;
 

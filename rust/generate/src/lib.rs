@@ -14,4 +14,3 @@ pub mod stores;
 
 pub use damage::damaged;
 pub use random::Random;
-pub use stores::Stores;

@@ -1,124 +1,13 @@
-//! The three stores a caller lends, and stores of every kind: in order, in
-//! shape but not in order, broken, short, long.
+//! Stores of every kind: in order, in shape but not in order, broken, short,
+//! long.
 
 use crate::random::Random;
 use crate::schemas::{self, Size};
 use crate::spoil;
 use reference::closure::{self, Kept};
-use reference::layout::{self, ATTRIBUTE_STORE, CLASS_STORE, CLOSURE_STORE, Tables};
+use reference::layout::Tables;
 use reference::schema::{ATTRIBUTE_LIMIT, CLASS_LIMIT, Numbers, Schema};
-use reference::{Answer, writing};
-
-/// Bytes past the stores, and bytes of an output not yet written, are these.
-pub const PAST: u8 = 0xA5;
-
-/// Three lent stores.
-#[derive(Clone, Debug, PartialEq, Eq)]
-pub struct Stores {
-    /// The attribute store.
-    pub attrs: Vec<u8>,
-    /// The class store.
-    pub classes: Vec<u8>,
-    /// The closure store.
-    pub closure: Vec<u8>,
-}
-
-impl Default for Stores {
-    /// "The stores start with their lengths and 16 bytes A5 past each, all
-    /// else zero."
-    fn default() -> Self {
-        let store = |length: usize| [vec![0; length], vec![PAST; 16]].concat();
-        Stores {
-            attrs: store(ATTRIBUTE_STORE),
-            classes: store(CLASS_STORE),
-            closure: store(CLOSURE_STORE),
-        }
-    }
-}
-
-impl Stores {
-    /// Stores that hold these tables.
-    pub fn holding(tables: &Tables) -> Stores {
-        let mut stores = Stores::default();
-        let Stores {
-            attrs,
-            classes,
-            closure,
-        } = &mut stores;
-        layout::encode(tables, attrs, classes, closure);
-        stores
-    }
-
-    /// The tables in the stores, if they are long enough and in shape.
-    pub fn tables(&self) -> Option<Tables> {
-        let Stores {
-            attrs,
-            classes,
-            closure,
-        } = self;
-        if layout::too_short(attrs, classes, closure) {
-            return None;
-        }
-        layout::decode(attrs, classes, closure).ok()
-    }
-
-    /// The rows in the stores, none where they are broken.
-    pub fn schema(&self) -> Schema {
-        self.tables()
-            .map(|tables| tables.schema)
-            .unwrap_or_default()
-    }
-
-    /// Store 0, 1 or 2, if it is one of these.
-    pub fn store_mut(&mut self, number: u8) -> Option<&mut Vec<u8>> {
-        match number {
-            0 => Some(&mut self.attrs),
-            1 => Some(&mut self.classes),
-            2 => Some(&mut self.closure),
-            _ => None,
-        }
-    }
-
-    /// The load call.
-    pub fn load(&mut self, sheet: &[u8]) -> Answer {
-        reference::load(sheet, &mut self.attrs, &mut self.classes, &mut self.closure)
-    }
-
-    /// The plain change.
-    pub fn plain(&mut self, change: &[u8]) -> Answer {
-        let Stores {
-            attrs,
-            classes,
-            closure,
-        } = self;
-        reference::plain_change(attrs, classes, closure, change)
-    }
-
-    /// The quick change.
-    pub fn quick(&mut self, change: &[u8]) -> Answer {
-        let Stores {
-            attrs,
-            classes,
-            closure,
-        } = self;
-        reference::quick_change(attrs, classes, closure, change)
-    }
-
-    /// The audit.
-    pub fn audit(&self) -> Answer {
-        reference::audit(&self.attrs, &self.classes, &self.closure)
-    }
-
-    /// The write call, into this output.
-    pub fn write(&self, out: &mut [u8]) -> Answer {
-        reference::write(&self.attrs, &self.classes, &self.closure, out)
-    }
-
-    /// The depth call.
-    pub fn depth(&self, class: u16) -> Answer {
-        reference::depth(&self.attrs, &self.classes, &self.closure, class)
-    }
-}
+use reference::{LENGTHS, PAST, Stores, writing};
 
 /// Stores that a load accepted.
 pub fn in_order(random: &mut Random) -> Stores {
@@ -223,11 +112,9 @@ pub fn broken(random: &mut Random) -> Stores {
         false => out_of_order(random),
     };
     for _ in 0..random.within(1..5) {
-        let store = random.below(3) as u8;
-        if let Some(bytes) = stores.store_mut(store) {
-            let place = likely_place(random, bytes.len());
-            bytes[place] = random.byte();
-        }
+        let bytes = &mut stores.0[random.below(LENGTHS.len())];
+        let place = likely_place(random, bytes.len());
+        bytes[place] = random.byte();
     }
     stores
 }
@@ -255,11 +142,9 @@ pub fn any(random: &mut Random) -> Stores {
 }
 
 fn resize_any(random: &mut Random, stores: &mut Stores) {
-    let store = random.below(3) as u8;
-    if let Some(bytes) = stores.store_mut(store) {
-        let exact = bytes.len() - 16;
-        let lengths = [0, exact - 1, exact, exact + 1, exact / 2, exact + 100];
-        let length = random.pick(&lengths).copied().unwrap_or(exact);
-        bytes.resize(length, PAST);
-    }
+    let store = random.below(LENGTHS.len());
+    let exact = LENGTHS[store];
+    let lengths = [0, exact - 1, exact, exact + 1, exact / 2, exact + 100];
+    let length = random.pick(&lengths).copied().unwrap_or(exact);
+    stores.0[store].resize(length, PAST);
 }

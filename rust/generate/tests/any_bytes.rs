@@ -2,28 +2,18 @@
 //! alter nothing, but for a refused load, and no call touches bytes past the
 //! stores.
 
-use generate::stores::PAST;
-use generate::{Random, Stores, changes, sheets, stores};
-use reference::layout::{ATTRIBUTE_STORE, CLASS_STORE, CLOSURE_STORE};
-
-const LENGTHS: [usize; 3] = [ATTRIBUTE_STORE, CLASS_STORE, CLOSURE_STORE];
-
-fn parts(stores: &Stores) -> [&Vec<u8>; 3] {
-    [&stores.attrs, &stores.classes, &stores.closure]
-}
-
+use generate::{Random, changes, sheets, stores};
+use reference::{LENGTHS, PAST, Stores};
 /// The bytes past the stores' lengths.
 fn past(stores: &Stores) -> Vec<u8> {
-    let rests = parts(stores).into_iter().zip(LENGTHS);
+    let rests = stores.0.iter().zip(LENGTHS);
     let rests = rests.map(|(store, length)| store.get(length..).unwrap_or_default());
     rests.collect::<Vec<_>>().concat()
 }
 
 fn is_short(stores: &Stores) -> bool {
-    parts(stores)
-        .into_iter()
-        .zip(LENGTHS)
-        .any(|(store, length)| store.len() < length)
+    let mut stores = stores.0.iter().zip(LENGTHS);
+    stores.any(|(store, length)| store.len() < length)
 }
 
 #[test]
@@ -66,7 +56,7 @@ fn a_refused_load_leaves_every_store_byte_zero() {
                 let zero = |(store, length): (&Vec<u8>, usize)| {
                     store[..length].iter().all(|byte| *byte == 0)
                 };
-                assert!(parts(&stores).into_iter().zip(LENGTHS).all(zero));
+                assert!(stores.0.iter().zip(LENGTHS).all(zero));
             }
         }
     }

@@ -1,17 +1,17 @@
 //! Demand 3, over lists of changes from loaded schemas.
 
-use generate::{Random, Stores, changes, schemas, stores};
+use generate::{Random, changes, schemas, stores};
 use reference::changes::{Alteration, Change};
 use reference::closure::{Kept, afresh};
 use reference::layout::Tables;
 use reference::schema::{OpenList, Row};
-use reference::{Answer, writing};
+use reference::{Answer, Stores, writing};
 
 /// The tables of stores that are in shape.
 fn tables(stores: &Stores) -> Tables {
     match stores.tables() {
-        Some(tables) => tables,
-        None => unreachable!("the stores are in shape"),
+        Ok(tables) => tables,
+        Err(_) => unreachable!("the stores are in shape"),
     }
 }
 

@@ -2,7 +2,8 @@
 //! that a load that chose the row before the rule is found out (document 02,
 //! wish 3).
 
-use generate::{Random, Stores, sheets};
+use generate::{Random, sheets};
+use reference::Stores;
 use reference::rules::Judged;
 use std::collections::BTreeMap;
 

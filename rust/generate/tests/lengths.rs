@@ -1,6 +1,7 @@
 //! Sheets of a length asked for, and those with the longest names.
 
-use generate::{Random, Stores, sheets};
+use generate::{Random, sheets};
+use reference::Stores;
 use reference::schema::{CLASS_LIMIT, NAME_LIMIT};
 
 #[test]

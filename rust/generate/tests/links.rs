@@ -1,7 +1,8 @@
 //! Linked attributes hold names (document 02, wish 8): those of sound schemas
 //! have every syntax that fits, and those of spoiled ones any.
 
-use generate::{Random, Stores, schemas, sheets};
+use generate::{Random, schemas, sheets};
+use reference::Stores;
 use std::collections::BTreeSet;
 
 #[test]

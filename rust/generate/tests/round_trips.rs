@@ -1,8 +1,8 @@
 //! "Tables, sheet, tables gives the same bytes if in order; sheet, tables,
 //! sheet does if accepted and 08 stands exactly where oMSyntax is 127."
 
-use generate::{Random, Stores, schemas, sheets, stores};
-use reference::writing;
+use generate::{Random, schemas, sheets, stores};
+use reference::{Stores, writing};
 
 fn written(stores: &Stores) -> Vec<u8> {
     let mut out = vec![0; 420_000];

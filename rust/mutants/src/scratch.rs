@@ -37,7 +37,6 @@ impl Scratch {
         let mut cargo = Command::new("cargo");
         let built = cargo
             .args(["build", "--offline", "--quiet", "--package", "replay"])
-            .args(["--package", "sheet_text"])
             .args(["--bin", "replay-reference", "--bin", "list-reference"])
             .env("CARGO_INCREMENTAL", "1")
             .env("CARGO_PROFILE_DEV_OPT_LEVEL", "1")

@@ -22,6 +22,11 @@ pub struct Answer {
 }
 
 impl Answer {
+    /// Number, table and place.
+    pub const fn told(self) -> (u64, u64, u64) {
+        (self.number, self.table, self.place)
+    }
+
     /// An answer whose table and place are not named.
     pub const fn bare(number: u64) -> Answer {
         Answer {

@@ -15,9 +15,10 @@ mod quick;
 pub mod reading;
 pub mod rules;
 pub mod schema;
+mod stores;
 pub mod syntax;
 pub mod writing;
 
 pub use answer::{Answer, NUMBERS};
-pub use calls::{audit, depth, load, plain_change, quick_change, write};
 pub use listing::{LISTED_LIMIT, listing};
+pub use stores::{ATTRIBUTES, CLASSES, CLOSURE, LENGTHS, PAST, Stores};

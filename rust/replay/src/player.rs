@@ -2,9 +2,7 @@
 
 use crate::hash::fnv1a;
 use crate::step::Step;
-use generate::Stores;
-use generate::stores::PAST;
-use reference::Answer;
+use reference::{Answer, PAST, Stores};
 
 /// Plays steps on its stores.
 #[derive(Clone, Debug, Default)]
@@ -28,11 +26,6 @@ impl Player {
             _ => None,
         };
         let answer = self.answer(step, out.as_deref_mut().unwrap_or_default());
-        let Stores {
-            attrs,
-            classes,
-            closure,
-        } = &self.stores;
         let mut line = format!(
             "{} {} {} {}",
             step.name(),
@@ -40,7 +33,7 @@ impl Player {
             answer.table,
             answer.place
         );
-        for bytes in [attrs, classes, closure].into_iter().chain(&out) {
+        for bytes in self.stores.0.iter().chain(&out) {
             line += &format!(" {:016x}", fnv1a(bytes));
         }
         line
@@ -68,26 +61,16 @@ impl Player {
                 offset,
                 byte,
             } => {
-                self.poke(*store, *offset, *byte);
+                let bytes = &mut self.stores.0[usize::from(*store)];
+                if let Some(poked) = bytes.get_mut(*offset as usize) {
+                    *poked = *byte;
+                }
                 Answer::bare(0)
             }
             Step::Resize { store, length } => {
-                self.resize(*store, *length);
+                self.stores.0[usize::from(*store)].resize(*length as usize, PAST);
                 Answer::bare(0)
             }
-        }
-    }
-
-    fn poke(&mut self, store: u8, offset: u32, byte: u8) {
-        let bytes = self.stores.store_mut(store);
-        if let Some(poked) = bytes.and_then(|bytes| bytes.get_mut(offset as usize)) {
-            *poked = byte;
-        }
-    }
-
-    fn resize(&mut self, store: u8, length: u32) {
-        if let Some(bytes) = self.stores.store_mut(store) {
-            bytes.resize(length as usize, PAST);
         }
     }
 }

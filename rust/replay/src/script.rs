@@ -4,12 +4,10 @@
 use crate::player::Player;
 use crate::step::{LONGEST, Step};
 use generate::stores::{disorder_kept, disorder_rows, likely_place};
-use generate::{Random, Stores, changes, sheets};
-use reference::layout::{ATTRIBUTE_STORE, CLASS_STORE, CLOSURE_STORE, Tables};
+use generate::{Random, changes, sheets};
+use reference::layout::Tables;
+use reference::{LENGTHS, Stores};
 use std::collections::VecDeque;
-
-/// The lengths of the three stores.
-const LENGTHS: [usize; 3] = [ATTRIBUTE_STORE, CLASS_STORE, CLOSURE_STORE];
 
 /// At most so many pokes bring stores out of order at a time.
 const MOST_POKES: usize = 60;
@@ -141,10 +139,10 @@ impl Script {
     }
 
     fn plan_poke(&mut self) {
-        let store = self.random.below(3);
-        let lengths = lengths(self.player.stores());
-        if lengths[store] > 0 {
-            let offset = likely_place(&mut self.random, lengths[store]);
+        let store = self.random.below(LENGTHS.len());
+        let length = self.player.stores().0[store].len();
+        if length > 0 {
+            let offset = likely_place(&mut self.random, length);
             self.planned.push_back(Step::Poke {
                 store: store as u8,
                 offset: offset as u32,
@@ -155,7 +153,7 @@ impl Script {
 
     /// Pokes that keep shape and break order.
     fn plan_disorder(&mut self) {
-        let Some(tables) = self.player.stores().tables() else {
+        let Ok(tables) = self.player.stores().tables() else {
             return self.plan_sound_load();
         };
         let disordered = self.disordered(tables);
@@ -183,7 +181,7 @@ impl Script {
 
     /// A store too short for a while, and another length afterwards.
     fn plan_resize(&mut self) {
-        let store = self.random.below(3);
+        let store = self.random.below(LENGTHS.len());
         let exact = LENGTHS[store];
         let short = match self.random.below(3) {
             0 => self.random.below(exact),
@@ -220,22 +218,11 @@ impl Iterator for Script {
     }
 }
 
-fn parts(stores: &Stores) -> [&Vec<u8>; 3] {
-    [&stores.attrs, &stores.classes, &stores.closure]
-}
-
-fn lengths(stores: &Stores) -> [usize; 3] {
-    parts(stores).map(Vec::len)
-}
-
 /// The pokes that make one lot of stores, as far as their lengths go, another.
 fn pokes(from: &Stores, to: &Stores) -> Vec<Step> {
     let mut pokes = Vec::new();
-    for (store, length) in (0..).zip(LENGTHS) {
-        let (old, new) = (
-            parts(from)[usize::from(store)],
-            parts(to)[usize::from(store)],
-        );
+    let stores = from.0.iter().zip(&to.0).zip(LENGTHS);
+    for (store, ((old, new), length)) in (0..).zip(stores) {
         let pairs = (0..).zip(old.iter().zip(new)).take(length);
         let changed = pairs.filter(|(_, (old, new))| old != new);
         pokes.extend(changed.map(|(offset, (_, byte))| Step::Poke {

@@ -1,5 +1,6 @@
 //! The steps of a script, and their bytes.
 
+use reference::LENGTHS;
 use std::fmt;
 
 /// "at most 1 MiB", for an output and for a store.
@@ -22,7 +23,7 @@ pub enum Step {
     Depth(u16),
     /// "07 poke (u8 store 0..2, u32 offset, u8 byte)"
     Poke {
-        /// The store, 0 to 2.
+        /// The store's number.
         store: u8,
         /// Where in the store; past its end nothing is poked.
         offset: u32,
@@ -32,7 +33,7 @@ pub enum Step {
     /// "08 resize (u8 store, u32 length; cut, or lengthened by A5 bytes; at
     /// most 1 MiB)"
     Resize {
-        /// The store, 0 to 2.
+        /// The store's number.
         store: u8,
         /// The new length.
         length: u32,
@@ -128,7 +129,7 @@ fn byte(script: &mut &[u8]) -> Option<u8> {
 }
 
 fn store(script: &mut &[u8]) -> Option<u8> {
-    byte(script).filter(|store| *store <= 2)
+    byte(script).filter(|store| usize::from(*store) < LENGTHS.len())
 }
 
 fn length(script: &mut &[u8]) -> Option<u32> {

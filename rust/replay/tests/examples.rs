@@ -3,7 +3,7 @@
 
 use generate::coverage::{CALLS, may_give};
 use reference::NUMBERS;
-use replay::examples::{NAMES, SHEETS, listed, script};
+use replay::examples::{NAMES, SHEETS, UNSTORED, listed, script};
 use replay::{Player, SMALL, Step, steps};
 use std::collections::BTreeSet;
 use std::fs;
@@ -37,6 +37,36 @@ fn the_stored_scripts_are_those_made() {
         assert!(made == Ok(stored(name)), "{name}");
     }
     assert!(script("another").is_err());
+}
+
+/// The reference answers as the papers where no script is stored, too.
+#[test]
+fn the_others_can_be_made() {
+    for name in UNSTORED {
+        assert_eq!(script(name).err(), None);
+    }
+}
+
+/// "the same": on stores in order every plain change, made by the quick call,
+/// gives the same answer and bytes.
+#[test]
+fn on_stores_in_order_the_quick_change_does_what_the_plain_one_does() {
+    let mut changes = 0;
+    for script in NAMES.into_iter().chain(UNSTORED).map(script) {
+        let script = script.unwrap_or_default();
+        let mut player = Player::default();
+        for step in steps(&script).map_while(Result::ok) {
+            let mut copy = player.stores().clone();
+            let answer = player.advance(&step);
+            let Step::Plain(change) = step else { continue };
+            if copy.audit().number == 0 {
+                assert_eq!(copy.quick(&change), answer, "{change:02X?}");
+                assert!(copy == *player.stores(), "{change:02X?}");
+                changes += 1;
+            }
+        }
+    }
+    assert!(changes > 500, "{changes} changes");
 }
 
 /// The gate's player plays its standard input, then these scripts.

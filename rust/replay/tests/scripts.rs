@@ -1,5 +1,6 @@
 //! Scripts are read as they were made, and played as the format says.
 
+use reference::{CLOSURE, LENGTHS};
 use replay::{Kind, Player, Script, Step, Unplayable, fnv1a, steps};
 use std::collections::BTreeSet;
 
@@ -67,14 +68,15 @@ fn the_bytes_of_each_step() {
 
 #[test]
 fn a_script_that_cannot_be_read_is_told_by_its_step() {
+    let none = LENGTHS.len() as u8;
     let unplayable: [&[u8]; 8] = [
         &[0],
         &[9],
         &[1, 0, 0, 0, 2, 1],
         &[5, 0, 16, 0, 1],
         &[6, 0],
-        &[7, 3, 0, 0, 0, 0, 0],
-        &[8, 3, 0, 0, 0, 0],
+        &[7, none, 0, 0, 0, 0, 0],
+        &[8, none, 0, 0, 0, 0],
         &[8, 0, 0, 16, 0, 1],
     ];
     for bytes in unplayable {
@@ -89,19 +91,13 @@ fn a_script_that_cannot_be_read_is_told_by_its_step() {
 fn a_line_tells_the_answer_and_the_hashes() {
     let mut player = Player::default();
     let stores = player.stores().clone();
-    let hashes = [&stores.attrs, &stores.classes, &stores.closure];
-    let [attrs, classes, closure] = hashes.map(|store| fnv1a(store));
+    let hashes = stores.0.map(|store| format!(" {:016x}", fnv1a(&store)));
+    let hashes = hashes.concat();
     let audit = player.play(&Step::Audit);
-    assert_eq!(
-        audit,
-        format!("audit 0 0 0 {attrs:016x} {classes:016x} {closure:016x}")
-    );
+    assert_eq!(audit, format!("audit 0 0 0{hashes}"));
     let out = fnv1a(&[0x01, 0x00, 0x01, 0x01, 0xA5]);
     let written = player.play(&Step::Write(5));
-    assert_eq!(
-        written,
-        format!("write 0 0 4 {attrs:016x} {classes:016x} {closure:016x} {out:016x}")
-    );
+    assert_eq!(written, format!("write 0 0 4{hashes} {out:016x}"));
     let out = fnv1a(&[0xA5; 3]);
     let refused = player.play(&Step::Write(3));
     assert!(refused.starts_with("write 31 0 4 "));
@@ -117,14 +113,14 @@ fn pokes_and_resizes() {
         byte: 7,
     };
     let resize = |length: u32| Step::Resize { store: 2, length };
-    assert_eq!(player.stores().closure.len(), 10_240 + 16);
+    assert_eq!(player.stores().0[CLOSURE].len(), 10_240 + 16);
     assert!(player.play(&poke(3)).starts_with("poke 0 0 0 "));
-    assert_eq!(player.stores().closure[..5], [0, 0, 0, 7, 0]);
+    assert_eq!(player.stores().0[CLOSURE][..5], [0, 0, 0, 7, 0]);
     assert!(player.play(&Step::Audit).starts_with("audit 3 0 0 "));
     assert!(player.play(&resize(4)).starts_with("resize 0 0 0 "));
     assert!(player.play(&poke(4)).starts_with("poke 0 0 0 "));
     player.play(&resize(6));
-    assert_eq!(player.stores().closure, [0, 0, 0, 7, 0xA5, 0xA5]);
+    assert_eq!(player.stores().0[CLOSURE], [0, 0, 0, 7, 0xA5, 0xA5]);
     assert!(player.play(&Step::Audit).starts_with("audit 1 0 0 "));
 }
 

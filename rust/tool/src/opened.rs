@@ -6,9 +6,9 @@ use crate::ldif::{self, Import};
 use crate::refusal;
 use crate::rows::{Class, Schema, Table};
 use crate::sheet::{decode, encode};
-use crate::stores::Stores;
 use crate::text::{self, Lines};
 use crate::words::printable;
+use keeper::Stores;
 use std::ffi::OsStr;
 use std::io::{Read, Write};
 
@@ -49,7 +49,7 @@ impl Opened {
 /// lines names rows that there is no room for by numbers that no field can hold:
 /// that there are too many is told instead.
 pub fn loaded(name: &str, sheet: &[u8], lines: Option<&Lines>) -> Result<Stores, Failure> {
-    Stores::load(sheet).map_err(|answer| {
+    Stores::loaded(sheet).map_err(|answer| {
         let crowded = lines
             .filter(|_| answer.number == 4)
             .and_then(|_| crowded(sheet));
@@ -69,7 +69,7 @@ fn crowded(sheet: &[u8]) -> Option<keeper::Answer> {
             ..Class::default()
         };
     }
-    let answer = Stores::load(&encode(&schema).ok()?).err()?;
+    let answer = Stores::loaded(&encode(&schema).ok()?).err()?;
     Some(answer).filter(|answer| answer.number == 6)
 }
 

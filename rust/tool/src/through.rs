@@ -1,7 +1,8 @@
 //! Through which classes an attribute comes to a class.
 
+use crate::kept::Kept;
 use crate::rows::{List, RowId, Schema};
-use crate::stores::{Kept, Stores};
+use keeper::Stores;
 
 /// An attribute that a class demands or allows, and whence.
 pub struct Coming {
@@ -31,7 +32,7 @@ fn coming(
     kept: Kept,
     lists: &[List],
 ) -> Vec<Coming> {
-    let reached = stores.kept(class, Kept::Reached);
+    let reached = Kept::Reached.of(stores, class);
     let come = |number: u16| {
         let names = |reached: &usize| {
             let row = schema.classes.get(*reached);
@@ -47,5 +48,5 @@ fn coming(
             through,
         }
     };
-    stores.kept(class, kept).into_iter().map(come).collect()
+    kept.of(stores, class).into_iter().map(come).collect()
 }

@@ -6,10 +6,10 @@ mod common;
 
 use common::{done, fed, folder, kept};
 use generate::{Random, changes, schemas, sheets};
+use keeper::Stores;
 use reference::rules::RULES;
 use std::collections::{BTreeMap, BTreeSet};
 use std::fs;
-use tool::stores::Stores;
 
 #[test]
 fn each_form_comes_back() {
@@ -33,8 +33,7 @@ fn each_form_comes_back() {
 
 /// What the independent program answers to a load.
 fn answer(sheet: &[u8]) -> reference::Answer {
-    let (mut one, mut two, mut three) = (vec![0; 48_386], vec![0; 40_322], vec![0; 10_240]);
-    reference::load(sheet, &mut one, &mut two, &mut three)
+    reference::Stores::default().load(sheet)
 }
 
 /// The number that a refusal tells is the independent program's, and the row that
@@ -84,10 +83,10 @@ fn the_changes_of_a_diff_lead_to_the_other_schema() {
         let schema = schemas::schema(&mut random, size);
         let old = reference::writing::sheet(&schema);
         let mut stores =
-            Stores::load(&old).unwrap_or_else(|_| Stores::load(&[1, 0, 1, 1]).unwrap());
+            Stores::loaded(&old).unwrap_or_else(|_| Stores::loaded(&[1, 0, 1, 1]).unwrap());
         for _ in 0..12 {
             let change = changes::plausible(&mut random, &schema);
-            stores.change(&changes::bytes(&change), false);
+            stores.quick_change(&changes::bytes(&change));
         }
         let old = kept(&folder, "old.sheet", &old);
         let new = kept(&folder, "new.sheet", &stores.sheet().unwrap());

@@ -1,10 +1,11 @@
-//! The three lent stores: their lengths, and the tables their bytes stand for.
+//! The lengths of the lent stores, and the tables their bytes stand for.
 
 mod cells;
 mod rows;
 
 use crate::closure::Kept;
 use crate::schema::{ATTRIBUTE_LIMIT, CLASS_LIMIT, Schema};
+use crate::stores::{ATTRIBUTES, CLASSES, CLOSURE, Stores};
 use cells::Cells;
 
 /// Bytes of the attribute store's count.
@@ -38,20 +39,15 @@ pub struct Tables {
     pub kept: Vec<Kept>,
 }
 
-/// "1: a lent store is shorter than its length"
-pub fn too_short(attrs: &[u8], classes: &[u8], closure: &[u8]) -> bool {
-    attrs.len() < ATTRIBUTE_STORE || classes.len() < CLASS_STORE || closure.len() < CLOSURE_STORE
-}
-
 /// The tables in stores that are long enough. "*Shape*: counts within limits,
 /// every field one that the reader could have stored, unused rows zero; any
 /// bytes pass for kept sets."
-pub fn decode(attrs: &[u8], classes: &[u8], closure: &[u8]) -> Result<Tables, BrokenShape> {
+pub fn decode(stores: &Stores) -> Result<Tables, BrokenShape> {
     let schema = Schema {
-        attributes: decode_attributes(&attrs[..ATTRIBUTE_STORE])?,
-        classes: decode_classes(&classes[..CLASS_STORE])?,
+        attributes: decode_attributes(stores.front(ATTRIBUTES))?,
+        classes: decode_classes(stores.front(CLASSES))?,
     };
-    let kept = closure[..CLOSURE_STORE].chunks_exact(KEPT_ROW);
+    let kept = stores.front(CLOSURE).chunks_exact(KEPT_ROW);
     Ok(Tables {
         schema,
         kept: kept.map(rows::decode_kept).collect(),
@@ -94,9 +90,9 @@ fn used_rows(
     Ok(used.chunks_exact(width))
 }
 
-/// Puts the tables into stores that are long enough; "bytes past them are
-/// never touched".
-pub fn encode(tables: &Tables, attrs: &mut [u8], classes: &mut [u8], closure: &mut [u8]) {
+/// Puts the tables into stores that are long enough; what is left of each up to
+/// its length is zero.
+pub fn encode(tables: &Tables, stores: &mut Stores) {
     let schema = &tables.schema;
     let attribute_rows = schema.attributes.iter().map(rows::encode_attribute);
     let class_rows = schema.classes.iter().map(rows::encode_class);
@@ -104,26 +100,20 @@ pub fn encode(tables: &Tables, attrs: &mut [u8], classes: &mut [u8], closure: &m
 
     let attribute_head = schema.next_attribute().to_be_bytes();
     let class_head = [schema.next_class() as u8, 0];
-    fill(
-        &mut attrs[..ATTRIBUTE_STORE],
-        &attribute_head,
-        attribute_rows,
-    );
-    fill(&mut classes[..CLASS_STORE], &class_head, class_rows);
-    fill(&mut closure[..CLOSURE_STORE], &[], kept_rows);
+    let bytes = [
+        filled(&attribute_head, attribute_rows),
+        filled(&class_head, class_rows),
+        filled(&[], kept_rows),
+    ];
+    for (store, mut bytes) in stores.fronts_mut().zip(bytes) {
+        bytes.resize(store.len(), 0);
+        store.copy_from_slice(&bytes);
+    }
 }
 
-/// Head and rows, and zero for all that is left.
-fn fill(store: &mut [u8], head: &[u8], rows: impl Iterator<Item = Vec<u8>>) {
+/// Head and rows.
+fn filled(head: &[u8], rows: impl Iterator<Item = Vec<u8>>) -> Vec<u8> {
     let mut bytes = head.to_vec();
     rows.for_each(|row| bytes.extend(row));
-    bytes.resize(store.len(), 0);
-    store.copy_from_slice(&bytes);
-}
-
-/// "refused by 4 or more, it leaves every store byte zero"
-pub fn clear(attrs: &mut [u8], classes: &mut [u8], closure: &mut [u8]) {
-    attrs[..ATTRIBUTE_STORE].fill(0);
-    classes[..CLASS_STORE].fill(0);
-    closure[..CLOSURE_STORE].fill(0);
+    bytes
 }

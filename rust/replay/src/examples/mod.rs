@@ -2,24 +2,27 @@
 //! that a call can give the smallest schema or change that gives it, with active
 //! and defunct rows and rivals, and the nearest one that passes; every limit at
 //! its edge and past it. Each step has the answer that the papers give, and a
-//! script is made only if the reference gives the same.
+//! script is made only if the reference gives the same. Two scripts are not
+//! stored, and so not played by the gate: a test makes them.
 
 mod base;
 mod changes;
 mod identity;
+mod kept;
 mod limits;
 mod listing;
+mod more;
 mod named;
 mod places;
 mod quick;
 mod record;
-mod rows;
+pub mod rows;
 mod stores;
 mod values;
 
 use record::Record;
 
-/// The scripts' names, in the order in which the gate plays them.
+/// The names of the stored scripts, in the order in which the gate plays them.
 pub const NAMES: [&str; 7] = [
     "places",
     "rules",
@@ -29,6 +32,9 @@ pub const NAMES: [&str; 7] = [
     "classes",
     "quick",
 ];
+
+/// The names of those that are not stored.
+pub const UNSTORED: [&str; 2] = ["more", "kept"];
 
 /// The names of the sheets for the program that lists, and what it
 /// prints.
@@ -76,6 +82,8 @@ pub fn script(name: &str) -> Result<Vec<u8>, String> {
         "overfull" => limits::overfull(&mut record),
         "classes" => limits::classes(&mut record),
         "quick" => quick::examples(&mut record),
+        "more" => more::examples(&mut record),
+        "kept" => kept::examples(&mut record),
         _ => return Err(format!("no script {name}")),
     }
     record.finish()

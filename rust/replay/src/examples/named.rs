@@ -240,7 +240,7 @@ fn before_smaller_numbers(record: &mut Record) {
 
 /// Attributes that break 24 to 29, and a linked integer of its own, which breaks
 /// 45 alone.
-fn attributes_wrong() -> Vec<Row> {
+pub fn attributes_wrong() -> Vec<Row> {
     let row = Row::attribute;
     vec![
         row(0).mapi(3),

@@ -4,7 +4,6 @@
 use super::rows::{Row, sheet};
 use crate::player::Player;
 use crate::step::Step;
-use reference::Answer;
 
 /// Number, table and place.
 pub type Given = (u64, u64, u64);
@@ -31,15 +30,11 @@ impl Record {
 
     /// A step and its answer.
     pub fn step(&mut self, step: Step, given: Given) {
-        let Answer {
-            number,
-            table,
-            place,
-        } = self.player.advance(&step);
-        if (number, table, place) != given {
+        let told = self.player.advance(&step).told();
+        if told != given {
             let name = step.name();
-            let told = format!("{name}: {given:?} by the paper, not {number} {table} {place}");
-            self.faults.push(format!("{told}: {step:02X?}"));
+            let fault = format!("{name}: {given:?} by the paper, not {told:?}: {step:02X?}");
+            self.faults.push(fault);
         }
         self.script.extend(step.bytes());
     }
@@ -100,8 +95,7 @@ impl Record {
     /// A byte of a store is poked, and the one that stood there given back.
     pub fn poke(&mut self, store: u8, offset: usize, byte: u8) -> u8 {
         let stores = self.player.stores();
-        let bytes = [&stores.attrs, &stores.classes, &stores.closure];
-        let old = bytes[usize::from(store)].get(offset).copied();
+        let old = stores.0[usize::from(store)].get(offset).copied();
         let offset = offset as u32;
         self.step(
             Step::Poke {
@@ -112,6 +106,16 @@ impl Record {
             PASSED,
         );
         old.unwrap_or_default()
+    }
+
+    /// The last step left this byte there; the script does not show it.
+    pub fn holds(&mut self, store: usize, offset: usize, byte: u8) {
+        let held = self.player.stores().0[store].get(offset).copied();
+        if held != Some(byte) {
+            let fault =
+                format!("store {store} at {offset}: {byte:02X} by the paper, not {held:02X?}");
+            self.faults.push(fault);
+        }
     }
 
     /// A store is cut or lengthened.

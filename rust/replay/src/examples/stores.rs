@@ -4,7 +4,7 @@ use super::base;
 use super::record::{Given, PASSED, Record};
 use super::rows::{HEADING, Row, alter, rename, sheet};
 
-/// Lengths of the three stores, as docs/LAYOUT.md has them.
+/// Lengths of the stores, as docs/LAYOUT.md has them.
 const LENGTHS: [u32; 3] = [48_386, 40_322, 10_240];
 
 /// Where a byte of an attribute row stands in its store.

@@ -68,7 +68,7 @@ fn ranges(record: &mut Record) {
 }
 
 /// Every pair that rule 26 names, as document 01 writes them.
-const PAIRS: [(u8, u8); 20] = [
+pub const PAIRS: [(u8, u8); 20] = [
     (1, 127),
     (2, 6),
     (3, 27),

@@ -1,6 +1,6 @@
 //! An added row, in the lines of the text form.
 
-use sheet_text::{Fault, Line, Source};
+use crate::text::{Fault, Line, Source};
 
 /// Head and lines of a row, comments left out, each with its line in the list of
 /// changes, so that a fault names it.

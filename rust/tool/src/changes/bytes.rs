@@ -3,8 +3,7 @@
 use super::{Block, Change, NOWHERE};
 use crate::rows::{RowId, Schema, Table};
 use crate::sheet::{attribute_fields, class_fields, field};
-use crate::text::{Names, attribute, class};
-use sheet_text::Source;
+use crate::text::{Names, Source, attribute, class};
 
 /// The bytes of a change to a schema. A target or entry that is nowhere gets a
 /// number without a row, so that the keeper refuses it; a row that cannot be

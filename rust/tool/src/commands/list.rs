@@ -4,9 +4,9 @@ use super::{Command, Io, opened};
 use crate::arguments::Arguments;
 use crate::columns::aligned;
 use crate::failure::Failure;
+use crate::kept::Kept;
 use crate::opened::Opened;
 use crate::rows::{BASE, Common, RowId, Schema};
-use crate::stores::Kept;
 use crate::words::dotted;
 
 pub const COMMAND: Command = Command {
@@ -71,7 +71,7 @@ fn class_lines(opened: &Opened) -> Vec<Vec<String>> {
         "no", "name", "oid", "category", "must", "may", "marks",
     ])];
     for (at, row) in opened.schema.classes.iter().enumerate() {
-        let count = |kept| opened.stores.kept(at, kept).len().to_string();
+        let count = |kept: Kept| kept.of(&opened.stores, at).len().to_string();
         let name = opened.schema.name(RowId::class(at));
         let oid = dotted(&row.common.arcs);
         let (must, may) = (count(Kept::Demanded), count(Kept::Allowed));

@@ -8,9 +8,9 @@ use crate::opened::{Opened, held, sheet_of, unwritten};
 use crate::refusal::{asked, headline};
 use crate::rows::Schema;
 use crate::save::Locked;
-use crate::stores::Stores;
 use crate::text::patched;
 use crate::words::printable;
+use keeper::Stores;
 use std::collections::BTreeSet;
 
 /// Why a change was not made, in a line.
@@ -123,7 +123,10 @@ impl Session {
             Ok(bytes) => bytes,
             Err(fault) => return Ok(Err(Refusal::Unusable(format!("{words}: {fault}")))),
         };
-        let answer = self.stores.change(&bytes, self.whole);
+        let answer = match self.whole {
+            true => self.stores.plain_change(&bytes),
+            false => self.stores.quick_change(&bytes),
+        };
         if answer.number != keeper::DONE {
             let detail = asked(answer, change, &bytes, &self.schema, &self.stores);
             let line = format!("{} ({words})", headline(answer.number, &detail));
@@ -180,7 +183,7 @@ impl Session {
         let text = self.given.in_place(&text);
         let again = Given::of(name.clone(), text.clone())?;
         let (again, _) = sheet_of(&again, &mut std::io::sink())?;
-        let again = Stores::load(&again).and_then(|stores| stores.sheet());
+        let again = Stores::loaded(&again).and_then(|stores| stores.sheet());
         match again == Ok(sheet) {
             true => Ok(text),
             false => Err(Failure::unusable(format!(

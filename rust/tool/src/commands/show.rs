@@ -6,9 +6,9 @@ use crate::arguments::{Arguments, text};
 use crate::columns::aligned;
 use crate::failure::Failure;
 use crate::guess::nearest_row;
+use crate::kept::Kept;
 use crate::opened::Opened;
 use crate::rows::{Attribute, Class, Common, List, RowId, Schema, Table};
-use crate::stores::Kept;
 use crate::through::{Coming, allowed, demanded};
 use crate::words::{dotted, guid_text, hex};
 
@@ -142,7 +142,7 @@ fn class_text(opened: &Opened, row: RowId, class: &Class) -> String {
             line(list.title(), names);
         }
     }
-    let reached = opened.stores.kept(row.number, Kept::Reached);
+    let reached = Kept::Reached.of(&opened.stores, row.number);
     line(
         "reaches",
         names(schema, Table::Classes, reached.into_iter()),

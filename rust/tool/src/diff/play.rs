@@ -9,7 +9,7 @@ use crate::failure::Failure;
 use crate::numbers;
 use crate::opened::held;
 use crate::rows::{Schema, Table};
-use crate::stores::Stores;
+use keeper::Stores;
 use std::collections::BTreeSet;
 
 /// What leads from one schema to the other.
@@ -128,7 +128,7 @@ impl Play<'_> {
         let Ok(bytes) = bytes(&change, &self.now) else {
             return Ok(false);
         };
-        if self.stores.change(&bytes, false).number != keeper::DONE {
+        if self.stores.quick_change(&bytes).number != keeper::DONE {
             return Ok(false);
         }
         self.now = held(&self.stores)?;
@@ -147,7 +147,7 @@ impl Play<'_> {
         match bytes(&change, &self.now) {
             Err(fault) => format!("{words}: {fault}"),
             Ok(bytes) => {
-                let answer = self.stores.clone().change(&bytes, false);
+                let answer = self.stores.clone().quick_change(&bytes);
                 format!("{words}: {}", numbers::named(answer.number))
             }
         }

@@ -3,7 +3,7 @@
 use super::entry::Entry;
 use super::records::{Record, Value};
 use crate::rows::{Attribute, Class, Common, List, RowId, Table};
-use sheet_text::arcs;
+use crate::text::arcs;
 
 /// A name by which a class names a row.
 #[derive(Clone, Debug)]

@@ -2,7 +2,7 @@
 
 use super::records::{Record, Value};
 use crate::rows::Common;
-use sheet_text::arcs;
+use crate::text::arcs;
 
 /// An entry with its name, for faults.
 pub struct Entry<'a> {

@@ -2,10 +2,11 @@
 
 use super::html::{anchor, escaped, link, links, marks, table};
 use super::picture::category_class;
+use crate::kept::Kept;
 use crate::rows::{List, RowId, Schema};
-use crate::stores::{Kept, Stores};
 use crate::through::{Coming, allowed, demanded};
 use crate::words::{dotted, guid_text};
+use keeper::Stores;
 
 /// A class with all that is to be known of it.
 pub fn section(schema: &Schema, stores: &Stores, class: usize) -> String {
@@ -58,8 +59,8 @@ fn facts(schema: &Schema, stores: &Stores, class: usize) -> String {
         let rows = row.list(list).iter().map(|number| RowId::class(*number));
         facts.push((list.title(), links(schema, rows)));
     }
-    let reached = stores
-        .kept(class, Kept::Reached)
+    let reached = Kept::Reached
+        .of(stores, class)
         .into_iter()
         .map(RowId::class);
     facts.push(("Reaches", links(schema, reached)));

@@ -9,8 +9,8 @@ mod tables;
 
 use crate::opened::counted;
 use crate::rows::{Schema, Table};
-use crate::stores::Stores;
 use html::escaped;
+use keeper::Stores;
 
 /// The page of an accepted schema under a title.
 pub fn page(title: &str, schema: &Schema, stores: &Stores) -> String {

@@ -1,9 +1,10 @@
 //! The tables of attributes and classes.
 
 use super::html::{anchor, escaped, link, links, marks, table};
+use crate::kept::Kept;
 use crate::rows::{Attribute, List, RowId, Schema, Table};
-use crate::stores::{Kept, Stores};
 use crate::words::dotted;
+use keeper::Stores;
 
 /// All attributes.
 pub fn attributes(schema: &Schema) -> String {
@@ -73,8 +74,8 @@ pub fn classes(schema: &Schema, stores: &Stores) -> String {
         let found = format!("{} {oid}", escaped(&schema.name(id))).to_lowercase();
         let above = link(schema, RowId::class(row.superclass));
         let (must, may) = (
-            stores.kept(at, Kept::Demanded).len(),
-            stores.kept(at, Kept::Allowed).len(),
+            Kept::Demanded.of(stores, at).len(),
+            Kept::Allowed.of(stores, at).len(),
         );
         let (category, marks) = (row.category_word(), marks(&row.common));
         format!(

@@ -4,11 +4,11 @@ use super::named::named;
 use super::rules::broken;
 use crate::changes::{Change, after, list_word};
 use crate::guess::nearest;
+use crate::kept::Kept;
 use crate::rows::{Class, List, RowId, Schema, Table};
 use crate::sheet::located_from;
-use crate::stores::{Kept, Stores};
 use crate::words::joined;
-use keeper::Answer;
+use keeper::{Answer, Stores};
 
 /// What a refusal of a change speaks of, in words, from the rows before it.
 pub fn asked(
@@ -166,8 +166,8 @@ fn demands(change: &Change, schema: &Schema, stores: &Stores, target: RowId) -> 
     let Some(entry_row) = schema.find(list.table(), entry) else {
         return String::new();
     };
-    let own = stores.kept(target.number, Kept::Demanded);
-    let brought = stores.kept(entry_row.number, Kept::Demanded);
+    let own = Kept::Demanded.of(stores, target.number);
+    let brought = Kept::Demanded.of(stores, entry_row.number);
     let differs = |number: &u16| !add || !own.contains(number);
     let names = brought
         .into_iter()

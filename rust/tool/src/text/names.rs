@@ -1,7 +1,7 @@
 //! The names by which lines name rows.
 
+use super::lines::{Fault, Line};
 use crate::rows::{RowId, Schema, Table};
-use sheet_text::{Fault, Line};
 use std::collections::HashMap;
 
 /// The numbers of rows by their names; of rows with one name, the first.

@@ -1,8 +1,8 @@
 //! Lines of the text form as rows.
 
+use super::lines::{Fault, Line, Source, arcs};
 use super::names::Names;
 use crate::rows::{Attribute, BASE, Class, Common, List, RowId, Schema, Table};
-use sheet_text::{Fault, Line, Source, arcs};
 
 /// The line at which each row begins, counted from 1.
 #[derive(Clone, Debug, Default, PartialEq, Eq)]

@@ -70,7 +70,14 @@ fn target(folder: &str, text: &str) -> Option<PathBuf> {
     let of_path = |letter: char| letter.is_ascii_alphanumeric() || "/._-".contains(letter);
     let end = text.find(|letter| !of_path(letter)).unwrap_or(text.len());
     let path = text[..end].trim_end_matches('.');
-    let folders = ["crates/", "docs/", "include/", "examples/", "samples/"];
+    let folders = [
+        "crates/",
+        "docs/",
+        "include/",
+        "examples/",
+        "samples/",
+        "rust/",
+    ];
     let is_path = folders.iter().any(|folder| path.starts_with(folder));
     let named = !path.contains("NAME") && !text[end..].starts_with('*');
     (is_path && named).then(|| top().join(path))
@@ -311,6 +318,56 @@ fn definitions_and_header_have_the_same_names() {
         let define = format!("\n#define KEEPER_{name} {number}");
         assert!(header.contains(&define), "{name}");
     }
+}
+
+/// The calls that the header declares: their names, and the types of what they
+/// are given.
+fn declared() -> Vec<(String, Vec<String>)> {
+    let header = text("include/keeper.h");
+    let calls = header.split("\nuint64_t ").skip(1).map(|call| {
+        let (name, rest) = call.split_once('(').unwrap_or_default();
+        let (given, _) = rest.split_once(");").unwrap_or_default();
+        let of_name = |letter: char| letter.is_ascii_alphanumeric() || letter == '_';
+        let types = given.split(',').map(|one| one.trim_end_matches(of_name));
+        let types = types.map(|one| one.trim().to_owned());
+        (name.to_owned(), types.collect())
+    });
+    calls.collect()
+}
+
+/// The calls that rust/keeper declares, in the same words: a slice is a pointer
+/// and a length, and stores are as many slices as there are stores.
+fn wrapped() -> Vec<(String, Vec<String>)> {
+    let code = text("rust/keeper/src/c.rs");
+    let stores = code.split("STORES: usize = ").nth(1);
+    let stores = stores.and_then(|rest| rest.split_once(';')?.0.parse().ok());
+    let stores = stores.unwrap_or_default();
+    let types = |one: &str| match one {
+        "&[u8]" => vec!["const uint8_t *", "size_t"],
+        "&mut [u8]" => vec!["uint8_t *", "size_t"],
+        "&mut [u64]" => vec!["uint64_t *", "size_t"],
+        "Lent<'_>" => ["const uint8_t *", "size_t"].repeat(stores),
+        "LentMut<'_>" => ["uint8_t *", "size_t"].repeat(stores),
+        "u8" => vec!["uint8_t"],
+        "u16" => vec!["uint16_t"],
+        _ => vec!["not understood"],
+    };
+    let list = code.split("\ncalls! {").nth(1).unwrap_or_default();
+    let calls = list.split(';').filter_map(|call| {
+        let (name, rest) = call.trim().split_once(" as ")?;
+        let given = rest.split_once('(')?.1.strip_suffix(')')?;
+        let given = given.split(',').filter_map(|one| one.split_once(": "));
+        let types = given.flat_map(|(_, one)| types(one.trim()));
+        Some((name.to_owned(), types.map(str::to_owned).collect()))
+    });
+    calls.collect()
+}
+
+/// What rust/keeper hands over is what the header declares, call by call.
+#[test]
+fn the_wrapper_declares_what_the_header_does() {
+    assert_eq!(wrapped(), declared());
+    assert!(declared().len() >= 6);
 }
 
 /// The files of definitions that a file brings in: its lines

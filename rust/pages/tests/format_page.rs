@@ -1,10 +1,12 @@
 //! The bytes that docs/FORMAT.md shows, run: each sheet is loaded, each change
 //! is made by both calls, and the answers must be those that the page states.
 
-mod common;
-
-use common::{Lent, PAPER_SHEET, Triple};
+use generate::sheets::PAPER;
+use reference::Stores;
 use std::fs;
+
+/// Number, table and place.
+type Told = (u64, u64, u64);
 
 /// A block of the page: its bytes, and the answer that the page states.
 struct Block {
@@ -12,7 +14,7 @@ struct Block {
     line: usize,
     kind: Kind,
     bytes: Vec<u8>,
-    answer: Triple,
+    answer: Told,
 }
 
 #[derive(Clone, Copy, PartialEq, Eq, Debug)]
@@ -40,7 +42,7 @@ fn hex(text: &str) -> Option<Vec<u8>> {
 }
 
 /// "answer: NUMBER TABLE PLACE"
-fn answer(line: &str) -> Option<Triple> {
+fn answer(line: &str) -> Option<Told> {
     let mut numbers = line.strip_prefix("answer: ")?.split(' ').map(str::parse);
     let mut next = || numbers.next()?.ok();
     Some((next()?, next()?, next()?))
@@ -96,29 +98,40 @@ fn blocks() -> Vec<Block> {
 
 #[test]
 fn every_answer_is_the_one_that_the_page_states() {
-    let mut lent = Lent::filled(0);
+    let mut stores = Stores::default();
     for block in blocks() {
-        let before = lent.clone();
+        let before = stores.clone();
         let given = match block.kind {
-            Kind::Sheet => loaded(&block.bytes, &mut lent),
-            Kind::Change => lent.both(&block.bytes),
+            Kind::Sheet => loaded(&block.bytes, &mut stores),
+            Kind::Change => changed(&block.bytes, &mut stores),
         };
         assert_eq!(given, block.answer, "line {}", block.line);
-        assert!(given.0 == 0 || lent == before, "line {}", block.line);
-        assert_eq!(lent.audit(), (0, 0, 0), "line {}", block.line);
+        assert!(given.0 == 0 || stores == before, "line {}", block.line);
+        assert_eq!(stores.audit().told(), (0, 0, 0), "line {}", block.line);
     }
 }
 
 /// A load into new stores, which take the place of the others if it is
 /// accepted; the sheet is then written back byte for byte.
-fn loaded(sheet: &[u8], lent: &mut Lent) -> Triple {
-    let mut new = Lent::filled(0x5A);
+fn loaded(sheet: &[u8], stores: &mut Stores) -> Told {
+    let mut new = Stores::filled(0x5A);
     let answer = new.load(sheet);
-    if answer.0 == 0 {
-        assert_eq!(new.sheet(), sheet);
-        *lent = new;
+    if answer.number == 0 {
+        let mut out = vec![0; sheet.len()];
+        assert_eq!(new.write(&mut out).told(), (0, 0, sheet.len() as u64));
+        assert_eq!(out, sheet);
+        *stores = new;
     }
-    answer
+    answer.told()
+}
+
+/// A change by both calls, which must agree in answer and bytes.
+fn changed(change: &[u8], stores: &mut Stores) -> Told {
+    let mut copy = stores.clone();
+    let answer = stores.quick(change);
+    assert_eq!(copy.plain(change), answer);
+    assert!(copy == *stores);
+    answer.told()
 }
 
 #[test]
@@ -127,7 +140,7 @@ fn the_first_block_is_the_whole_sheet_of_67_bytes() {
     let first = blocks
         .first()
         .map(|block| (block.kind, block.bytes.clone()));
-    assert_eq!(first, Some((Kind::Sheet, PAPER_SHEET.to_vec())));
+    assert_eq!(first, Some((Kind::Sheet, PAPER.to_vec())));
 }
 
 /// One accepted change of each kind in a row, and refused ones: by a number
