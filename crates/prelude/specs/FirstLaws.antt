@@ -48,6 +48,7 @@ first_or_none (c ∷ cs) = go (first_or_none cs) (true_or_false c.holds)
     go (inr h) (inr e) = inr (e, h)
 
 first_positive : {n : ℕ} (cs : List Case) → NonZero cs → FirstHolds n cs → 0 < n
+first_positive {n = n} [] z x'' = elim x'' [ ]
 first_positive (c ∷ cs) z (FirstHolds.here e q) = omega (arith, z.0)
 first_positive (c ∷ cs) z (FirstHolds.there e h) = first_positive cs z.1 h
 
@@ -67,6 +68,7 @@ first_among (FirstHolds.there e h) = Among.there (first_among h)
 
 module _ (rank : ℕ → ℕ) where
   pub among_above : {n : ℕ} (m : ℕ) (cs : List Case) → Rising rank m cs → Among n cs → m < rank n
+  among_above {n = n} m [] r x'' = elim x'' [ ]
   among_above m (c ∷ cs) r (Among.here e q) = omega (arith, r.0, ap rank q)
   among_above m (c ∷ cs) r (Among.there a) = omega (arith, r.0, among_above (rank c.number) cs r.1 a)
 
@@ -80,6 +82,7 @@ module _ (rank : ℕ → ℕ) where
       go (no d) = let e : c.number ≡ 0 = omega arith in absurd (omega (arith, r.0, ap rank e))
 
   pub first_least : (m n : ℕ) (cs : List Case) → Rising rank m cs → Among n cs → rank (first_of cs) ≤ rank n
+  first_least m n [] r x'' = elim x'' [ ]
   first_least m n (c ∷ cs) r (Among.here e q) = omega (arith, ap rank (first_hit c cs e ∙ q))
   first_least m n (c ∷ cs) r (Among.there a) = go (first_least (rank c.number) n cs r.1 a) (true_or_false c.holds)
     where
@@ -102,6 +105,7 @@ append_miss [] q h = refl
 append_miss (c ∷ p) q h = first_miss c (p ++ q) h.0 ∙ append_miss p q h.1
 
 append_hit : {n : ℕ} (p q : List Case) → FirstHolds n p → FirstHolds n (p ++ q)
+append_hit {n = n} [] q x' = elim x' [ ]
 append_hit (c ∷ p) q (FirstHolds.here e r) = FirstHolds.here e r
 append_hit (c ∷ p) q (FirstHolds.there e h) = FirstHolds.there e (append_hit p q h)
 

@@ -25,7 +25,8 @@ pub fn copy_padded(d: &mut [u8], s: &[u8])
     requires { length s.now ≤ length d.old }
     ensures { d.new ≡ padded (length d.old) s.now }
 {
-    let n = bytes::copy(s, d);
+    let n = s.len();
+    d[..n].copy_from_slice(s);
     clear(&mut d[n..]);
 }
 
@@ -82,6 +83,7 @@ pub fn put_bytes(v: &[u8], out: &mut [u8], at: usize) -> usize
     requires { at + length v.now ≤ length out.old }
     ensures { WrittenAt v.now at result out.old out.new }
 {
-    let n = bytes::copy(v, &mut out[at..]);
-    at + n
+    let end = at + v.len();
+    out[at..end].copy_from_slice(v);
+    end
 }

@@ -1,5 +1,6 @@
 // Sets of small numbers as byte strings: n is a member where bit n % 8, the least significant first, of byte n / 8 is set. A set has the length
 // of the slice that holds it: 16 bytes for classes, 32 for attributes.
+#![tactic(auto)]
 
 ghost use Rattle.std.specs.Prelude.{◌≡◌, ◌*◌, ◌/◌, ◌≤◌, ◌<◌, length};
 ghost use Rattle.prelude.specs.Below.{first_below};

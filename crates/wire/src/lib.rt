@@ -1,4 +1,6 @@
 // Tagged fields. Document 01: "Tagged fields: one byte tag, two bytes length, value; numbers most significant byte first."
+#![tactic(auto)]
+
 ghost use Rattle.std.specs.Prelude.{◌≡◌, ◌+◌, ◌-◌, ◌≤◌, ◌<◌, length};
 ghost use Rattle.prelude.specs.Part.{part, splice};
 ghost use Rattle.wire.specs.Wire.{field_at, header_bytes, field_bytes};
@@ -68,5 +70,6 @@ pub fn write_field(d: &mut [u8], at: usize, tag: u8, value: &[u8])
 {
     write_header(d, at, tag, value.len() as u16);
     let start = at + HEADER;
-    bytes::copy(value, &mut d[start..]);
+    let end = start + value.len();
+    d[start..end].copy_from_slice(value);
 }

@@ -1,0 +1,8 @@
+use Rattle.prelude.specs.BigEndianLaws.{two_bytes}
+use native.Mathlib.Omega.{arith}
+use borrow.Author.Rules.{rules}
+use Rattle.prelude.proofs.number.read_u16.Goals as goal
+
+pub returns : goal.returns
+returns c =
+    omega (arith, two_bytes c.args.at c.args.s.now)

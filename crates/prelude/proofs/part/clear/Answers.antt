@@ -1,0 +1,20 @@
+use mathlib.Core.Path.{sym}
+use Prim.Native.Nat.{◌-◌}
+use lib.ListN.{length}
+use Rattle.prelude.specs.Part.{zeros}
+use Rattle.prelude.specs.PartLaws.{zeros_length, zeros_at}
+use Rattle.prelude.proofs.Fill.{Filled, fill_none, fill_more, fill_all}
+use borrow.Author.Rules.{rules}
+use Rattle.prelude.proofs.part.clear.Goals as goal
+
+pub loop-i-init : goal.loop-i-init
+loop-i-init c =
+    fill_none _ _
+
+pub loop-i-preserved : goal.loop-i-preserved
+loop-i-preserved c =
+    fill_more _ _ _ _ _ (zeros_length _) (search rules) (sym (zeros_at _ _)) c.loop-i.invariant
+
+pub returns : goal.returns
+returns c =
+    fill_all _ _ _ _ (zeros_length _) (search rules) c.loop-i.invariant

@@ -1,0 +1,8 @@
+use mathlib.Core.Path.{refl}
+use Rattle.prelude.specs.PartLaws.{part_cut}
+use borrow.Author.Rules.{rules}
+use Rattle.prelude.proofs.part.part_of.Goals as goal
+
+pub returns : goal.returns
+returns c =
+    part_cut _ _ _ _ refl

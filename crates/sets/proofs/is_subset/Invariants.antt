@@ -1,0 +1,17 @@
+use mathlib.Core.Path.{◌≡◌, sym}
+use Prim.Native.Nat.{ℕ, ◌≤◌, ◌<◌, ◌-◌}
+use borrow.Author.Count.{below_none, below_more}
+use lib.Bits.{bit_or}
+use lib.ListN.{length, get_or}
+use Rattle.prelude.specs.SaysLaws.{says_true, says_false}
+use Rattle.sets.specs.SetsLaws.{says_subset}
+use Rattle.sets.proofs.Bytes.{subset_byte, subset_bytes}
+use native.Mathlib.Omega.{arith}
+use borrow.Author.Rules.{rules}
+use Rattle.sets.proofs.is_subset.Given as goal
+
+abbrev pub invariant-loop-i : goal.invariant-loop-i
+invariant-loop-i l = (l.i ≤ length l.a) × ((k : ℕ) → k < l.i → bit_or (get_or l.a k 0) (get_or l.b k 0) ≡ get_or l.b k 0)
+
+abbrev pub decreases-loop-i : goal.decreases-loop-i
+decreases-loop-i l = length l.a - l.i
