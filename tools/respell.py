@@ -151,6 +151,19 @@ OLDER = [
 ]
 
 
+# `result` is today's word for what a function returns. The definition of that name, of an answer with the stores that are left, is `result_of`.
+def result(path, text):
+    if path.endswith(".rt"):
+        text = re.sub(r"(ghost use Rattle\.schema\.specs\.Store\.\{[^}]*?)(?<!\w)result(?!\w)", r"\1result_of", text)
+        return re.sub(r"(λ r\. ⌜ )result r", r"\1result_of r", text)
+    if path.endswith(".edit"):
+        return re.sub(r"\(result \(refused", "(result_of (refused", text)
+    if not (re.search(r"(?m)^use Rattle\.schema\.specs\.Store\.\{[^}]*(?<![\w.])result(?!\w)", text) or path.endswith("schema/specs/Store.antt")):
+        return text
+    to = re.sub(r"(?<![\w.\-'])result(?![\w\-'])", "result_of", text)
+    return "\n".join(a if a.lstrip().startswith("--") else b for a, b in zip(text.split("\n"), to.split("\n")))
+
+
 def edit(text, rows):
     mine, out, specs = {k: v for k, v in rows.items() if is_old(k)}, [], False
     for line in text.split("\n"):
@@ -184,11 +197,11 @@ def main():
     for path in sources(".antt", ".rt"):
         text = read(path)
         if path.endswith(".rt"):
-            to = rt(text, rows)
+            to = result(path, rt(text, rows))
         else:
             mine = dict(rows)
             mine.update({n: snake(n) for n in local.get(path, ())})
-            to = antt(text, mine)
+            to = result(path, antt(text, mine))
         if to != text:
             changed += 1
             with open(path, "w", encoding="utf-8") as f:
@@ -202,7 +215,7 @@ def main():
                 f.write(to)
     for path in sorted(glob.glob("crates/*/must-fail/*.edit")):
         text = read(path)
-        to = edit(text, rows)
+        to = result(path, edit(text, rows))
         if to != text:
             changed += 1
             with open(path, "w", encoding="utf-8") as f:

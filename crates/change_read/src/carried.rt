@@ -11,7 +11,7 @@ use schema::layout::{NAME_LIMIT, row_width};
 use schema::number::TableId;
 
 // The open lists of a class.
-#[derive(Drop)]
+#[derive(Clone, Copy)]
 pub enum OpenList {
     Optional,
     Auxiliary,

@@ -11,7 +11,7 @@ use schema::number::TableId;
 use wire::FieldRead;
 
 // What a change asks for.
-#[derive(Drop)]
+#[derive(Clone, Copy)]
 pub enum Change {
     Add(TableId),
     SetRange,
@@ -23,14 +23,14 @@ pub enum Change {
 }
 
 // What a tag stands for where a change's is meant.
-#[derive(Drop)]
+#[derive(Clone, Copy)]
 pub enum Tagged {
     Known(Change),
     Unknown,
 }
 
 // What reading a change comes to: what it asks for, or the place of the first field that cannot be accepted, of a missing field or of leftover bytes.
-#[derive(Drop)]
+#[derive(Clone, Copy)]
 pub enum ChangeRead {
     Read(Change),
     Bad { at: usize },

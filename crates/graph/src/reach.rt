@@ -14,7 +14,7 @@ use schema::number::{ClassNumber, ClassRead, TableId, class_at};
 use schema::store::{class_row, row_count};
 
 // The next class that a walk visits.
-#[derive(Drop)]
+#[derive(Clone, Copy)]
 pub enum NextClass {
     Class(ClassNumber),
     Nothing,

@@ -8,7 +8,7 @@ ghost use Rattle.schema.specs.Numbers.{class_limit};
 use schema::layout::CLASS_SET;
 use schema::number::ClassNumber;
 
-#[derive(Drop)]
+#[derive(Clone, Copy)]
 pub struct Visited {
     pub bits: [u8; CLASS_SET],
 }

@@ -11,7 +11,7 @@ use Rattle.schema.specs.declared.number.TableId.{TableId}
 use Rattle.schema.specs.declared.number.TableId.TheVariants.{Attributes, Classes}
 use Rattle.schema.specs.Answers.{refused}
 use Rattle.schema.specs.Layout.{store_length, closure_length}
-use Rattle.schema.specs.Store.{Stores, stores, Result, LongEnough, result, any_short, schema_in, table_in}
+use Rattle.schema.specs.Store.{Stores, stores, Result, LongEnough, result_of, any_short, schema_in, table_in}
 use Rattle.schema.specs.StoreLaws.{long_enough}
 use Rattle.tables.specs.Shaped.{Shaped}
 use Rattle.graph.specs.Graph.{Readable, closure_rows}
@@ -65,10 +65,10 @@ stores_lent s e = let l = long_enough s e in record { attributes = l.attributes;
 
 module _ (sheet : List ℕ) (s : Stores) where
   -- an answer that was found, beside the stores as they were left
-  answered : {y z : Answer} {t u : Stores} {r : Result} → y ≡ z → t ≡ u → r ≡ result z u → result y t ≡ r
-  answered e f g = ap₂ result e f ∙ sym g
+  answered : {y z : Answer} {t u : Stores} {r : Result} → y ≡ z → t ≡ u → r ≡ result_of z u → result_of y t ≡ r
+  answered e f g = ap₂ result_of e f ∙ sym g
 
-  pub short_ends : {y : Answer} → y ≡ refused refusal.short_store → any_short s ≡ true → result y s ≡ load sheet s
+  pub short_ends : {y : Answer} → y ≡ refused refusal.short_store → any_short s ≡ true → result_of y s ≡ load sheet s
   short_ends e f = answered e refl (load_short sheet s f)
 
   module _ (long : any_short s ≡ false) (bytes : Bytes sheet) {y : Answer} {a c : List ℕ}
@@ -93,7 +93,7 @@ module _ (sheet : List ℕ) (s : Stores) where
           closure = l.closure;
         }
 
-    pub filled_ends : {k : List ℕ} → y.number ≡ 0 → k ≡ splice 0 (closure_rows (table_in Classes c)) s.closure → result y (stores a c k) ≡ load sheet s
+    pub filled_ends : {k : List ℕ} → y.number ≡ 0 → k ≡ splice 0 (closure_rows (table_in Classes c)) s.closure → result_of y (stores a c k) ≡ load sheet s
     filled_ends {k} z w = answered found.answer same (load_accepted sheet s long (sym (ap (λ (v : Answer). v.number) found.answer) ∙ z))
       where
         closure : closure_rows (table_in Classes c) ≡ closure_rows (schema_from (read_sheet sheet).rows).classes
@@ -104,7 +104,7 @@ module _ (sheet : List ℕ) (s : Stores) where
         same = unfold filled in (λ i. stores (found.attributes i) (found.classes i) ((w ∙ ap (λ (v : List ℕ). splice 0 v s.closure) closure) i))
 
     -- the stores with what was read, emptied again
-    pub emptied_ends : {t : Stores} → ¬ (y.number ≡ 0) → t ≡ emptied (stores a c s.closure) → result y t ≡ load sheet s
+    pub emptied_ends : {t : Stores} → ¬ (y.number ≡ 0) → t ≡ emptied (stores a c s.closure) → result_of y t ≡ load sheet s
     emptied_ends {t} d w = answered found.answer (w ∙ again) (load_rejected sheet s long (λ z. d (ap (λ (v : Answer). v.number) found.answer ∙ z)))
       where
         again : emptied (stores a c s.closure) ≡ emptied s

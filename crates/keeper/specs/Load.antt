@@ -6,7 +6,7 @@ use Rattle.schema.specs.declared.answer.Answer.{Answer}
 use Rattle.schema.specs.declared.number.TableId.TheVariants.{Attributes, Classes}
 use Rattle.schema.specs.Answers.{refused}
 use Rattle.schema.specs.Layout.{store_length, closure_length}
-use Rattle.schema.specs.Store.{Stores, stores, Result, result, any_short}
+use Rattle.schema.specs.Store.{Stores, stores, Result, result_of, any_short}
 use Rattle.tables.specs.Filled.{table_from, filled_store}
 use Rattle.graph.specs.Graph.{closure_rows}
 use Rattle.sheet_read.specs.Reading.{Rows, SheetOut, schema_from, sheet_answer, read_sheet}
@@ -33,11 +33,11 @@ read_answer o = first_answer (sheet_answer o.answer ∷ []) (judged Nothing (sch
 
 -- accepted, the stores hold the rows that were read; refused, they are empty
 unfoldable pub loaded : SheetOut → Stores → Result
-loaded o s = result (read_answer o) (cond (eqb (read_answer o).number refusal.done) (filled o.rows s) (emptied s))
+loaded o s = result_of (read_answer o) (cond (eqb (read_answer o).number refusal.done) (filled o.rows s) (emptied s))
 
 -- "1 a lent store is shorter than its length": nothing is altered
 unfoldable pub load : List ℕ → Stores → Result
-load sheet s = cond (any_short s) (result (refused refusal.short_store) s) (loaded (read_sheet sheet) s)
+load sheet s = cond (any_short s) (result_of (refused refusal.short_store) s) (loaded (read_sheet sheet) s)
 
 -- what reading into the two tables and judging leaves, before the closure is worked out or all is emptied
 pub record ReadAndJudged (o : SheetOut) (a c : List ℕ) (r : Answer) (a' c' : List ℕ) : Type 0 where

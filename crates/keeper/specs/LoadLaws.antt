@@ -12,7 +12,7 @@ use Rattle.schema.specs.declared.number.TableId.{TableId}
 use Rattle.schema.specs.declared.number.TableId.TheVariants.{Attributes, Classes}
 use Rattle.schema.specs.Answers.{refused, unreadable, full}
 use Rattle.schema.specs.Layout.{store_length, closure_length}
-use Rattle.schema.specs.Store.{LongEnough, Stores, any_short, result, schema_in, table_in}
+use Rattle.schema.specs.Store.{LongEnough, Stores, any_short, result_of, schema_in, table_in}
 use Rattle.tables.specs.Filled.{empty_stores, filled_store, table_from}
 use Rattle.tables.specs.FilledLaws.{store_length_lem}
 use Rattle.tables.specs.Same.{Same, SameRows}
@@ -115,7 +115,7 @@ module _ (sheet : List ℕ) (s : Stores) where
   out = read_sheet sheet
 
   -- a store is too short: nothing is touched
-  pub load_short : any_short s ≡ true → load sheet s ≡ result (refused refusal.short_store) s
+  pub load_short : any_short s ≡ true → load sheet s ≡ result_of (refused refusal.short_store) s
   unfolding load
   load_short e = rw e
 
@@ -125,11 +125,11 @@ module _ (sheet : List ℕ) (s : Stores) where
     load_long = rw long
 
     -- accepted: the rows that were read, and their closure
-    pub load_accepted : (read_answer out).number ≡ 0 → load sheet s ≡ result (read_answer out) (filled out.rows s)
+    pub load_accepted : (read_answer out).number ≡ 0 → load sheet s ≡ result_of (read_answer out) (filled out.rows s)
     load_accepted z = load_long ∙ (unfold loaded in (rw (says_true (says_eq (read_answer out).number 0) z)))
 
     -- refused: every store byte zero
-    pub load_rejected : ¬ ((read_answer out).number ≡ 0) → load sheet s ≡ result (read_answer out) (emptied s)
+    pub load_rejected : ¬ ((read_answer out).number ≡ 0) → load sheet s ≡ result_of (read_answer out) (emptied s)
     load_rejected d = load_long ∙ (unfold loaded in (rw (says_false (says_eq (read_answer out).number 0) d)))
 
 -- ---- empty stores of exactly their lengths

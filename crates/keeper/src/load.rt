@@ -1,7 +1,7 @@
 // Load: a sheet into the stores. Document 01: "Load never looks at what stood in the stores; it reads left to right and gives 4 or 6, whichever comes
 // first, then judges 12 to 29; refused by 4 or more, it leaves every store byte zero."
 ghost use Rattle.std.specs.Prelude.{◌≡◌};
-ghost use Rattle.schema.specs.Store.{LongEnough, stores, result};
+ghost use Rattle.schema.specs.Store.{LongEnough, stores, result_of};
 ghost use Rattle.sheet_read.specs.Held.{Lent};
 ghost use Rattle.sheet_read.specs.Reading.{read_sheet};
 ghost use Rattle.keeper.specs.Load.{emptied, load, ReadAndJudged};
@@ -20,8 +20,8 @@ use tables::store::empty;
 // Every byte of the stores becomes zero; those past their lengths stay.
 fn empty_all(attributes: &mut [u8], classes: &mut [u8], closure: &mut [u8])
     requires { LongEnough (stores attributes.old classes.old closure.old) }
-    ensures* { λ _. ⌜ stores attributes.new classes.new closure.new
-        ≡ emptied (stores attributes.old classes.old closure.old) ⌝ }
+    ensures { stores attributes.new classes.new closure.new
+        ≡ emptied (stores attributes.old classes.old closure.old) }
 {
     empty(attributes, store_length(TableId::Attributes));
     empty(classes, store_length(TableId::Classes));
@@ -31,8 +31,8 @@ fn empty_all(attributes: &mut [u8], classes: &mut [u8], closure: &mut [u8])
 // Reads a sheet into the tables, and judges the rows that it gave.
 fn read_and_judge(sheet: &[u8], attributes: &mut [u8], classes: &mut [u8]) -> Answer
     requires { Lent attributes.old classes.old }
-    ensures* { λ r. ⌜ ReadAndJudged (read_sheet sheet.now) attributes.old classes.old r attributes.new
-        classes.new ⌝ }
+    ensures { ReadAndJudged (read_sheet sheet.now) attributes.old classes.old result attributes.new
+        classes.new }
 {
     match read_sheet(sheet, attributes, classes) {
         SheetRead::Read => judge(Added::Nothing, attributes, classes),
@@ -43,8 +43,8 @@ fn read_and_judge(sheet: &[u8], attributes: &mut [u8], classes: &mut [u8]) -> An
 
 // Loads a sheet: done, the stores hold its rows and their closure.
 pub fn load(sheet: &[u8], attributes: &mut [u8], classes: &mut [u8], closure: &mut [u8]) -> Answer
-    ensures* { λ r. ⌜ result r (stores attributes.new classes.new closure.new)
-        ≡ load sheet.now (stores attributes.old classes.old closure.old) ⌝ }
+    ensures { result_of result (stores attributes.new classes.new closure.new)
+        ≡ load sheet.now (stores attributes.old classes.old closure.old) }
 {
     if any_short(attributes, classes, closure) {
         return Answer::refused(SHORT_STORE);

@@ -18,7 +18,7 @@ use Rattle.schema.specs.declared.number.TableId.TheVariants.{Attributes, Classes
 use Rattle.schema.specs.Answers.{changed, passed, refused, unreadable}
 use Rattle.schema.specs.Layout.{class_width}
 use Rattle.schema.specs.Numbers.{class_limit, number_of, table_of}
-use Rattle.schema.specs.Store.{Schema, Stores, Table, plus_row, result, schema_in, schema_of, stores, table, table_in, table_store, with_row, with_table}
+use Rattle.schema.specs.Store.{Schema, Stores, Table, plus_row, result_of, schema_in, schema_of, stores, table, table_in, table_store, with_row, with_table}
 use Rattle.tables.specs.Same.{SameRows}
 use Rattle.tables.specs.Shaped.{Shaped}
 use Rattle.tables_shape.specs.ShapeLaws.{formed_shaped}
@@ -62,19 +62,19 @@ module _ (s : Stores) (shape : InShape s) (read : ChangeRead) (r : List ℕ) whe
   answer_is = passed_last (shape_answers s) (quick_to read r s) (passed_shape s shape)
 
   -- an answer that refuses leaves the stores, and one that does not leaves them as made
-  pub quick_kept : (a : Answer) → a ≡ quick_to read r s → ¬ (a.number ≡ 0) → result a s ≡ quick_read read r s
+  pub quick_kept : (a : Answer) → a ≡ quick_to read r s → ¬ (a.number ≡ 0) → result_of a s ≡ quick_read read r s
   unfolding quick_read
   quick_kept a e d =
       let q : a ≡ quick_answer read r s = e ∙ sym answer_is in
       let n : ¬ ((quick_answer read r s).number ≡ 0) = λ z. d (ap (λ (x : Answer). x.number) q ∙ z) in
-      ap₂ result q (sym (ap (λ (b : Bool). cond b (quick_made read r s) s) (says_false (says_eq (quick_answer read r s).number 0) n)))
+      ap₂ result_of q (sym (ap (λ (b : Bool). cond b (quick_made read r s) s) (says_false (says_eq (quick_answer read r s).number 0) n)))
 
-  pub quick_done : (a : Answer) (left : Stores) → a ≡ quick_to read r s → a.number ≡ 0 → left ≡ quick_made read r s → result a left ≡ quick_read read r s
+  pub quick_done : (a : Answer) (left : Stores) → a ≡ quick_to read r s → a.number ≡ 0 → left ≡ quick_made read r s → result_of a left ≡ quick_read read r s
   unfolding quick_read
   quick_done a left e z l =
       let q : a ≡ quick_answer read r s = e ∙ sym answer_is in
       let n : (quick_answer read r s).number ≡ 0 = ap (λ (x : Answer). x.number) (sym q) ∙ z in
-      ap₂ result q (l ∙ sym (ap (λ (b : Bool). cond b (quick_made read r s) s) (says_true (says_eq (quick_answer read r s).number 0) n)))
+      ap₂ result_of q (l ∙ sym (ap (λ (b : Bool). cond b (quick_made read r s) s) (says_true (says_eq (quick_answer read r s).number 0) n)))
 
 -- ---- the numbers
 
@@ -117,7 +117,7 @@ module _ (change : Change) (r : List ℕ) (s : Stores) (h : InShapeFor change r 
   )
 
   -- refused by 5 to 11
-  pub asked_refused : (n : ℕ) (a : Answer) → n ≡ first_asked change r (schema_of s) → ¬ (n ≡ 0) → a ≡ refused n → result a s ≡ quick_read (Read change) r s
+  pub asked_refused : (n : ℕ) (a : Answer) → n ≡ first_asked change r (schema_of s) → ¬ (n ≡ 0) → a ≡ refused n → result_of a s ≡ quick_read (Read change) r s
   asked_refused n a e d q =
       let m = schema_of s in
       let c : quick_number change r m s.closure ≡ n = number_asked change r m s.closure (λ z. d (e ∙ z)) ∙ sym e in
@@ -218,9 +218,9 @@ module _ (change : Change) (r : List ℕ) (s : Stores) (j : Allowed change r s) 
               ∙ demand_same (same Classes) change r m.classes blank s.closure
 
       -- refused, and taken back
-      pub judged_refused : (answer : Answer) (left : Stores) → ¬ (x ≡ 0) → answer ≡ refused x → left ≡ s → result answer left ≡ quick_read (Read change) r s
+      pub judged_refused : (answer : Answer) (left : Stores) → ¬ (x ≡ 0) → answer ≡ refused x → left ≡ s → result_of answer left ≡ quick_read (Read change) r s
       judged_refused answer left d q l =
-          ap (result answer) l
+          ap (result_of answer) l
           ∙ quick_kept s j.shape (Read change) r answer
           (q ∙ sym (ap (answer_by change r m) (sym number_found) ∙ answer_refused change r m s.closure x d))
           (λ z. d (ap (λ (y : Answer). y.number) (sym q) ∙ z))
@@ -247,7 +247,7 @@ module _ (change : Change) (r : List ℕ) (s : Stores) (j : Allowed change r s) 
                     (unfold schema_after in unfold table_after in unfold plus_row in omega arith)
 
         pub judged_done : {k : List ℕ} (answer : Answer) → answer ≡ changed (table_of b.id) (number_of b.id)
-            → k ≡ closure_after change r (table_in Classes c) n s.closure → result answer (stores a c k) ≡ quick_read (Read change) r s
+            → k ≡ closure_after change r (table_in Classes c) n s.closure → result_of answer (stores a c k) ≡ quick_read (Read change) r s
         judged_done {k} answer q e =
             let w : answer ≡ changed (table_for change) (number_for change r m) =
             q ∙ (λ i. changed (table_of (saved i).id) (number_of (saved i).id)) ∙ ap₂ changed (row_table change r old) (number_is change r s j) in
@@ -258,18 +258,18 @@ module _ (change : Change) (r : List ℕ) (s : Stores) (j : Allowed change r s) 
 -- ---- the whole call
 
 module _ (x : List ℕ) (s : Stores) {o : Answer} (is : o ≡ first_answer (shape_answers s) passed) where
-  pub change_shape : ¬ (o.number ≡ 0) → result o s ≡ quick_change x s
+  pub change_shape : ¬ (o.number ≡ 0) → result_of o s ≡ quick_change x s
   unfolding quick_change quick_read quick_answer
   change_shape d =
       let read = (read_change x).answer in
       let r = (read_change x).row in
       let e : o ≡ quick_answer read r s = is ∙ refused_any (shape_answers s) passed (quick_to read r s) refl (λ z. d (ap (λ (y : Answer). y.number) is ∙ z)) in
       let n : ¬ ((quick_answer read r s).number ≡ 0) = λ z. d (ap (λ (y : Answer). y.number) e ∙ z) in
-      ap₂ result e (sym (ap (λ (b : Bool). cond b (quick_made read r s) s) (says_false (says_eq (quick_answer read r s).number 0) n)))
+      ap₂ result_of e (sym (ap (λ (b : Bool). cond b (quick_made read r s) s) (says_false (says_eq (quick_answer read r s).number 0) n)))
 
   module _ (z : o.number ≡ 0) {read : ChangeRead} {r : List ℕ} (came : Came read r (read_change x)) where
     -- it could not be read
-    pub change_bad : (at : ℕ) (a : Answer) → read ≡ Bad at → a ≡ unreadable at → result a s ≡ quick_change x s
+    pub change_bad : (at : ℕ) (a : Answer) → read ≡ Bad at → a ≡ unreadable at → result_of a s ≡ quick_change x s
     unfolding quick_change
     change_bad at a e q =
         quick_kept s (in_shape s is z) (read_change x).answer (read_change x).row a

@@ -6,7 +6,7 @@ use mathlib.Core.List.{List}
 use mathlib.Core.Path.{◌∙◌, ◌≡◌, ap₂, refl, sym, ap}
 use Rattle.schema.specs.declared.number.TableId.TheVariants.{Classes}
 use Rattle.schema.specs.declared.answer.Answer.{Answer}
-use Rattle.schema.specs.Store.{Schema, Stores, result, schema_of, table_store, schema_in, stores, table_in}
+use Rattle.schema.specs.Store.{Schema, Stores, result_of, schema_of, table_store, schema_in, stores, table_in}
 use Rattle.schema.specs.Numbers.{number_of, table_of}
 use Rattle.schema.specs.Layout.{class_width}
 use Rattle.schema.specs.Answers.{refused, changed, passed, unreadable}
@@ -48,7 +48,7 @@ module _ (change : Change) (r : List ℕ) (s : Stores) (h : InOrderFor change r 
   )
 
   -- refused by 5 to 11
-  pub asked_refused : (n : ℕ) (a : Answer) → n ≡ first_asked change r (schema_of s) → ¬ (n ≡ 0) → a ≡ refused n → result a s ≡ plain_read (Read change) r s
+  pub asked_refused : (n : ℕ) (a : Answer) → n ≡ first_asked change r (schema_of s) → ¬ (n ≡ 0) → a ≡ refused n → result_of a s ≡ plain_read (Read change) r s
   asked_refused n a e d q =
       let m = schema_of s in
       let c : change_number change r m ≡ n = number_asked change r m (λ z. d (e ∙ z)) ∙ sym e in
@@ -86,16 +86,16 @@ module _ (change : Change) (r : List ℕ) (s : Stores) (j : Judged change r s) w
 
   -- refused, and taken back
   pub judged_refused : (n : ℕ) (a : Answer) (left : Stores) → n ≡ change_number change r m → ¬ (n ≡ 0) → a ≡ refused n → left ≡ s
-      → result a left ≡ plain_read (Read change) r s
+      → result_of a left ≡ plain_read (Read change) r s
   judged_refused n a left e d q l =
-      ap (result a) l
+      ap (result_of a) l
       ∙ plain_kept s (sym j.order) refl (Read change) r a (q ∙ ap refused e ∙ sym (answer_refused change r m (λ z. d (e ∙ z))))
       (λ z. d (ap (λ (x : Answer). x.number) (sym q) ∙ z))
 
   -- done
   pub judged_done : (n : ℕ) (a : Answer) (left : Stores) → n ≡ change_number change r m → n ≡ 0
       → a ≡ changed (table_of (row_changed change r old)) (number_of (row_changed change r old)) → left ≡ refreshed (rows_made change r s)
-      → result a left ≡ plain_read (Read change) r s
+      → result_of a left ≡ plain_read (Read change) r s
   judged_done n a left e z q l =
       let w : a ≡ changed (table_for change) (number_for change r m) = q ∙ ap₂ changed (row_table change r old) (number_is change r s h) in
       plain_done s (sym j.order) refl (Read change) r a left (w ∙ sym (answer_done change r m (sym e ∙ z))) (ap (λ (x : Answer). x.number) w)
@@ -110,13 +110,13 @@ refreshed_made s {a} {c} e q = ap (stores a c) q ∙ ap refreshed e
 -- ---- the whole call
 
 module _ (x : List ℕ) (s : Stores) {o : Answer} (is : o ≡ first_answer (order_answers s) passed) where
-  pub change_order : ¬ (o.number ≡ 0) → result o s ≡ plain_change x s
+  pub change_order : ¬ (o.number ≡ 0) → result_of o s ≡ plain_change x s
   unfolding plain_change
   change_order d = plain_order s is (read_change x).answer (read_change x).row d
 
   module _ (z : o.number ≡ 0) {read : ChangeRead} {r : List ℕ} (came : Came read r (read_change x)) where
     -- it could not be read
-    pub change_bad : (at : ℕ) (a : Answer) → read ≡ Bad at → a ≡ unreadable at → result a s ≡ plain_change x s
+    pub change_bad : (at : ℕ) (a : Answer) → read ≡ Bad at → a ≡ unreadable at → result_of a s ≡ plain_change x s
     unfolding plain_change answer_to
     change_bad at a e q =
         plain_kept s is z (read_change x).answer (read_change x).row a

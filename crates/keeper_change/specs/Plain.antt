@@ -5,7 +5,7 @@ use Rattle.change_read.specs.declared.read.ChangeRead.{ChangeRead}
 use Rattle.change_read.specs.Reading.{read_change}
 use Rattle.change_read.specs.declared.read.Change.{Change}
 use Rattle.schema.specs.declared.answer.Answer.{Answer}
-use Rattle.schema.specs.Store.{Result, Stores, schema_of, result}
+use Rattle.schema.specs.Store.{Result, Stores, schema_of, result_of}
 use Rattle.schema.specs.Answers.{passed}
 use Rattle.change_model.specs.Model.{answer_to}
 use Rattle.schema.specs.Answering.{first_answer}
@@ -25,7 +25,7 @@ plain_made (Read change) r s = refreshed (rows_made change r s)
 -- "Refused changes .. alter nothing"
 unfoldable pub plain_read : ChangeRead → List ℕ → Stores → Result
 plain_read read r s =
-    result (plain_answer read r s) (cond (eqb (plain_answer read r s).number refusal.done) (plain_made read r s) s)
+    result_of (plain_answer read r s) (cond (eqb (plain_answer read r s).number refusal.done) (plain_made read r s) s)
 
 unfoldable pub plain_change : List ℕ → Stores → Result
 plain_change x s = plain_read (read_change x).answer (read_change x).row s

@@ -8,7 +8,7 @@ use Rattle.change_read.specs.declared.read.ChangeRead.{ChangeRead}
 use Rattle.change_read.specs.ChangeLaws.{Reads}
 use Rattle.schema.specs.declared.number.TableId.TheVariants.{Attributes, Classes}
 use Rattle.schema.specs.declared.answer.Answer.{Answer}
-use Rattle.schema.specs.Store.{Stores, result, schema_of, table_store, count_in, table_in, with_store}
+use Rattle.schema.specs.Store.{Stores, result_of, schema_of, table_store, count_in, table_in, with_store}
 use Rattle.schema.specs.Numbers.{class_limit, number_of}
 use Rattle.schema.specs.Answers.{passed}
 use Rattle.schema.specs.declared.number.TableId.{TableId}
@@ -48,30 +48,30 @@ use Rattle.schema.specs.Refusals as refusal
 
 module _ (s : Stores) {o : Answer} (is : o ≡ first_answer (order_answers s) passed) where
   -- they are not
-  pub plain_order : (read : ChangeRead) (r : List ℕ) → ¬ (o.number ≡ 0) → result o s ≡ plain_read read r s
+  pub plain_order : (read : ChangeRead) (r : List ℕ) → ¬ (o.number ≡ 0) → result_of o s ≡ plain_read read r s
   unfolding plain_read plain_answer
   plain_order read r d =
       let e = order_refused s is (answer_to read r (schema_of s)) d in
       let n : ¬ ((plain_answer read r s).number ≡ 0) = λ z. d (ap (λ (x : Answer). x.number) e ∙ z) in
-      ap₂ result e (sym (ap (λ (b : Bool). cond b (plain_made read r s) s) (says_false (says_eq (plain_answer read r s).number 0) n)))
+      ap₂ result_of e (sym (ap (λ (b : Bool). cond b (plain_made read r s) s) (says_false (says_eq (plain_answer read r s).number 0) n)))
 
   module _ (z : o.number ≡ 0) where
     -- an answer that refuses leaves the stores, and one that does not leaves them as made
     pub plain_kept : (read : ChangeRead) (r : List ℕ) (a : Answer) → a ≡ answer_to read r (schema_of s) → ¬ (a.number ≡ 0)
-        → result a s ≡ plain_read read r s
+        → result_of a s ≡ plain_read read r s
     unfolding plain_read plain_answer
     plain_kept read r a e d =
         let q : a ≡ plain_answer read r s = e ∙ sym (order_onward s is z (answer_to read r (schema_of s))) in
         let n : ¬ ((plain_answer read r s).number ≡ 0) = λ y. d (ap (λ (x : Answer). x.number) q ∙ y) in
-        ap₂ result q (sym (ap (λ (b : Bool). cond b (plain_made read r s) s) (says_false (says_eq (plain_answer read r s).number 0) n)))
+        ap₂ result_of q (sym (ap (λ (b : Bool). cond b (plain_made read r s) s) (says_false (says_eq (plain_answer read r s).number 0) n)))
 
     pub plain_done : (read : ChangeRead) (r : List ℕ) (a : Answer) (left : Stores) → a ≡ answer_to read r (schema_of s) → a.number ≡ 0
-        → left ≡ plain_made read r s → result a left ≡ plain_read read r s
+        → left ≡ plain_made read r s → result_of a left ≡ plain_read read r s
     unfolding plain_read plain_answer
     plain_done read r a left e y l =
         let q : a ≡ plain_answer read r s = e ∙ sym (order_onward s is z (answer_to read r (schema_of s))) in
         let n : (plain_answer read r s).number ≡ 0 = ap (λ (x : Answer). x.number) (sym q) ∙ y in
-        ap₂ result q (l ∙ sym (ap (λ (b : Bool). cond b (plain_made read r s) s) (says_true (says_eq (plain_answer read r s).number 0) n)))
+        ap₂ result_of q (l ∙ sym (ap (λ (b : Bool). cond b (plain_made read r s) s) (says_true (says_eq (plain_answer read r s).number 0) n)))
 
 -- ---- a store replaced
 

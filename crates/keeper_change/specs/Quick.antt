@@ -3,7 +3,7 @@
 use Rattle.std.specs.Prelude.{eqb, ℕ, Bool, cond, List, [], ◌++◌, ◌∷◌}
 use Rattle.prelude.specs.First.{◌when◌, first_of}
 use Rattle.schema.specs.declared.answer.Answer.{Answer}
-use Rattle.schema.specs.Store.{Result, Schema, Stores, result, schema_of, stores}
+use Rattle.schema.specs.Store.{Result, Schema, Stores, result_of, schema_of, stores}
 use Rattle.graph.specs.Graph.{demanded_set}
 use Rattle.change_read.specs.declared.read.Change.{Change}
 use Rattle.change_read.specs.declared.read.ChangeRead.{ChangeRead}
@@ -47,7 +47,7 @@ quick_made (Read change) r s =
 
 -- "Refused changes .. alter nothing"
 unfoldable pub quick_read : ChangeRead → List ℕ → Stores → Result
-quick_read read r s = result (quick_answer read r s) (cond (eqb (quick_answer read r s).number refusal.done) (quick_made read r s) s)
+quick_read read r s = result_of (quick_answer read r s) (cond (eqb (quick_answer read r s).number refusal.done) (quick_made read r s) s)
 
 unfoldable pub quick_change : List ℕ → Stores → Result
 quick_change x s = quick_read (read_change x).answer (read_change x).row s

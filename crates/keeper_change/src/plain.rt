@@ -1,6 +1,6 @@
 // Plain change, the whole check. Document 01: "audit, apply, judge the whole result. Done, only that change is made and the stores are in order."
 ghost use Rattle.std.specs.Prelude.{◌≡◌};
-ghost use Rattle.schema.specs.Store.{stores, result};
+ghost use Rattle.schema.specs.Store.{stores, result_of};
 ghost use Rattle.keeper_change.specs.Plain.{InOrderFor, Judged, plain_read, plain_change};
 
 use crate::judge::{added_by, judged_whole};
@@ -24,8 +24,8 @@ fn plain_judged(
     closure: &mut [u8],
 ) -> Answer
     requires { Judged change scratch.now (stores attributes.old classes.old closure.old) }
-    ensures* { λ r. ⌜ result r (stores attributes.new classes.new closure.new)
-        ≡ plain_read (ChangeRead.Read change) scratch.now (stores attributes.old classes.old closure.old) ⌝ }
+    ensures { result_of result (stores attributes.new classes.new closure.new)
+        ≡ plain_read (ChangeRead.Read change) scratch.now (stores attributes.old classes.old closure.old) }
 {
     let before = save(change, scratch, attributes, classes);
     let id = before.id;
@@ -50,8 +50,8 @@ fn plain_read(
     closure: &mut [u8],
 ) -> Answer
     requires { InOrderFor change scratch.now (stores attributes.old classes.old closure.old) }
-    ensures* { λ r. ⌜ result r (stores attributes.new classes.new closure.new)
-        ≡ plain_read (ChangeRead.Read change) scratch.now (stores attributes.old classes.old closure.old) ⌝ }
+    ensures { result_of result (stores attributes.new classes.new closure.new)
+        ≡ plain_read (ChangeRead.Read change) scratch.now (stores attributes.old classes.old closure.old) }
 {
     let asked = first_asked(change, scratch, attributes, classes);
     if asked != DONE {
@@ -68,8 +68,8 @@ pub fn plain_change(
     closure: &mut [u8],
     change: &[u8],
 ) -> Answer
-    ensures* { λ r. ⌜ result r (stores attributes.new classes.new closure.new)
-        ≡ plain_change change.now (stores attributes.old classes.old closure.old) ⌝ }
+    ensures { result_of result (stores attributes.new classes.new closure.new)
+        ≡ plain_change change.now (stores attributes.old classes.old closure.old) }
 {
     let order = check_order(attributes, classes, closure);
     if order.number != DONE {

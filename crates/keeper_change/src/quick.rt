@@ -1,6 +1,6 @@
 // Quick change. Document 01: "the same, but of the audit only shape. It judges rules 12 to 29 for the changed row alone, against all rows."
 ghost use Rattle.std.specs.Prelude.{◌≡◌};
-ghost use Rattle.schema.specs.Store.{stores, result};
+ghost use Rattle.schema.specs.Store.{stores, result_of};
 ghost use Rattle.keeper_change.specs.Made.{Allowed};
 ghost use Rattle.keeper_change.specs.Quick.{InShapeFor, quick_read, quick_change};
 
@@ -25,8 +25,8 @@ fn quick_judged(
     closure: &mut [u8],
 ) -> Answer
     requires { Allowed change scratch.now (stores attributes.old classes.old closure.old) }
-    ensures* { λ r. ⌜ result r (stores attributes.new classes.new closure.new)
-        ≡ quick_read (ChangeRead.Read change) scratch.now (stores attributes.old classes.old closure.old) ⌝ }
+    ensures { result_of result (stores attributes.new classes.new closure.new)
+        ≡ quick_read (ChangeRead.Read change) scratch.now (stores attributes.old classes.old closure.old) }
 {
     let before = save(change, scratch, attributes, classes);
     let id = before.id;
@@ -55,8 +55,8 @@ fn quick_read(
     closure: &mut [u8],
 ) -> Answer
     requires { InShapeFor change scratch.now (stores attributes.old classes.old closure.old) }
-    ensures* { λ r. ⌜ result r (stores attributes.new classes.new closure.new)
-        ≡ quick_read (ChangeRead.Read change) scratch.now (stores attributes.old classes.old closure.old) ⌝ }
+    ensures { result_of result (stores attributes.new classes.new closure.new)
+        ≡ quick_read (ChangeRead.Read change) scratch.now (stores attributes.old classes.old closure.old) }
 {
     let asked = first_asked(change, scratch, attributes, classes);
     if asked != DONE {
@@ -73,8 +73,8 @@ pub fn quick_change(
     closure: &mut [u8],
     change: &[u8],
 ) -> Answer
-    ensures* { λ r. ⌜ result r (stores attributes.new classes.new closure.new)
-        ≡ quick_change change.now (stores attributes.old classes.old closure.old) ⌝ }
+    ensures { result_of result (stores attributes.new classes.new closure.new)
+        ≡ quick_change change.now (stores attributes.old classes.old closure.old) }
 {
     let shape = check_shape(attributes, classes, closure);
     if shape.number != DONE {

@@ -13,7 +13,7 @@ use schema::number::{RowId, TableId, table_of};
 use schema::store::{row_count, store_of};
 
 // The row that a change is about and the count of its table, as they stand before it.
-#[derive(Drop)]
+#[derive(Clone, Copy)]
 pub struct Before {
     pub id: RowId,
     pub count: usize,

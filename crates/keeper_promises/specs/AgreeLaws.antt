@@ -8,7 +8,7 @@ use Rattle.prelude.specs.Part.{Bytes, splice}
 use Rattle.prelude.specs.SaysLaws.{says_eq, says_true}
 use Rattle.schema.specs.Layout.{row_width}
 use Rattle.schema.specs.Numbers.{limit}
-use Rattle.schema.specs.Store.{Schema, Stores, result, schema_of, stores, table, table_store}
+use Rattle.schema.specs.Store.{Schema, Stores, result_of, schema_of, stores, table, table_store}
 use Rattle.schema.specs.StoreLaws.{table_row_length}
 use Rattle.schema.specs.declared.answer.Answer.{Answer}
 use Rattle.schema.specs.declared.number.TableId.{TableId}
@@ -119,7 +119,7 @@ module _ (x : List ℕ) (s : Stores) (bytes : Bytes x) (h : InOrder s) (change :
       go (no d) = quick_kept x s (λ z. d (sym (ap (λ (a : Answer). a.number) same_answer) ∙ z)) ∙ sym (plain_kept x s d)
 
   read_agrees : quick_change x s ≡ plain_change x s
-  read_agrees = ap₂ result same_answer same_left
+  read_agrees = ap₂ result_of same_answer same_left
 
 -- ---- any change: one that does not read gets the same 4
 

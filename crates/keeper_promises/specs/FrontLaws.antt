@@ -14,7 +14,7 @@ use Rattle.schema.specs.Layout.{closure_length, store_length}
 use Rattle.schema.specs.declared.answer.Answer.{Answer}
 use Rattle.schema.specs.declared.number.TableId.{TableId}
 use Rattle.schema.specs.declared.number.TableId.TheVariants.{Attributes, Classes}
-use Rattle.schema.specs.Store.{LongEnough, Stores, Result, stores, result}
+use Rattle.schema.specs.Store.{LongEnough, Stores, Result, stores, result_of}
 use Rattle.tables.specs.Filled.{empty_stores, filled_store, table_from}
 use Rattle.tables.specs.FilledLaws.{store_length_lem}
 use Rattle.graph.specs.Graph.{closure_rows}
@@ -112,18 +112,18 @@ module _ (sheet : List ℕ) (bytes : Bytes sheet) where
       either true = record { attributes = long Attributes; classes = long Classes; closure = closure_rows_length _ }
       either false = empty_exact
 
-  load_given : (s : Stores) → LongEnough s → load sheet s ≡ result verdict (put given s)
+  load_given : (s : Stores) → LongEnough s → load sheet s ≡ result_of verdict (put given s)
   unfolding given rows loaded filled emptied
-  load_given s h = load_long sheet s (not_short s h) ∙ ap (result verdict) (either (eqb verdict.number 0))
+  load_given s h = load_long sheet s (not_short s h) ∙ ap (result_of verdict) (either (eqb verdict.number 0))
     where
       either : (b : Bool) → cond b (filled (read_sheet sheet).rows s) (emptied s) ≡ put (cond b rows empty_stores) s
       either true = refl
       either false = refl
 
-  pub load_alone : (s : Stores) → LongEnough s → load sheet s ≡ result (load sheet empty_stores).answer (moved (load sheet empty_stores).left s)
+  pub load_alone : (s : Stores) → LongEnough s → load sheet s ≡ result_of (load sheet empty_stores).answer (moved (load sheet empty_stores).left s)
   load_alone s h =
-      load_given s h ∙ ap (result verdict) (sym (put_moved given empty_stores s given_exact empty_long))
-      ∙ sym (ap (λ (x : Result). result x.answer (moved x.left s)) (load_given empty_stores empty_long))
+      load_given s h ∙ ap (result_of verdict) (sym (put_moved given empty_stores s given_exact empty_long))
+      ∙ sym (ap (λ (x : Result). result_of x.answer (moved x.left s)) (load_given empty_stores empty_long))
 
   pub load_past : (s : Stores) → LongEnough s → SamePast (load sheet s).left s
   load_past s h = subst (λ (x : Result). SamePast x.left s) (sym (load_given s h)) (stores_past given s given_exact h)

@@ -11,7 +11,7 @@ use Rattle.schema.specs.declared.number.TableId.{TableId}
 use Rattle.schema.specs.declared.number.TableId.TheVariants.{Classes}
 use Rattle.schema.specs.Answers.{full, passed, refused, unreadable}
 use Rattle.schema.specs.Layout.{closure_length}
-use Rattle.schema.specs.Store.{LongEnough, Result, Stores, any_short, result}
+use Rattle.schema.specs.Store.{LongEnough, Result, Stores, any_short, result_of}
 use Rattle.schema.specs.Order.{rank}
 use Rattle.schema.specs.StoreLaws.{long_enough, says_short}
 use Rattle.tables.specs.Filled.{table_from}
@@ -66,9 +66,9 @@ module _ (sheet : List ℕ) where
   module _ (s : Stores) where
     -- ---- accepted
 
-    pub load_done : LongEnough s → Acceptable sheet → load sheet s ≡ result passed (filled out.rows s)
+    pub load_done : LongEnough s → Acceptable sheet → load sheet s ≡ result_of passed (filled out.rows s)
     load_done long h =
-        load_accepted sheet s (not_short s long) (number_of_lem (accepted_answer h)) ∙ ap (λ (x : Answer). result x (filled out.rows s)) (accepted_answer h)
+        load_accepted sheet s (not_short s long) (number_of_lem (accepted_answer h)) ∙ ap (λ (x : Answer). result_of x (filled out.rows s)) (accepted_answer h)
 
     zero_accepts : (load sheet s).answer.number ≡ 0 → LongEnough s × Acceptable sheet
     zero_accepts e = ⊎_elim (λ q. absurd (short q.0)) (λ q. enough q.0) (says_split (says_test (any_short s)))
@@ -91,7 +91,7 @@ module _ (sheet : List ℕ) where
 
     -- ---- refused
 
-    pub load_one : SomeShort s → load sheet s ≡ result (refused refusal.short_store) s
+    pub load_one : SomeShort s → load sheet s ≡ result_of (refused refusal.short_store) s
     load_one e = load_short sheet s (says_true (says_short s) e)
 
     pub load_empty : LongEnough s → ¬ ((load sheet s).answer.number ≡ 0) → (load sheet s).left ≡ emptied s
@@ -100,13 +100,13 @@ module _ (sheet : List ℕ) where
         (load_rejected sheet s (not_short s h) (λ z. d (ap (λ (x : Result). x.answer.number) (load_accepted sheet s (not_short s h) z) ∙ z)))
 
     module _ (h : LongEnough s) where
-      told : {x : Answer} → read_answer out ≡ x → ¬ (x.number ≡ 0) → load sheet s ≡ result x (emptied s)
-      told e d = load_rejected sheet s (not_short s h) (λ z. d (sym (number_of_lem e) ∙ z)) ∙ ap (λ (y : Answer). result y (emptied s)) e
+      told : {x : Answer} → read_answer out ≡ x → ¬ (x.number ≡ 0) → load sheet s ≡ result_of x (emptied s)
+      told e d = load_rejected sheet s (not_short s h) (λ z. d (sym (number_of_lem e) ∙ z)) ∙ ap (λ (y : Answer). result_of y (emptied s)) e
 
-      pub load_bad : (at : ℕ) → out.answer ≡ Bad at → load sheet s ≡ result (unreadable at) (emptied s)
+      pub load_bad : (at : ℕ) → out.answer ≡ Bad at → load sheet s ≡ result_of (unreadable at) (emptied s)
       load_bad at e = told (by_reading e ∙ sym (read_bad out.rows at)) (λ z. omega arith)
 
-      pub load_no_room : (t : TableId) → out.answer ≡ Full t → load sheet s ≡ result (full t) (emptied s)
+      pub load_no_room : (t : TableId) → out.answer ≡ Full t → load sheet s ≡ result_of (full t) (emptied s)
       load_no_room t e = told (by_reading e ∙ sym (read_full out.rows t)) (λ z. omega arith)
 
       module _ (e : out.answer ≡ Read) where

@@ -39,7 +39,7 @@ use Rattle.keeper_promises.specs.BytesLaws.{closure_rows_bytes}
 use Rattle.prelude.specs.BytesLaws.{splice_bytes}
 use Rattle.keeper_promises.specs.Promises.{Alike, OfBytes, SamePast, moved}
 use Rattle.keeper_change.specs.Made.{refreshed, rows_made}
-use Rattle.schema.specs.Store.{Stores, LongEnough, with_store, table_store, schema_of, result}
+use Rattle.schema.specs.Store.{Stores, LongEnough, with_store, table_store, schema_of, result_of}
 use Rattle.change_read.specs.declared.read.Change.{Change}
 use Rattle.schema.specs.declared.number.TableId.{TableId}
 use Rattle.std.proofs.Math.Path.{ap₂}
@@ -238,6 +238,6 @@ module _ (x : List ℕ) (bytes : Bytes x) where
 pub plain_write_load : (x : List ℕ) (s t : Stores) (out : List ℕ) → Bytes x → OfBytes s → (plain_change x s).answer.number ≡ 0 → LongEnough t
     → length (sheet_of (plain_change x s).left) ≤ length out
     → load (part 0 (write (plain_change x s).left out).answer.place (write (plain_change x s).left out).output) t
-    ≡ result passed (moved (plain_change x s).left t)
+    ≡ result_of passed (moved (plain_change x s).left t)
 plain_write_load x s t out b bytes z room l =
     write_load (plain_change x s).left t out (plain_ordered x s b z) (plain_bytes x b s bytes) room l

@@ -13,7 +13,7 @@ use Rattle.rules.specs.Meets.{Meets, rule_number}
 use Rattle.rules.specs.Judge.{judged}
 use Rattle.rules.specs.MeetsLaws.{met_of}
 use Rattle.schema.specs.declared.answer.Answer.{Answer}
-use Rattle.schema.specs.Store.{LongEnough, Schema, Stores, result, schema_of, Result}
+use Rattle.schema.specs.Store.{LongEnough, Schema, Stores, result_of, schema_of, Result}
 use Rattle.schema.specs.AnswersLaws.{told_changed}
 use Rattle.schema.specs.Answers.{RowChanged, passed, refused, unreadable}
 use Rattle.schema.specs.Order.{rank}
@@ -102,23 +102,23 @@ module _ (x : List ℕ) (s : Stores) where
   plain_kept d = rw (says_false (says_eq (plain_answer read carried s).number 0) d)
 
   -- an answer of the check of the stores is the call's
-  told : (a : Answer) → ¬ (a.number ≡ 0) → first_answer (order_answers s) passed ≡ a → plain_change x s ≡ result a s
+  told : (a : Answer) → ¬ (a.number ≡ 0) → first_answer (order_answers s) passed ≡ a → plain_change x s ≡ result_of a s
   unfolding plain_change
   told a d e = sym (plain_order s (sym e) read carried d)
 
-  refused_shape : (n : ℕ) → 0 < n → refused n ≡ first_answer (shape_answers s) passed → plain_change x s ≡ result (refused n) s
+  refused_shape : (n : ℕ) → 0 < n → refused n ≡ first_answer (shape_answers s) passed → plain_change x s ≡ result_of (refused n) s
   refused_shape n l e =
       told (refused n) (λ z. omega arith)
       (append_refused (shape_answers s) _ passed passed refl (λ z. (let q : n ≡ 0 = ap (λ (y : Answer). y.number) e ∙ z in omega arith)) ∙ sym e)
 
-  pub plain_one : SomeShort s → plain_change x s ≡ result (refused refusal.short_store) s
+  pub plain_one : SomeShort s → plain_change x s ≡ result_of (refused refusal.short_store) s
   plain_one e = refused_shape refusal.short_store (omega arith) (short_stores s (says_true (says_short s) e))
 
-  pub plain_two : LongEnough s → ¬ Shape s → plain_change x s ≡ result (refused refusal.broken_shape) s
+  pub plain_two : LongEnough s → ¬ Shape s → plain_change x s ≡ result_of (refused refusal.broken_shape) s
   plain_two h d = refused_shape refusal.broken_shape (omega arith)
       (broken_stores s (not_short s h) (says_false (says_formed s.attributes s.classes h.attributes h.classes) d))
 
-  pub plain_three : LongEnough s → Shape s → ¬ InOrder s → plain_change x s ≡ result (refused refusal.not_in_order) s
+  pub plain_three : LongEnough s → Shape s → ¬ InOrder s → plain_change x s ≡ result_of (refused refusal.not_in_order) s
   plain_three long shape d = told (refused refusal.not_in_order) (λ z. omega arith) (not_in_order_lem s long shape d)
 
   -- on stores in order the answer is the model's
@@ -126,10 +126,10 @@ module _ (x : List ℕ) (s : Stores) where
   unfolding plain_change plain_read plain_answer
   plain_answer_lem h = orders.order_onward s (sym (order_passes s h)) refl (answer_to read carried m)
 
-  pub plain_bad : InOrder s → (at : ℕ) → read ≡ Bad at → plain_change x s ≡ result (unreadable at) s
+  pub plain_bad : InOrder s → (at : ℕ) → read ≡ Bad at → plain_change x s ≡ result_of (unreadable at) s
   plain_bad h at e =
       let a : (plain_change x s).answer ≡ unreadable at = plain_answer_lem h ∙ ap (λ (y : ChangeRead). answer_to y carried m) e ∙ (unfold answer_to in refl) in
-      ap₂ result a (plain_kept (λ z. (let q : ◌≡◌ {A = ℕ} 4 0 = ap (λ (y : Answer). y.number) (sym a) ∙ z in omega arith)))
+      ap₂ result_of a (plain_kept (λ z. (let q : ◌≡◌ {A = ℕ} 4 0 = ap (λ (y : Answer). y.number) (sym a) ∙ z in omega arith)))
 
   -- ---- a change that was read
 

@@ -11,7 +11,7 @@ use Rattle.schema.specs.Answers.{RowChanged, answer, passed, done, refused, shor
 use Rattle.schema.specs.Layout.{store_length, closure_length}
 use Rattle.schema.specs.Numbers.{class_limit, class_read, number_read}
 use Rattle.schema.specs.Order.{order, rank}
-use Rattle.schema.specs.Store.{LongEnough, Stores, stores, result, schema_of, closure_at, Schema, table}
+use Rattle.schema.specs.Store.{LongEnough, Stores, stores, result_of, schema_of, closure_at, Schema, table}
 use Rattle.tables.specs.Filled.{empty_stores}
 use Rattle.graph.specs.Graph.{closure_row}
 use Rattle.graph.specs.declared.depth.Depth.TheVariants.{Steps, NotEarlier}
@@ -122,7 +122,7 @@ value_read change x start stop = (read_row (format_of change) x start stop scrat
 
 pub record Demand1 : Type 0 where
   -- a store is too short: nothing is touched
-  pub load_one : (sheet : List ℕ) (s : Stores) → SomeShort s → load sheet s ≡ result (refused refusal.short_store) s
+  pub load_one : (sheet : List ℕ) (s : Stores) → SomeShort s → load sheet s ≡ result_of (refused refusal.short_store) s
   -- refused by any other number, every store byte is zero
   pub load_empty : (sheet : List ℕ) (s : Stores) → LongEnough s → ¬ ((load sheet s).answer.number ≡ 0) → (load sheet s).left ≡ emptied s
   -- "bytes past [the lengths] are never touched", accepted or not
@@ -130,7 +130,7 @@ pub record Demand1 : Type 0 where
   -- "Load never looks at what stood in the stores": the answer and the bytes that it leaves are those that it gives with empty stores of exactly
   -- their lengths
   pub load_alone : (sheet : List ℕ) (s : Stores) → Bytes sheet → LongEnough s
-      → load sheet s ≡ result (load sheet empty_stores).answer (moved (load sheet empty_stores).left s)
+      → load sheet s ≡ result_of (load sheet empty_stores).answer (moved (load sheet empty_stores).left s)
   -- no call looks past the lengths
   pub audit_alike : (s t : Stores) → Alike s t → audit s ≡ audit t
   pub depth_alike : (s t : Stores) → Alike s t → (c : ℕ) → depth s c ≡ depth t c
@@ -178,7 +178,7 @@ pub record Demand2 : Type 0 where
   -- load: 0 exactly if the stores are long enough, the sheet reads and its rows meet every rule
   pub load_zero : (sheet : List ℕ) (s : Stores) → ((load sheet s).answer.number ≡ 0) ↔ (LongEnough s × Acceptable sheet)
   -- then the stores hold exactly the rows of the sheet, and the closure that these give
-  pub load_done : (sheet : List ℕ) (s : Stores) → LongEnough s → Acceptable sheet → load sheet s ≡ result passed (filled (read_sheet sheet).rows s)
+  pub load_done : (sheet : List ℕ) (s : Stores) → LongEnough s → Acceptable sheet → load sheet s ≡ result_of passed (filled (read_sheet sheet).rows s)
   -- and are in order, and audit says so
   pub load_order : (sheet : List ℕ) (s : Stores) → Bytes sheet → LongEnough s → Acceptable sheet → InOrder (load sheet s).left
   pub load_audits : (sheet : List ℕ) (s : Stores) → Bytes sheet → LongEnough s → Acceptable sheet → audit (load sheet s).left ≡ passed
@@ -186,12 +186,12 @@ pub record Demand2 : Type 0 where
   -- accepted or is missing, and that place is told
   pub load_four : (sheet : List ℕ) (s : Stores) → ((load sheet s).answer.number ≡ 4) ↔ (LongEnough s × ((at : ℕ) × SheetStops sheet (Bad at)))
   pub load_unreadable : (sheet : List ℕ) (s : Stores) → LongEnough s → (at : ℕ) → SheetStops sheet (Bad at) → load sheet s
-      ≡ result (sheet_answer (Bad at)) (emptied s)
+      ≡ result_of (sheet_answer (Bad at)) (emptied s)
   -- "6 no free row; at load, told at the row's tag, before any 4 there, with table and limit": exactly if the rows before fill a table and the tag of one
   -- more stands there; then the answer is 6 1 256 or 6 2 128
   pub load_six : (sheet : List ℕ) (s : Stores) → ((load sheet s).answer.number ≡ 6) ↔ (LongEnough s × ((t : TableId) × SheetStops sheet (Full t)))
   pub load_full : (sheet : List ℕ) (s : Stores) → LongEnough s → (t : TableId) → SheetStops sheet (Full t) → load sheet s
-      ≡ result (sheet_answer (Full t)) (emptied s)
+      ≡ result_of (sheet_answer (Full t)) (emptied s)
   pub load_limit : (sheet : List ℕ) (s : Stores) → (load sheet s).answer.number ≡ 6
       → ((load sheet s).answer ≡ answer 6 1 256) ⊎ ((load sheet s).answer ≡ answer 6 2 128)
   -- the sheet reads, and some row breaks a rule: the first that is broken, "the table and lowest row that break the rule found, attributes first"
@@ -210,37 +210,37 @@ pub record Demand2 : Type 0 where
   pub plain_done : (x : List ℕ) (s : Stores) → InOrder s → (h : Accepted x (schema_of s))
       → RowChanged (plain_change x s).answer (table_for h.change) (number_for h.change h.carried (schema_of s))
   -- else 1, 2, 3, 4 with its place, or the first number from 5 on, in the order of judging, whose condition holds
-  pub plain_one : (x : List ℕ) (s : Stores) → SomeShort s → plain_change x s ≡ result (refused refusal.short_store) s
-  pub plain_two : (x : List ℕ) (s : Stores) → LongEnough s → ¬ Shape s → plain_change x s ≡ result (refused refusal.broken_shape) s
-  pub plain_three : (x : List ℕ) (s : Stores) → LongEnough s → Shape s → ¬ InOrder s → plain_change x s ≡ result (refused refusal.not_in_order) s
+  pub plain_one : (x : List ℕ) (s : Stores) → SomeShort s → plain_change x s ≡ result_of (refused refusal.short_store) s
+  pub plain_two : (x : List ℕ) (s : Stores) → LongEnough s → ¬ Shape s → plain_change x s ≡ result_of (refused refusal.broken_shape) s
+  pub plain_three : (x : List ℕ) (s : Stores) → LongEnough s → Shape s → ¬ InOrder s → plain_change x s ≡ result_of (refused refusal.not_in_order) s
   -- 4 exactly if reading the change stops
   pub plain_four : (x : List ℕ) (s : Stores) → ((plain_change x s).answer.number ≡ 4) ↔ (InOrder s × ((at : ℕ) × ChangeStops x (changes.Bad at)))
   pub plain_unreadable : (x : List ℕ) (s : Stores) → InOrder s → (at : ℕ) → ChangeStops x (changes.Bad at)
-      → plain_change x s ≡ result (change_answer (changes.Bad at)) s
+      → plain_change x s ≡ result_of (change_answer (changes.Bad at)) s
   -- a change is one field, which may be missing or cut
   pub plain_field : (x : List ℕ) (s : Stores) → InOrder s → ¬ ((field_answer (length x) (field_at x 0 (length x))).number ≡ 0)
-      → plain_change x s ≡ result (field_answer (length x) (field_at x 0 (length x))) s
+      → plain_change x s ≡ result_of (field_answer (length x) (field_at x 0 (length x))) s
   -- its value is read as a row is
   pub plain_value : (x : List ℕ) (s : Stores) → InOrder s → (tag start stop : ℕ) (change : Change) → field_at x 0 (length x) ≡ Field tag start stop
       → change_of tag ≡ Known change → ¬ ((row_answer (value_read change x start stop)).number ≡ 0)
-      → plain_change x s ≡ result (row_answer (value_read change x start stop)) s
+      → plain_change x s ≡ result_of (row_answer (value_read change x start stop)) s
   -- a target that is no number of its table
   pub plain_target : (x : List ℕ) (s : Stores) → InOrder s → (change : Change) (r : List ℕ) → read_change x ≡ change_out (changes.Read change) r
       → is_addition change ≡ false → ¬ ((number_answer (number_read (table_for change) (target_of r))).number ≡ 0)
-      → plain_change x s ≡ result (number_answer (number_read (table_for change) (target_of r))) s
+      → plain_change x s ≡ result_of (number_answer (number_read (table_for change) (target_of r))) s
   pub plain_refused : (x : List ℕ) (s : Stores) → InOrder s → (change : Change) (r : List ℕ) → read_change x ≡ change_out (changes.Read change) r
       → ¬ ((plain_change x s).answer.number ≡ 0)
       → Condition change r (schema_of s) (plain_change x s).answer.number × ((plain_change x s).answer ≡ refused (plain_change x s).answer.number)
   pub plain_least : (x : List ℕ) (s : Stores) → InOrder s → (change : Change) (r : List ℕ) → read_change x ≡ change_out (changes.Read change) r
       → (n : ℕ) → Condition change r (schema_of s) n → rank (plain_change x s).answer.number ≤ rank n
   -- quick change, on any stores, in order or not: 1, 2, and 4 with its place
-  pub quick_one : (x : List ℕ) (s : Stores) → SomeShort s → quick_change x s ≡ result (refused refusal.short_store) s
-  pub quick_two : (x : List ℕ) (s : Stores) → LongEnough s → ¬ Shape s → quick_change x s ≡ result (refused refusal.broken_shape) s
+  pub quick_one : (x : List ℕ) (s : Stores) → SomeShort s → quick_change x s ≡ result_of (refused refusal.short_store) s
+  pub quick_two : (x : List ℕ) (s : Stores) → LongEnough s → ¬ Shape s → quick_change x s ≡ result_of (refused refusal.broken_shape) s
   -- 4 exactly if reading the change stops
   pub quick_four : (x : List ℕ) (s : Stores)
       → ((quick_change x s).answer.number ≡ 4) ↔ (LongEnough s × Shape s × ((at : ℕ) × ChangeStops x (changes.Bad at)))
   pub quick_unreadable : (x : List ℕ) (s : Stores) → LongEnough s → Shape s → (at : ℕ) → ChangeStops x (changes.Bad at)
-      → quick_change x s ≡ result (change_answer (changes.Bad at)) s
+      → quick_change x s ≡ result_of (change_answer (changes.Bad at)) s
   -- audit: 0 exactly if the stores are in order, and then no table and no place is named
   pub audit_zero : (s : Stores) → ((audit s).number ≡ 0) ↔ InOrder s
   pub audit_done : (s : Stores) → InOrder s → audit s ≡ passed
@@ -278,17 +278,17 @@ pub record Demand2 : Type 0 where
       → (ends : ChainEnds (schema_of s).classes c) × (depth s c ≡ depth_answer (Steps ends.steps))
   -- "Tables, sheet, tables gives the same bytes if in order": written into any output with room, and loaded into any stores
   pub write_load : (s t : Stores) (out : List ℕ) → InOrder s → OfBytes s → LongEnough t → length (sheet_of s) ≤ length out
-      → load (part 0 (write s out).answer.place (write s out).output) t ≡ result passed (moved s t)
+      → load (part 0 (write s out).answer.place (write s out).output) t ≡ result_of passed (moved s t)
   -- and so is one that was changed
   pub plain_write_load : (x : List ℕ) (s t : Stores) (out : List ℕ) → Bytes x → OfBytes s → (plain_change x s).answer.number ≡ 0 → LongEnough t
       → length (sheet_of (plain_change x s).left) ≤ length out
       → load (part 0 (write (plain_change x s).left out).answer.place (write (plain_change x s).left out).output) t
-      ≡ result passed (moved (plain_change x s).left t)
+      ≡ result_of passed (moved (plain_change x s).left t)
   -- "An accepted schema written as a sheet and loaded again is the same schema": whatever stores it was loaded into at first, and at last
   pub load_write_load : (sheet : List ℕ) (s t : Stores) (out : List ℕ) → Bytes sheet → OfBytes s → LongEnough s → Acceptable sheet → LongEnough t
       → length (sheet_of (load sheet s).left) ≤ length out
       → load (part 0 (write (load sheet s).left out).answer.place (write (load sheet s).left out).output) t
-      ≡ result passed (moved (load sheet s).left t)
+      ≡ result_of passed (moved (load sheet s).left t)
   -- "sheet, tables, sheet does if accepted and 08 stands exactly where oMSyntax is 127": the stores' sheet is the one that was loaded
   pub load_write : (sheet : List ℕ) (s : Stores) → Bytes sheet → LongEnough s → Acceptable sheet → ExactSheet sheet → sheet_of (load sheet s).left ≡ sheet
   -- and written into any output with room it is there again, its length is told, and no other byte of the output is altered

@@ -4,7 +4,7 @@ use Rattle.std.proofs.Common.{◌∙◌, ap₂, arith}
 use Rattle.std.proofs.Math.Path.{ap, refl, sym}
 use Rattle.prelude.specs.SaysLaws.{says_eq, says_false, says_true}
 use Rattle.schema.specs.Answers.{passed, refused, unreadable}
-use Rattle.schema.specs.Store.{LongEnough, Stores, result}
+use Rattle.schema.specs.Store.{LongEnough, Stores, result_of}
 use Rattle.schema.specs.StoreLaws.{says_short}
 use Rattle.schema.specs.declared.answer.Answer.{Answer}
 use Rattle.tables_shape.specs.ShapeLaws.{says_formed}
@@ -33,8 +33,8 @@ module _ (x : List ℕ) (s : Stores) where
   quick_kept d = rw (says_false (says_eq (quick_answer read carried s).number 0) d)
 
   -- so an answer that refuses is all that the call comes to
-  told : (a : Answer) → ¬ (a.number ≡ 0) → (quick_change x s).answer ≡ a → quick_change x s ≡ result a s
-  told a d e = ap₂ result e (quick_kept (λ z. d (sym (ap (λ (y : Answer). y.number) e) ∙ z)))
+  told : (a : Answer) → ¬ (a.number ≡ 0) → (quick_change x s).answer ≡ a → quick_change x s ≡ result_of a s
+  told a d e = ap₂ result_of e (quick_kept (λ z. d (sym (ap (λ (y : Answer). y.number) e) ∙ z)))
 
   shape_answer : (n : ℕ) → 0 < n → refused n ≡ first_answer (shape_answers s) passed → (quick_change x s).answer ≡ refused n
   unfolding quick_change quick_read quick_answer
@@ -42,13 +42,13 @@ module _ (x : List ℕ) (s : Stores) where
       sym (refused_any (shape_answers s) passed (quick_to read carried s) refl (λ z. (let q : n ≡ 0 = ap (λ (y : Answer). y.number) e ∙ z in omega arith)))
       ∙ sym e
 
-  refused_shape : (n : ℕ) → 0 < n → refused n ≡ first_answer (shape_answers s) passed → quick_change x s ≡ result (refused n) s
+  refused_shape : (n : ℕ) → 0 < n → refused n ≡ first_answer (shape_answers s) passed → quick_change x s ≡ result_of (refused n) s
   refused_shape n l e = told (refused n) (λ z. omega arith) (shape_answer n l e)
 
-  pub quick_one : SomeShort s → quick_change x s ≡ result (refused refusal.short_store) s
+  pub quick_one : SomeShort s → quick_change x s ≡ result_of (refused refusal.short_store) s
   quick_one e = refused_shape refusal.short_store (omega arith) (short_stores s (says_true (says_short s) e))
 
-  pub quick_two : LongEnough s → ¬ Shape s → quick_change x s ≡ result (refused refusal.broken_shape) s
+  pub quick_two : LongEnough s → ¬ Shape s → quick_change x s ≡ result_of (refused refusal.broken_shape) s
   quick_two h d = refused_shape refusal.broken_shape (omega arith)
       (broken_stores s (not_short s h) (says_false (says_formed s.attributes s.classes h.attributes h.classes) d))
 
@@ -57,6 +57,6 @@ module _ (x : List ℕ) (s : Stores) where
   unfolding quick_change quick_read quick_answer
   quick_shaped i = passed_last (shape_answers s) (quick_to read carried s) (passed_shape s i)
 
-  pub quick_bad : LongEnough s → Shape s → (at : ℕ) → read ≡ Bad at → quick_change x s ≡ result (unreadable at) s
+  pub quick_bad : LongEnough s → Shape s → (at : ℕ) → read ≡ Bad at → quick_change x s ≡ result_of (unreadable at) s
   quick_bad long shape at e =
       told (unreadable at) (λ z. omega arith) (quick_shaped (has_shape s long shape) ∙ ap (λ (y : ChangeRead). quick_to y carried s) e)

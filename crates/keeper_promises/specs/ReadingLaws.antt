@@ -14,7 +14,7 @@ use Rattle.schema.specs.declared.number.TableId.TheVariants.{Attributes, Classes
 use Rattle.schema.specs.Answers.{field_answer, number_answer, refused, unreadable}
 use Rattle.schema.specs.Numbers.{limit, number_read}
 use Rattle.schema.specs.NumbersLaws.{number_beyond}
-use Rattle.schema.specs.Store.{Stores, result, schema_of, table}
+use Rattle.schema.specs.Store.{Stores, result_of, schema_of, table}
 use Rattle.rows_read.specs.declared.read.RowRead.{RowRead}
 use Rattle.rows_read.specs.Reading.{row_answer}
 use Rattle.change_read.specs.declared.read.Change.{Change}
@@ -54,13 +54,13 @@ module _ (x : List ℕ) (s : Stores) (h : InOrder s) where
   read_field e = ap (λ (f : FieldRead). (field_out f x).answer) e
 
   pub plain_field : ¬ ((field_answer (length x) (field_at x 0 (length x))).number ≡ 0)
-      → plain_change x s ≡ result (field_answer (length x) (field_at x 0 (length x))) s
+      → plain_change x s ≡ result_of (field_answer (length x) (field_at x 0 (length x))) s
   plain_field = go (field_at x 0 (length x)) refl
     where
-      go : (f : FieldRead) → field_at x 0 (length x) ≡ f → ¬ ((field_answer (length x) f).number ≡ 0) → plain_change x s ≡ result (field_answer (length x) f) s
+      go : (f : FieldRead) → field_at x 0 (length x) ≡ f → ¬ ((field_answer (length x) f).number ≡ 0) → plain_change x s ≡ result_of (field_answer (length x) f) s
       go (fields.Field tag start stop) e d = absurd (d refl)
       go fields.End e d =
-          plain_bad x s h 0 (read_field e ∙ (unfold field_out in refl)) ∙ ap (λ (n : ℕ). result (unreadable n) s) (end_is x 0 (length x) e)
+          plain_bad x s h 0 (read_field e ∙ (unfold field_out in refl)) ∙ ap (λ (n : ℕ). result_of (unreadable n) s) (end_is x 0 (length x) e)
       go (fields.Bad at) e d = plain_bad x s h at (read_field e ∙ (unfold field_out in refl))
 
   -- ---- its value
@@ -71,10 +71,10 @@ module _ (x : List ℕ) (s : Stores) (h : InOrder s) where
   read_value_lem tag start stop change field known = read_field field ∙ ap (λ (t : Tagged). (tagged_out t x start stop).answer) known
 
   pub plain_value : (tag start stop : ℕ) (change : Change) → field_at x 0 (length x) ≡ fields.Field tag start stop → change_of tag ≡ Known change
-      → ¬ ((row_answer (value_read change x start stop)).number ≡ 0) → plain_change x s ≡ result (row_answer (value_read change x start stop)) s
+      → ¬ ((row_answer (value_read change x start stop)).number ≡ 0) → plain_change x s ≡ result_of (row_answer (value_read change x start stop)) s
   plain_value tag start stop change field known = go (value_read change x start stop) refl
     where
-      go : (r : RowRead) → value_read change x start stop ≡ r → ¬ ((row_answer r).number ≡ 0) → plain_change x s ≡ result (row_answer r) s
+      go : (r : RowRead) → value_read change x start stop ≡ r → ¬ ((row_answer r).number ≡ 0) → plain_change x s ≡ result_of (row_answer r) s
       go rows.Read e d = absurd (d refl)
       go (rows.Bad at) e d =
           plain_bad x s h at (read_value_lem tag start stop change field known ∙ ap (whole_read change x stop) e ∙ (unfold whole_read in refl))
@@ -97,7 +97,7 @@ module _ (x : List ℕ) (s : Stores) (h : InOrder s) where
 
   pub plain_target : (change : Change) (r : List ℕ) → read_change x ≡ change_out (Read change) r → is_addition change ≡ false
       → ¬ ((number_answer (number_read (table_for change) (target_of r))).number ≡ 0)
-      → plain_change x s ≡ result (number_answer (number_read (table_for change) (target_of r))) s
+      → plain_change x s ≡ result_of (number_answer (number_read (table_for change) (target_of r))) s
   plain_target change r reads other = go (number_read (table_for change) (target_of r)) refl
     where
       told : limit (table_for change) ≤ target_of r → (plain_change x s).answer ≡ refused refusal.no_such_row
@@ -105,8 +105,8 @@ module _ (x : List ℕ) (s : Stores) (h : InOrder s) where
           let e = five change r (absent change r other l) in
           read_answer_lem x s h change r reads ∙ answer_refused change r (schema_of s) (λ z. omega (arith, e)) ∙ ap refused e
 
-      go : (n : NumberRead) → number_read (table_for change) (target_of r) ≡ n → ¬ ((number_answer n).number ≡ 0) → plain_change x s ≡ result (number_answer n) s
+      go : (n : NumberRead) → number_read (table_for change) (target_of r) ≡ n → ¬ ((number_answer n).number ≡ 0) → plain_change x s ≡ result_of (number_answer n) s
       go (number.Row id) e d = absurd (d refl)
       go number.Beyond e d =
           let a = told (number_beyond (table_for change) (target_of r) e) in
-          ap₂ result a (plain_kept x s (λ z. (let q : ◌≡◌ {A = ℕ} 5 0 = ap (λ (y : Answer). y.number) (sym a) ∙ z in omega arith)))
+          ap₂ result_of a (plain_kept x s (λ z. (let q : ◌≡◌ {A = ℕ} 5 0 = ap (λ (y : Answer). y.number) (sym a) ∙ z in omega arith)))

@@ -9,7 +9,7 @@ use Rattle.prelude.specs.SpliceLaws.{part_splice_same}
 use Rattle.schema.specs.declared.number.TableId.TheVariants.{Classes}
 use Rattle.schema.specs.Answers.{done, passed}
 use Rattle.schema.specs.Layout.{closure_length}
-use Rattle.schema.specs.Store.{LongEnough, Result, Stores, result, schema_of, stores}
+use Rattle.schema.specs.Store.{LongEnough, Result, Stores, result_of, schema_of, stores}
 use Rattle.tables.specs.Same.{SameRows}
 use Rattle.graph.specs.FreshLaws.{fresh_bytes}
 use Rattle.graph.specs.Graph.{closure_rows}
@@ -72,20 +72,20 @@ module _ (s : Stores) (h : InOrder s) (bytes : OfBytes s) where
       λ i. stores (splice 0 (p i) t.attributes) (splice 0 (q i) t.classes) (splice 0 (closure_again i) t.closure)
 
   -- stores in order, written as a sheet and loaded into any stores, are there in every byte
-  sheet_loads : (t : Stores) → LongEnough t → load (sheet_of s) t ≡ result passed (moved s t)
+  sheet_loads : (t : Stores) → LongEnough t → load (sheet_of s) t ≡ result_of passed (moved s t)
   sheet_loads t room =
-      load_done (sheet_of s) t room written_acceptable ∙ ap (result passed) (ap (λ (x : SheetOut). filled x.rows t) read_again ∙ filled_again t)
+      load_done (sheet_of s) t room written_acceptable ∙ ap (result_of passed) (ap (λ (x : SheetOut). filled x.rows t) read_again ∙ filled_again t)
 
 -- what a write has written, by the length that it gives back, loads again into any stores as the stores that were written
 pub write_load : (s t : Stores) (out : List ℕ) → InOrder s → OfBytes s → LongEnough t → length (sheet_of s) ≤ length out
-    → load (part 0 (write s out).answer.place (write s out).output) t ≡ result passed (moved s t)
+    → load (part 0 (write s out).answer.place (write s out).output) t ≡ result_of passed (moved s t)
 write_load s t out h bytes room l =
     ap (λ (w : Written). load (part 0 w.answer.place w.output) t) (write_done s out h.long h.shape l)
     ∙ ap (λ (x : List ℕ). load x t) (part_splice_same 0 (sheet_of s) out (omega arith) (length (sheet_of s)) refl) ∙ sheet_loads s h bytes t room
 
 pub load_write_load : (sheet : List ℕ) (s t : Stores) (out : List ℕ) → Bytes sheet → OfBytes s → LongEnough s → Acceptable sheet → LongEnough t
     → length (sheet_of (load sheet s).left) ≤ length out
-    → load (part 0 (write (load sheet s).left out).answer.place (write (load sheet s).left out).output) t ≡ result passed (moved (load sheet s).left t)
+    → load (part 0 (write (load sheet s).left out).answer.place (write (load sheet s).left out).output) t ≡ result_of passed (moved (load sheet s).left t)
 load_write_load sheet s t out b bytes long h room l =
     write_load (load sheet s).left t out (load_order sheet s b long h) (load_bytes sheet s b bytes) room l
 

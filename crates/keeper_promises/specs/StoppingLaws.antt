@@ -10,7 +10,7 @@ use Rattle.schema.specs.declared.number.TableId.{TableId}
 use Rattle.schema.specs.declared.number.TableId.TheVariants.{Attributes, Classes}
 use Rattle.schema.specs.Answers.{answer, passed}
 use Rattle.schema.specs.Order.{rank, position}
-use Rattle.schema.specs.Store.{LongEnough, Result, Schema, Stores, result, schema_of}
+use Rattle.schema.specs.Store.{LongEnough, Result, Schema, Stores, result_of, schema_of}
 use Rattle.schema.specs.StoreLaws.{long_enough, says_short}
 use Rattle.sheet_read.specs.declared.read.SheetRead.{SheetRead}
 use Rattle.sheet_read.specs.declared.read.SheetRead.TheVariants.{Bad, Full, Read}
@@ -69,10 +69,10 @@ order_or_not s = go (ℕ_discrete (first_answer (order_answers s) passed).number
 -- ---- load
 
 module _ (sheet : List ℕ) (s : Stores) where
-  pub load_unreadable : LongEnough s → (at : ℕ) → SheetStops sheet (Bad at) → load sheet s ≡ result (sheet_answer (Bad at)) (emptied s)
+  pub load_unreadable : LongEnough s → (at : ℕ) → SheetStops sheet (Bad at) → load sheet s ≡ result_of (sheet_answer (Bad at)) (emptied s)
   load_unreadable long at stops = load_bad sheet s long at ((sheet_stops sheet (Bad at)).1 stops)
 
-  pub load_full : LongEnough s → (t : TableId) → SheetStops sheet (Full t) → load sheet s ≡ result (sheet_answer (Full t)) (emptied s)
+  pub load_full : LongEnough s → (t : TableId) → SheetStops sheet (Full t) → load sheet s ≡ result_of (sheet_answer (Full t)) (emptied s)
   load_full long t stops = load_no_room sheet s long t ((sheet_stops sheet (Full t)).1 stops)
 
   -- a sheet that reads gets 0 or a rule's number
@@ -128,7 +128,7 @@ module _ (sheet : List ℕ) (s : Stores) where
   pub load_limit : (load sheet s).answer.number ≡ 6 → ((load sheet s).answer ≡ answer 6 1 256) ⊎ ((load sheet s).answer ≡ answer 6 2 128)
   load_limit z = let x = load_six.0 z in go x.1.0 (load_full x.0 x.1.0 x.1.1)
     where
-      go : (t : TableId) → load sheet s ≡ result (sheet_answer (Full t)) (emptied s)
+      go : (t : TableId) → load sheet s ≡ result_of (sheet_answer (Full t)) (emptied s)
           → ((load sheet s).answer ≡ answer 6 1 256) ⊎ ((load sheet s).answer ≡ answer 6 2 128)
       go Attributes e = inl (ap (λ (x : Result). x.answer) e)
       go Classes e = inr (ap (λ (x : Result). x.answer) e)
@@ -136,10 +136,10 @@ module _ (sheet : List ℕ) (s : Stores) where
 -- ---- the changes
 
 module _ (x : List ℕ) (s : Stores) where
-  pub plain_unreadable : InOrder s → (at : ℕ) → ChangeStops x (changes.Bad at) → plain_change x s ≡ result (change_answer (changes.Bad at)) s
+  pub plain_unreadable : InOrder s → (at : ℕ) → ChangeStops x (changes.Bad at) → plain_change x s ≡ result_of (change_answer (changes.Bad at)) s
   plain_unreadable h at stops = plain_bad x s h at ((change_stops x (changes.Bad at)).1 stops)
 
-  pub quick_unreadable : LongEnough s → Shape s → (at : ℕ) → ChangeStops x (changes.Bad at) → quick_change x s ≡ result (change_answer (changes.Bad at)) s
+  pub quick_unreadable : LongEnough s → Shape s → (at : ℕ) → ChangeStops x (changes.Bad at) → quick_change x s ≡ result_of (change_answer (changes.Bad at)) s
   quick_unreadable long shape at stops = quick_bad x s long shape at ((change_stops x (changes.Bad at)).1 stops)
 
   -- a number that is 0 or comes after 4

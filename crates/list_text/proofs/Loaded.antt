@@ -7,7 +7,7 @@ use lib.ListN.{length}
 use Rattle.prelude.specs.Part.{Bytes}
 use Rattle.schema.specs.declared.answer.Answer.{Answer}
 use Rattle.schema.specs.Layout.{closure_length}
-use Rattle.schema.specs.Store.{table_in, stores, Result, result}
+use Rattle.schema.specs.Store.{table_in, stores, Result, result_of}
 use Rattle.schema.specs.declared.number.TableId.TheVariants.{Classes}
 use Rattle.tables.specs.Shaped.{TableShaped}
 use Rattle.tables.specs.Filled.{empty_stores}
@@ -16,15 +16,15 @@ use Rattle.keeper.specs.Load.{load}
 use Rattle.list_text.specs.Listing.{kept_counts, listing, refused_line, loaded_text}
 use Rattle.list_text.specs.ListingLaws.{text_accepted, text_refused, classes_read, accepted_shaped, accepted_closure}
 
-module _ (sheet : List ℕ) {x : Answer} {a c k : List ℕ} (e : result x (stores a c k) ≡ load sheet empty_stores) where
+module _ (sheet : List ℕ) {x : Answer} {a c k : List ℕ} (e : result_of x (stores a c k) ≡ load sheet empty_stores) where
   number_is : (load sheet empty_stores).answer.number ≡ x.number
   number_is = sym (ap (λ (r : Result). r.answer.number) e)
 
   pub loaded_listing : x.number ≡ 0 → loaded_text (load sheet empty_stores) ≡ listing (kept_counts k) (table_in Classes c)
-  loaded_listing z = ap loaded_text (sym e) ∙ text_accepted (result x (stores a c k)) z
+  loaded_listing z = ap loaded_text (sym e) ∙ text_accepted (result_of x (stores a c k)) z
 
   pub loaded_refused : ¬ (x.number ≡ 0) → loaded_text (load sheet empty_stores) ≡ refused_line x
-  loaded_refused d = ap loaded_text (sym e) ∙ text_refused (result x (stores a c k)) d
+  loaded_refused d = ap loaded_text (sym e) ∙ text_refused (result_of x (stores a c k)) d
 
   -- the rows of an accepted sheet can be listed
   pub loaded_shaped : Bytes sheet → x.number ≡ 0 → TableShaped Classes c × (closure_length ≤ length k)

@@ -2,6 +2,8 @@
 // It holds the lent bytes and a place in them. Its functions are thin: each takes it apart and calls a covered function on slice and number. The borrow
 // checker covers no function over such a struct, so each of these is proved by a walk by hand. `step_at` alone makes a reader: it has plain parameters and
 // serves every other caller. `ends_at` and `field_within` are parts of what it gives, and need no walk.
+#![tactic(auto)]
+
 ghost use Rattle.std.specs.Prelude.{◌≡◌, ◌≤◌, eqb, get_or, length};
 ghost use Rattle.wire.specs.Wire.{field_at};
 ghost use Rattle.reader.specs.Reader.{past_field, step_at};
@@ -9,7 +11,7 @@ ghost use Rattle.reader.specs.Reader.{past_field, step_at};
 use prelude::number::byte_at;
 use wire::{FieldRead, field_at, value_of};
 
-#[derive(Drop)]
+#[derive(Clone, Copy)]
 pub struct Reader<'a> {
     pub bytes: &'a [u8],
     pub at: usize,
@@ -17,7 +19,7 @@ pub struct Reader<'a> {
 
 // What a reader meets at its place: whether it has come to the end, the tag and the field that stand next, the place past the field, and whether the bytes
 // end there.
-#[derive(Drop)]
+#[derive(Clone, Copy)]
 pub struct Step {
     pub ended: bool,
     pub tag: u8,

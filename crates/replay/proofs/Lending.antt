@@ -6,7 +6,7 @@ use Rattle.prelude.specs.PartLaws.{part_cut, part_length}
 use Rattle.prelude.specs.SpliceLaws.{splice_length, splice_append, splice_over, part_splice_same, set_splice}
 use Rattle.prelude.specs.LentLaws.{lent_back}
 use Rattle.schema.specs.declared.answer.Answer.{Answer}
-use Rattle.schema.specs.Store.{Stores, stores, Result, result}
+use Rattle.schema.specs.Store.{Stores, stores, Result, result_of}
 use Rattle.keeper.specs.Write.{Written, written, write}
 use Rattle.replay.specs.declared.step.Call.{Call}
 use Rattle.replay.specs.declared.play.Lengths.{Lengths}
@@ -62,10 +62,10 @@ back : (n : ℕ) (s new : List ℕ) → length new ≡ n → take 0 s ++ (new ++
 back n s new e = lent_back 0 n s new new (omega (arith, e)) refl
 
 pub call_back : (call : Call) (bytes : List ℕ) (l : Lengths) (s : Stores) (r : Answer) (a c k : List ℕ)
-    → result r (stores a c k) ≡ called call bytes (stores (take (l.attributes - 0) (drop 0 s.attributes)) (take (l.classes - 0) (drop 0 s.classes))
+    → result_of r (stores a c k) ≡ called call bytes (stores (take (l.attributes - 0) (drop 0 s.attributes)) (take (l.classes - 0) (drop 0 s.classes))
     (take (l.closure - 0) (drop 0 s.closure)))
     → length a ≡ l.attributes → length c ≡ l.classes → length k ≡ l.closure
-    → result r (stores (take 0 s.attributes ++ (a ++ drop (l.attributes - 0) (drop 0 s.attributes)))
+    → result_of r (stores (take 0 s.attributes ++ (a ++ drop (l.attributes - 0) (drop 0 s.attributes)))
     (take 0 s.classes ++ (c ++ drop (l.classes - 0) (drop 0 s.classes)))
     (take 0 s.closure ++ (k ++ drop (l.closure - 0) (drop 0 s.closure))))
     ≡ called_lent call bytes l s

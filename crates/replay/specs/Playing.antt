@@ -3,7 +3,7 @@
 use Rattle.std.specs.Prelude.{ℕ, ◌+◌, ◌-◌, ◌≤◌, cond, List, length, replicate, ◌==◌, nat_lt, slice_set}
 use Rattle.prelude.specs.Part.{part, splice}
 use Rattle.schema.specs.Layout.{store_length, closure_length}
-use Rattle.schema.specs.Store.{Stores, stores, Result, result}
+use Rattle.schema.specs.Store.{Stores, stores, Result, result_of}
 use Rattle.schema.specs.declared.answer.Answer.{Answer}
 use Rattle.schema.specs.declared.number.TableId.TheVariants.{Attributes, Classes}
 use Rattle.schema.specs.Answers.{passed}
@@ -50,7 +50,7 @@ returned new s = stores (splice 0 new.attributes s.attributes) (splice 0 new.cla
 -- ---- the steps
 
 abbrev pub returned_by : Result → Stores → Result
-returned_by r s = result r.answer (returned r.left s)
+returned_by r s = result_of r.answer (returned r.left s)
 
 -- a call that is lent bytes of the script, and may write the stores
 abbrev pub called : Call → List ℕ → Stores → Result

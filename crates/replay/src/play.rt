@@ -1,9 +1,9 @@
 // What a step answers and leaves. The stores are arrays of the longest length; of each only a front is lent, as long as the last resize said.
 ghost use Rattle.std.specs.Prelude.{◌≡◌, ◌-◌, ◌≤◌, length};
 ghost use Rattle.prelude.specs.Part.{splice};
-ghost use Rattle.schema.specs.Store.{stores, result};
+ghost use Rattle.schema.specs.Store.{stores, result_of};
 ghost use Rattle.keeper.specs.Audit.{audit as audited};
-ghost use Rattle.keeper.specs.Depth.{depth as depthFrom};
+ghost use Rattle.keeper.specs.Depth.{depth as depth_from};
 ghost use Rattle.keeper.specs.Write.{written};
 ghost use Rattle.replay.specs.Steps.{longest, StepWithin};
 ghost use Rattle.replay.specs.Playing.{past_bytes, lent, Fits, called, called_lent, write_lent, poked, poke_lent, resize_lent, resized_lengths, lengths_after};
@@ -20,7 +20,7 @@ use prelude::part::part_of;
 use schema::answer::Answer;
 
 // How much of each store is lent.
-#[derive(Drop)]
+#[derive(Clone, Copy)]
 pub struct Lengths {
     pub attributes: usize,
     pub classes: usize,
@@ -33,7 +33,7 @@ pub const PAST: u8 = 0xA5;
 // The bytes from one place up to another become A5.
 pub fn lengthen(store: &mut [u8], from: usize, to: usize)
     requires { to ≤ length store.old }
-    ensures* { λ _. ⌜ store.new ≡ splice from (past_bytes (to - from)) store.old ⌝ }
+    ensures { store.new ≡ splice from (past_bytes (to - from)) store.old }
 {
     let mut i = from;
     while i < to {
@@ -50,8 +50,8 @@ fn take_call(
     classes: &mut [u8],
     closure: &mut [u8],
 ) -> Answer
-    ensures* { λ r. ⌜ result r (stores attributes.new classes.new closure.new)
-        ≡ called call bytes.now (stores attributes.old classes.old closure.old) ⌝ }
+    ensures { result_of result (stores attributes.new classes.new closure.new)
+        ≡ called call bytes.now (stores attributes.old classes.old closure.old) }
 {
     match call {
         Call::Load => load(bytes, attributes, classes, closure),
@@ -70,8 +70,8 @@ fn call_lent(
     lengths: Lengths,
 ) -> Answer
     requires { Fits lengths (stores attributes.old classes.old closure.old) }
-    ensures* { λ r. ⌜ result r (stores attributes.new classes.new closure.new)
-        ≡ called_lent call bytes.now lengths (stores attributes.old classes.old closure.old) ⌝ }
+    ensures { result_of result (stores attributes.new classes.new closure.new)
+        ≡ called_lent call bytes.now lengths (stores attributes.old classes.old closure.old) }
 {
     let a = lengths.attributes;
     let c = lengths.classes;
@@ -92,7 +92,7 @@ fn audit_lent<'a>(
     lengths: Lengths,
 ) -> Answer
     requires { Fits lengths (stores attributes.now classes.now closure.now) }
-    ensures* { λ r. ⌜ r ≡ audited (lent lengths (stores attributes.now classes.now closure.now)) ⌝ }
+    ensures { result ≡ audited (lent lengths (stores attributes.now classes.now closure.now)) }
 {
     audit(
         part_of(attributes, 0, lengths.attributes),
@@ -109,7 +109,7 @@ fn depth_lent(
     class: u16,
 ) -> Answer
     requires { Fits lengths (stores attributes.now classes.now closure.now) }
-    ensures* { λ r. ⌜ r ≡ depthFrom (lent lengths (stores attributes.now classes.now closure.now)) class ⌝ }
+    ensures { result ≡ depth_from (lent lengths (stores attributes.now classes.now closure.now)) class }
 {
     depth(
         part_of(attributes, 0, lengths.attributes),
@@ -129,8 +129,8 @@ fn write_lent(
     n: usize,
 ) -> Answer
     requires { Fits lengths (stores attributes.now classes.now closure.now) × (n ≤ length output.old) }
-    ensures* { λ r. ⌜ written r output.new
-        ≡ write_lent lengths (stores attributes.now classes.now closure.now) n output.old ⌝ }
+    ensures { written result output.new
+        ≡ write_lent lengths (stores attributes.now classes.now closure.now) n output.old }
 {
     lengthen(output, 0, n);
     write(
@@ -144,7 +144,7 @@ fn write_lent(
 // A byte is poked; past what is lent nothing is.
 fn poke(store: &mut [u8], n: usize, offset: usize, byte: u8)
     requires { n ≤ length store.old }
-    ensures* { λ _. ⌜ store.new ≡ poked n offset byte store.old ⌝ }
+    ensures { store.new ≡ poked n offset byte store.old }
 {
     if offset < n {
         store[offset] = byte;
@@ -162,8 +162,8 @@ fn poke_lent(
     lengths: Lengths,
 )
     requires { Fits lengths (stores attributes.old classes.old closure.old) }
-    ensures* { λ _. ⌜ stores attributes.new classes.new closure.new
-        ≡ poke_lent store offset byte lengths (stores attributes.old classes.old closure.old) ⌝ }
+    ensures { stores attributes.new classes.new closure.new
+        ≡ poke_lent store offset byte lengths (stores attributes.old classes.old closure.old) }
 {
     if store == 0 {
         poke(attributes, lengths.attributes, offset, byte);
@@ -185,8 +185,8 @@ fn resize_lent(
 )
     requires fits { Fits lengths (stores attributes.old classes.old closure.old) }
     requires n_in_bounds { (n ≤ length attributes.old) × (n ≤ length classes.old) × (n ≤ length closure.old) }
-    ensures* { λ _. ⌜ stores attributes.new classes.new closure.new
-        ≡ resize_lent store n lengths (stores attributes.old classes.old closure.old) ⌝ }
+    ensures { stores attributes.new classes.new closure.new
+        ≡ resize_lent store n lengths (stores attributes.old classes.old closure.old) }
 {
     if store == 0 {
         lengthen(attributes, lengths.attributes, n);
@@ -199,7 +199,7 @@ fn resize_lent(
 
 // The length of a store is what a resize says, from then on.
 fn resized(store: u8, n: usize, lengths: Lengths) -> Lengths
-    ensures* { λ r. ⌜ r ≡ resized_lengths store n lengths ⌝ }
+    ensures { result ≡ resized_lengths store n lengths }
 {
     if store == 0 {
         return Lengths {
@@ -224,7 +224,7 @@ fn resized(store: u8, n: usize, lengths: Lengths) -> Lengths
 
 // How much of each store is lent after a step.
 pub fn lengths_after(step: Step, lengths: Lengths) -> Lengths
-    ensures* { λ r. ⌜ r ≡ lengths_after step lengths ⌝ }
+    ensures { result ≡ lengths_after step lengths }
 {
     match step {
         Step::Called {
@@ -257,9 +257,9 @@ pub fn take_step(
     requires fits { Fits lengths (stores attributes.old classes.old closure.old) × StepWithin script.now step }
     requires longest_in_bounds { (longest ≤ length attributes.old) × (longest ≤ length classes.old) × (longest ≤ length closure.old)
         × (longest ≤ length output.old) }
-    ensures* { λ r. ⌜ played r (stores attributes.new classes.new closure.new) output.new
+    ensures { played result (stores attributes.new classes.new closure.new) output.new
         ≡ play_step step script.now lengths (stores attributes.old classes.old closure.old)
-        output.old ⌝ }
+        output.old }
 {
     match step {
         Step::Called { call, start, stop } => call_lent(

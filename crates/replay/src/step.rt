@@ -5,7 +5,7 @@ ghost use Rattle.replay.specs.Steps.{Within, called_at, write_at, depth_at, poke
 use prelude::number::{byte_at, read_u16, read_u32};
 
 // A call that is lent bytes of the script, and may write the stores.
-#[derive(Drop)]
+#[derive(Clone, Copy)]
 pub enum Call {
     Load,
     PlainChange,
@@ -13,7 +13,7 @@ pub enum Call {
 }
 
 // One step.
-#[derive(Drop)]
+#[derive(Clone, Copy)]
 pub enum Step {
     // Such a call, with where its sheet or change begins and ends in the script.
     Called {
@@ -41,7 +41,7 @@ pub enum Step {
 }
 
 // The step at a place and where the next one begins; or none that can be played.
-#[derive(Drop)]
+#[derive(Clone, Copy)]
 pub enum Turn {
     On { step: Step, next: usize },
     Stop,

@@ -7,7 +7,7 @@ use schema::layout::set_width;
 use schema::number::TableId;
 
 // What is asked of bytes that are stored as they are.
-#[derive(Drop)]
+#[derive(Clone, Copy)]
 pub enum Test {
     Any,
     // A byte below the limit.
@@ -19,7 +19,7 @@ pub enum Test {
 }
 
 // What values a field takes, and how they are stored.
-#[derive(Drop)]
+#[derive(Clone, Copy)]
 pub enum Encoding {
     // Exactly len bytes that pass a test, stored as they are.
     Plain { len: usize, test: Test },
@@ -34,7 +34,7 @@ pub enum Encoding {
 }
 
 // Whether a field must be there, and how the row tells that it is not.
-#[derive(Drop)]
+#[derive(Clone, Copy)]
 pub enum Presence {
     Required,
     // The cell of an absent field is zero, and no value of it is stored as zeros.
@@ -46,7 +46,7 @@ pub enum Presence {
 }
 
 // One field.
-#[derive(Drop)]
+#[derive(Clone, Copy)]
 pub struct Column {
     pub tag: u8,
     pub presence: Presence,

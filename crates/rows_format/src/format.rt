@@ -16,7 +16,7 @@ use schema::layout::{
 use schema::number::TableId;
 
 // What a value is read as: a row of a sheet, a row that a change adds, or the fields inside another change.
-#[derive(Drop)]
+#[derive(Clone, Copy)]
 pub enum Format {
     Row(TableId),
     NewRow(TableId),

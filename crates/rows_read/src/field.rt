@@ -12,7 +12,7 @@ use rows_format::column::{Column, Presence, column_width, is_possible, is_requir
 use wire::{FieldRead, value_of};
 
 // What a column makes of the field in front.
-#[derive(Drop)]
+#[derive(Clone, Copy)]
 pub enum Turn {
     // Its own field: the value is the bytes from start up to end.
     Taken { start: usize, end: usize },
@@ -23,7 +23,7 @@ pub enum Turn {
 }
 
 // Where reading goes on, with whether a required field is missing so far; or the refusal.
-#[derive(Drop)]
+#[derive(Clone, Copy)]
 pub enum Took {
     Next { at: usize, missing: bool },
     Stop,

@@ -11,7 +11,7 @@ use rows_format::format::{Format, column_count, column_of};
 use schema::number::TableId;
 
 // What reading a value comes to: all of it is read, or the place of the first field that cannot be accepted, or of the end where one is missing.
-#[derive(Drop)]
+#[derive(Clone, Copy)]
 pub enum RowRead {
     Read,
     Bad { at: usize },

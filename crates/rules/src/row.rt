@@ -33,7 +33,7 @@ use tables::named::ClassList;
 
 // What a change added, where a rule binds it by itself: a class, none of whose lists may hold its own number; an entry of a class's list, which must be
 // live, though no set may be able to hold its number.
-#[derive(Drop)]
+#[derive(Clone, Copy)]
 pub enum Added {
     Nothing,
     Class(ClassNumber),

@@ -33,7 +33,7 @@ const ABSTRACT: u8 = 2;
 const AUXILIARY: u8 = 3;
 
 // Which of rules 21, 38, 39 and 40 a class breaks.
-#[derive(Drop)]
+#[derive(Clone, Copy)]
 pub enum Inheritance {
     Sound,
     RootNotAbstract,

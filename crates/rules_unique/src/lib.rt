@@ -15,7 +15,7 @@ use schema::row::{guid, identifier, name};
 use schema::store::{row, row_count, schema_row};
 
 // The keys of a row. A linkID or a mAPIID of 0 is absent and is shared by none.
-#[derive(Drop)]
+#[derive(Clone, Copy)]
 pub enum Key {
     Name,
     Identifier,

@@ -108,8 +108,8 @@ pub record Result : Type 0 where
   pub answer : Answer
   pub left : Stores
 
-abbrev pub result : Answer → Stores → Result
-result a s = record { answer = a; left = s }
+abbrev pub result_of : Answer → Stores → Result
+result_of a s = record { answer = a; left = s }
 
 -- "1 a lent store is shorter than its length"
 unfoldable pub any_short : Stores → Bool

@@ -7,7 +7,7 @@ ghost use Rattle.schema.specs.Answers.{table_number, passed, done, changed, refu
 use crate::number::{RowId, TableId, number_of, row_limit, table_of};
 use crate::refusal::{DONE, NO_FREE_ROW, SHORT_OUTPUT, UNREADABLE};
 
-#[derive(Drop)]
+#[derive(Clone, Copy)]
 pub struct Answer {
     pub number: u8,
     pub table: u8,

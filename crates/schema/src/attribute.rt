@@ -11,7 +11,7 @@ use crate::row::{counted, flag};
 use prelude::number::{byte_at, read_u32};
 
 // An end of a range: the four bytes of a signed number, most significant first, or none.
-#[derive(Drop)]
+#[derive(Clone, Copy)]
 pub enum Bound {
     Given(u32),
     Absent,

@@ -15,7 +15,7 @@ use prelude::number::byte_at;
 use prelude::part::part_of;
 
 // What names a record of the class: an attribute (rDNAttID), or nothing.
-#[derive(Drop)]
+#[derive(Clone, Copy)]
 pub enum Naming {
     By(AttributeNumber),
     Absent,

@@ -1,5 +1,7 @@
 // What the keeper holds: the numbers of classes and attributes, the stores and their rows byte by byte, and the answer of a call.
 // docs/LAYOUT.md shows the layout as a table.
+#![tactic(auto)]
+
 pub mod answer;
 pub mod attribute;
 pub mod class;

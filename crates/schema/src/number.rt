@@ -5,42 +5,42 @@ ghost use Rattle.std.specs.Prelude.{◌≡◌, ◌+◌, ◌<◌, ◌≤◌, ltb}
 ghost use Rattle.schema.specs.Numbers.{class_limit, attribute_limit, limit, class_read, attribute_read, number_read};
 ghost use Rattle.schema.specs.Numbers.{place_id, row_id, table_of, number_of, same_table, same_row};
 
-#[derive(Drop)]
+#[derive(Clone, Copy)]
 pub struct ClassNumber(pub usize);
 
-#[derive(Drop)]
+#[derive(Clone, Copy)]
 pub struct AttributeNumber(pub usize);
 
 // What a number stands for where a class is meant.
-#[derive(Drop)]
+#[derive(Clone, Copy)]
 pub enum ClassRead {
     Class(ClassNumber),
     Beyond,
 }
 
 // What a number stands for where an attribute is meant.
-#[derive(Drop)]
+#[derive(Clone, Copy)]
 pub enum AttributeRead {
     Attribute(AttributeNumber),
     Beyond,
 }
 
 // The two tables.
-#[derive(Drop)]
+#[derive(Clone, Copy)]
 pub enum TableId {
     Attributes,
     Classes,
 }
 
 // A row of either table.
-#[derive(Drop)]
+#[derive(Clone, Copy)]
 pub enum RowId {
     Attribute(AttributeNumber),
     Class(ClassNumber),
 }
 
 // What a number from outside stands for where a row of a table is meant.
-#[derive(Drop)]
+#[derive(Clone, Copy)]
 pub enum NumberRead {
     Row(RowId),
     Beyond,

@@ -19,7 +19,7 @@ use tables::store::{empty, push_row};
 use wire::FieldRead;
 
 // What reading a sheet comes to.
-#[derive(Drop)]
+#[derive(Clone, Copy)]
 pub enum SheetRead {
     Read,
     // The first field that cannot be accepted, by its place; or the end of the sheet where the heading is missing.
@@ -29,7 +29,7 @@ pub enum SheetRead {
 }
 
 // What a tag stands for.
-#[derive(Drop)]
+#[derive(Clone, Copy)]
 pub enum SheetTag {
     Heading,
     Row(TableId),
@@ -37,21 +37,21 @@ pub enum SheetTag {
 }
 
 // What may come next: everything, or the rows of a table and of those behind it.
-#[derive(Drop)]
+#[derive(Clone, Copy)]
 pub enum Phase {
     Start,
     InRows(TableId),
 }
 
 // Whether the row that a tag announces has room in its table.
-#[derive(Drop)]
+#[derive(Clone, Copy)]
 pub enum Room {
     Free,
     Full(TableId),
 }
 
 // Where reading goes on, with whether the heading is missing so far; or what it has come to.
-#[derive(Drop)]
+#[derive(Clone, Copy)]
 pub enum Turn {
     On {
         at: usize,

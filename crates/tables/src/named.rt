@@ -15,7 +15,7 @@ use schema::number::{AttributeNumber, ClassNumber, ClassRead, RowId};
 use sets::has;
 
 // The two kinds of lists of classes, each with a fixed and an open list.
-#[derive(Drop)]
+#[derive(Clone, Copy)]
 pub enum ClassList {
     Auxiliaries,
     Superiors,

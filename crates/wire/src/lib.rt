@@ -8,7 +8,7 @@ ghost use Rattle.wire.specs.Wire.{field_at, header_bytes, field_bytes};
 use prelude::number::{read_u16, write_u16};
 
 // What reading a field at a place finds.
-#[derive(Drop)]
+#[derive(Clone, Copy)]
 pub enum FieldRead {
     // A whole field: its value is the bytes from start up to end.
     Field { tag: u8, start: usize, end: usize },

@@ -1,0 +1,7 @@
+use Rattle.std.proofs.Common.{rules}
+use Rattle.reader.specs.Reader.{past_field, step_at}
+use Rattle.reader.proofs.step_at.Goals as goal
+
+pub returns : goal.returns
+unfolding step_at
+returns c = cc

@@ -1,0 +1,6 @@
+use borrow.Author.Rules.{rules}
+use Rattle.schema.proofs.answer.Answer.full.Goals as goal
+
+pub returns : goal.returns
+returns c =
+    rw (c.table_number.ensures, c.row_limit.ensures)

@@ -1,0 +1,10 @@
+use borrow.Author.Rules.{rules}
+use Rattle.schema.proofs.number.row_id.Goals as goal
+
+pub returns-in-Attributes : goal.returns-in-Attributes
+returns-in-Attributes c =
+    rw c.in-Attributes.is
+
+pub returns-in-Classes : goal.returns-in-Classes
+returns-in-Classes c =
+    rw c.in-Classes.is

@@ -1,0 +1,6 @@
+use borrow.Author.Rules.{rules}
+use Rattle.schema.proofs.row.flag.Goals as goal
+
+pub returns : goal.returns
+returns c =
+    cc
