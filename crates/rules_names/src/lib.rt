@@ -1,5 +1,7 @@
 // Display names and object identifiers by themselves: rules 12 and 14, and the comparison of two names. Names are compared in place, as parts of
 // the lent stores.
+#![tactic(auto)]
+
 ghost use Rattle.std.specs.Prelude.{◌≡◌, ◌≤◌, length};
 ghost use Rattle.schema.specs.Layout.{common_width, name_limit};
 ghost use Rattle.schema.specs.Row.{name_length};

@@ -1,0 +1,22 @@
+use mathlib.Core.Path.{◌∙◌, sym}
+use lib.ListN.{get_or-eq_default}
+use Rattle.rows_format.specs.Formats.{name_columns, no_column}
+use Rattle.prelude.specs.UnlikeLaws.{unlike_past}
+use borrow.Author.Rules.{rules}
+use Rattle.rows_format.proofs.format.name_column.Goals as goal
+
+pub returns-in-0 : goal.returns-in-0
+unfolding name_columns
+returns-in-0 c =
+    rw c.in-0.is (rw c.bytes.ensures at c.required.ensures)
+
+pub returns-in-1 : goal.returns-in-1
+unfolding name_columns
+returns-in-1 c =
+    rw c.in-1.is c.required-in-1.ensures
+
+pub returns-in_default : goal.returns-in_default
+unfolding name_columns
+returns-in_default c =
+    let n = c.in_default.in_default-own.rest in
+    c.no_column.ensures ∙ sym (get_or-eq_default name_columns no_column (unlike_past _ 2 n))

@@ -1,0 +1,13 @@
+use Rattle.rules_names.specs.Name.{is_letter}
+use borrow.Author.Rules.{rules}
+use Rattle.rules_names.proofs.is_letter.Goals as goal
+
+pub returns-then-is_between : goal.returns-then-is_between
+unfolding is_letter
+returns-then-is_between c =
+    rw (← c.is_between.ensures, c.if-is_between.true)
+
+pub returns : goal.returns
+unfolding is_letter
+returns c =
+    rw (← c.is_between.ensures, c.if-is_between.false) c.is_between-2.ensures

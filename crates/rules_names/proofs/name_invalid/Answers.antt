@@ -1,0 +1,8 @@
+use Rattle.rules_names.specs.Name.{name_invalid}
+use borrow.Author.Rules.{rules}
+use Rattle.rules_names.proofs.name_invalid.Goals as goal
+
+pub returns : goal.returns
+unfolding name_invalid
+returns c =
+    rw (← c.name.ensures, ← c.is_valid_name.ensures)
