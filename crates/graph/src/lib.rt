@@ -1,4 +1,6 @@
 // The class graph: what a class reaches, how deep it stands, and its closure (document 01: kept sets).
+#![tactic(auto)]
+
 pub mod closure;
 pub mod collect;
 pub mod demand;

@@ -21,7 +21,7 @@ fn first_cell(syntax: u8) -> [u8; CELL]
     let i = first_entry(&table, syntax);
     if i < ENTRY_COUNT {
         let entry = row_of(&table, 0, ENTRY_WIDTH, i);
-        bytes::copy(part_of(entry, 1, CELL), &mut cell);
+        cell.copy_from_slice(part_of(entry, 1, CELL));
     }
     cell
 }
@@ -37,7 +37,7 @@ pub fn settle(row: &mut [u8])
     }
     if row[OBJECT_CLASS] == 0 {
         let first = first_cell(syntax(row));
-        bytes::copy(&first, &mut row[OBJECT_CLASS..SINGLE_VALUED]);
+        row[OBJECT_CLASS..SINGLE_VALUED].copy_from_slice(&first);
     }
 }
 

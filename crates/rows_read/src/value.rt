@@ -82,7 +82,7 @@ pub fn store_value(encoding: Encoding, v: &[u8], cell: &mut [u8])
 {
     match encoding {
         Encoding::Plain { len: _, test: _ } => {
-            bytes::copy(v, cell);
+            cell.copy_from_slice(v);
         }
         Encoding::Number { table: _ } => {
             cell[0] = read_u16(v, 0) as u8;

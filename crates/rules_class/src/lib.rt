@@ -1,4 +1,6 @@
 // Rules of a class row: what it names is live and earlier (17, 18), of the right category (19 to 21, 38 to 40); its naming attribute (23).
+#![tactic(auto)]
+
 pub mod blank;
 pub mod category;
 pub mod live;

@@ -1,4 +1,6 @@
 // What no two rows may share: rules 13, 15, 16, 24 and 28. Names and identifiers are compared in place, as parts of the lent stores.
+#![tactic(auto)]
+
 pub mod marks;
 
 ghost use Rattle.std.specs.Prelude.{not, ◌&&◌, ◌≡◌, ◌<◌};

@@ -1,0 +1,16 @@
+use mathlib.Core.Path.{◌≡◌, sym, ◌∙◌}
+use Prim.Native.Nat.{◌≤◌, ◌-◌}
+use lib.ListN.{length}
+use borrow.Author.Rules.{rules}
+use Rattle.sets.specs.Sets.{member}
+use Rattle.schema.specs.Layout.{attribute_set}
+use Rattle.schema.specs.Store.{table_in}
+use Rattle.schema.specs.declared.number.TableId.TheVariants.{Classes}
+use Rattle.graph.proofs.Gather.{Added, add_none, add_more, add_end}
+use Rattle.graph.proofs.collect.add_all.Given as goal
+
+abbrev pub invariant-loop-k : goal.invariant-loop-k
+invariant-loop-k l = (l.k ≤ l.n) × (length l.out ≡ attribute_set) × Added (table_in Classes l.classes) (member l.chosen.bits) l.at l.k l.initial.out l.out
+
+abbrev pub decreases-loop-k : goal.decreases-loop-k
+decreases-loop-k l = l.n - l.k

@@ -1,0 +1,19 @@
+use native.Mathlib.Omega.{arith}
+use borrow.Author.Rules.{rules}
+use Rattle.schema.specs.StoreLaws.{table_row_wide}
+use Rattle.schema.specs.declared.number.TableId.TheVariants.{Classes}
+use Rattle.graph.proofs.Visit.{next_searched}
+use Rattle.graph.proofs.reach.next_unvisited.Goals as goal
+
+pub fixed_auxiliary-requires : goal.fixed_auxiliary-requires
+fixed_auxiliary-requires c =
+    table_row_wide Classes c.args.classes.now _ c.args.c.0 c.requires.readable.long (omega arith) c.class_row-row.ensures
+
+pub open_auxiliary-requires : goal.open_auxiliary-requires
+open_auxiliary-requires c =
+    table_row_wide Classes c.args.classes.now _ c.args.c.0 c.requires.readable.long (omega arith) c.class_row-row.ensures
+
+pub returns : goal.returns
+returns c =
+    next_searched _ _ _ _ _ _ _ _ _ c.class_row-row.ensures c.row_count-n.ensures c.fixed_auxiliary.ensures c.open_auxiliary.ensures
+    c.first_unvisited.ensures

@@ -1,0 +1,26 @@
+use mathlib.Core.List.{List}
+use mathlib.Core.Path.{◌≡◌, refl, sym, ap, ◌∙◌}
+use Prim.Native.Nat.{◌+◌, ℕ, ◌-◌, ◌%◌, ◌≤◌}
+use native.Mathlib.Omega.{arith}
+use lib.ListN.{length, drop}
+use borrow.Author.Rules.{rules}
+use Rattle.sets.specs.Sets.{set_of}
+use Rattle.prelude.specs.Unlike.{among}
+use Rattle.rows_format.specs.Entries.{entries}
+use Rattle.rows_read.proofs.Entering.{insert_begin, insert_all, Within, insert_turn, insert_done, within_rest}
+use Rattle.rows_read.proofs.entries.store_entries.Given as goal
+
+-- the set with what is left of the entries is the set of all of them
+pub record Going (v : List ℕ) (n : ℕ) (goal cell : List ℕ) (i : ℕ) : Type 0 where
+  pub whole : length v % 2 ≡ 0
+  pub even : i % 2 ≡ 0
+  pub within : i ≤ length v
+  pub long : length cell ≡ n
+  pub small : Within n (entries (drop i v))
+  pub same : insert_all cell (entries (drop i v)) ≡ goal
+
+abbrev pub invariant-loop-i : goal.invariant-loop-i
+invariant-loop-i l = Going l.v (length l.initial.cell) (set_of (length l.initial.cell) (among (entries l.v))) l.cell l.i
+
+abbrev pub decreases-loop-i : goal.decreases-loop-i
+decreases-loop-i l = length l.v - l.i

@@ -1,0 +1,12 @@
+use borrow.Author.Rules.{rules}
+use Rattle.rows_format.specs.ColumnsLaws.{width_small}
+use Rattle.rows_read.proofs.Storing.{cell_cleared}
+use Rattle.rows_read.proofs.field.clear_cell.Goals as goal
+
+pub column_width-requires : goal.column_width-requires
+column_width-requires c =
+    width_small _ c.requires.sound
+
+pub returns : goal.returns
+returns c =
+    cell_cleared _ _ _ _ _ c.column_width.ensures c.requires.within c.clear.ensures

@@ -1,0 +1,15 @@
+use mathlib.Core.Path.{◌≡◌, refl, ap, ◌∙◌}
+use Prim.Native.Nat.{ℕ, ◌≤◌, ◌-◌}
+use native.Mathlib.Omega.{arith}
+use lib.Bits.{and_le_l}
+use lib.ListN.{length}
+use borrow.Author.Rules.{rules}
+use Rattle.rules_unique.specs.Marks.{mark_of}
+use Rattle.rules_unique.proofs.Places.{mark_below, mark_more}
+use Rattle.rules_unique.proofs.marks.mark_of.Given as goal
+
+abbrev pub invariant-loop-i : goal.invariant-loop-i
+invariant-loop-i l = (l.i ≤ length l.s) × (l.mark ≡ mark_of l.mask l.i l.s)
+
+abbrev pub decreases-loop-i : goal.decreases-loop-i
+decreases-loop-i l = length l.s - l.i
