@@ -20,17 +20,13 @@ module _ (syntax : ℕ) {i : ℕ} {table : List ℕ} (t : table ≡ object_class
   first_at = sym (e ∙ ap (λ (x : List ℕ). first_entry x syntax) t)
 
   -- its entry is copied but for the syntax
-  pub first_copied : {entry v cell : List ℕ} → i < entry_count → entry ≡ row_at 0 entry_width table i → v ≡ part 1 object_class_width entry → cell
-      ≡ take (length v) v ++ drop (length v) (zeros object_class_width)
+  pub first_copied : {entry v cell : List ℕ} → i < entry_count → entry ≡ row_at 0 entry_width table i → v ≡ part 1 object_class_width entry → cell ≡ v
       → cell ≡ object_class_cell (first_object_class syntax)
   unfolding object_class_cell image first_object_class
   first_copied {entry} {v} {cell} l p q c =
       let is : v ≡ length (entry_value object_classes i) ∷ padded object_class_limit (entry_value object_classes i) = q
       ∙ ap (part 1 object_class_width) (p ∙ ap (λ (x : List ℕ). row_at 0 entry_width x i) t) ∙ entry_cell i l in
-      let long : length v ≡ length (zeros object_class_width) = ap length q
-      ∙ part_length 1 object_class_width entry (omega (arith, ap length p, entry_length table i (rw t entries_whole) l))
-      ∙ sym (zeros_length object_class_width) in
-      rw first_at (copied_whole v (zeros object_class_width) cell long c ∙ is)
+      rw first_at (c ∙ is)
 
   -- it has none
   pub first_missing : ¬ (i < entry_count) → zeros object_class_width ≡ object_class_cell (first_object_class syntax)

@@ -49,13 +49,9 @@ pub copied_whole : (v cell new : List ℕ) → length v ≡ length cell → new 
 copied_whole v cell new e q = q ∙ rw (take-length v, e, drop-length cell, append-nil)
 
 -- the same, where the cell is a part that was lent
-pub cell_copied : (at n : ℕ) (v row back : List ℕ) → length v ≡ n → at + n ≤ length row → back
-    ≡ take (length v) v ++ drop (length v) (take (at + n - at) (drop at row))
+pub cell_copied : (at n : ℕ) (v row back : List ℕ) → length v ≡ n → at + n ≤ length row → back ≡ v
     → take at row ++ (back ++ drop (at + n - at) (drop at row)) ≡ splice at v row
-cell_copied at n v row back e h q =
-    let m : at + n - at ≡ n = omega arith in
-    let l : length v ≡ length (take (at + n - at) (drop at row)) = rw m (simp (length-take, length-drop) (omega arith)) in
-    lent_back at (at + n) row back v (omega arith) (copied_whole v (take (at + n - at) (drop at row)) back l q)
+cell_copied at n v row back e h q = lent_back at (at + n) row back v (omega arith) q
 
 -- the length of a cell whose first byte was stored and whose rest was lent
 pub rest_long : (b : ℕ) (cell : List ℕ) → 1 ≤ length cell → length (take (length (set cell 0 b) - 1) (drop 1 (set cell 0 b))) ≡ length cell - 1

@@ -31,13 +31,12 @@ not_end s at end d e = go (ne_eqb at end d) (leb (at + 3) end) refl (leb (value_
     go b true p true q = let no : ◌≡◌ {A = ℕ} 0 1 = cc in omega arith
 
 pub turn_cut : (s : List ℕ) (r : Column) (at end : ℕ) → ¬ (at ≡ end) → (f : FieldRead) → f ≡ field_at s at end
-    → OneOf (1 ∷ 2 ∷ []) (tag_of FieldRead.the_type f) → Refused ≡ turn_of s r (field_at s at end)
-turn_cut s r at end d (fields.Field tag start stop) e h = absurd
-    (⊎_elim (λ (q : ◌≡◌ {A = ℕ} 0 1). omega (arith, q)) (λ (q : ◌≡◌ {A = ℕ} 0 2). omega (arith, q)) h)
+    → ((x y z : ℕ) → f ≡ fields.Field x y z → ⊥) → Refused ≡ turn_of s r (field_at s at end)
+turn_cut s r at end d (fields.Field tag start stop) e h = absurd (h tag start stop refl)
 turn_cut s r at end d fields.End e h = absurd (not_end s at end d (sym e))
 turn_cut s r at end d (fields.Bad place) e h = turn_bad s r at end e refl
 
-pub neither : (t : Turn) → OneOf (1 ∷ 2 ∷ []) (tag_of turn.the_type t) → OneOf (0 ∷ 2 ∷ []) (tag_of turn.the_type t) → t ≡ Refused
-neither (Taken start stop) h k = absurd (⊎_elim (λ (q : ◌≡◌ {A = ℕ} 0 1). omega (arith, q)) (λ (q : ◌≡◌ {A = ℕ} 0 2). omega (arith, q)) h)
-neither Passed h k = absurd (⊎_elim (λ (q : ◌≡◌ {A = ℕ} 1 0). omega (arith, q)) (λ (q : ◌≡◌ {A = ℕ} 1 2). omega (arith, q)) k)
+pub neither : (t : Turn) → ((x y : ℕ) → t ≡ Taken x y → ⊥) → (t ≡ Passed → ⊥) → t ≡ Refused
+neither (Taken start stop) h k = absurd (h start stop refl)
+neither Passed h k = absurd (k refl)
 neither Refused h k = refl

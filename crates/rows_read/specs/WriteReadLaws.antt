@@ -162,8 +162,13 @@ module _ (r : Column) (rs : List Column) (o n : ℕ) (row w : List ℕ) (l : Lai
       let longer : length (p ++ field) ≡ length p + 3 + length v = length-append p field ∙ omega arith in
       let ends : end ≡ length (p ++ field) + length w = omega arith in
       let regroup : s ≡ (p ++ field) ++ (w ++ q) = sym (append_assoc p field (w ++ q)) in
-      rw (append_assoc field w q, ← taken, value, vc.cell_is, ends, ← longer, regroup)
-      (ih (p ++ field) q (splice r.at (cell_at r row) st) (state st k))
+      let now : List ℕ = splice r.at (cell_at r row) st in
+      let past : ℕ = length (p ++ field) in
+      ap (λ (x : List ℕ). read_by (p ++ x) end (r ∷ rs) (length p) false st) (append_assoc field w q)
+      ∙ rw (← taken, value, vc.cell_is)
+      (ap (λ (e : ℕ). read_by s e rs (length p + 3 + length v) false now) ends
+      ∙ ap (λ (a : ℕ). read_by s (past + length w) rs a false now) (sym longer)
+      ∙ ap (λ (x : List ℕ). read_by x (past + length w) rs past false now) regroup ∙ ih (p ++ field) q now (state st k))
 
 table_read : (columns : List Column) (o n : ℕ) (row : List ℕ) → laid columns o n ≡ true → distinct columns ≡ true → n ≤ length row → Bytes row
     → well_formed_by columns row ≡ true

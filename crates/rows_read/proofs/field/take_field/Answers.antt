@@ -12,7 +12,7 @@ use Rattle.rows_read.proofs.field.take_field.Goals as goal
 pub returns-in_default-turn : goal.returns-in_default-turn
 returns-in_default-turn c =
     stepped_refused c.args.s.now c.args.column c.args.at c.args.end c.args.missing c.args.row.now
-    c.turn_of-turn.ensures (neither _ c.in_default.in_default-own.keys2 c.in_default-turn.in_default-turn-own.keys2)
+    c.turn_of-turn.ensures (neither _ c.in_default.not-Taken c.in_default-turn.not-Passed)
 
 pub returns-in_default : goal.returns-in_default
 returns-in_default c =

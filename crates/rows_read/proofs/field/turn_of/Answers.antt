@@ -14,7 +14,7 @@ returns-then-at-end c =
 
 pub returns-in_default : goal.returns-in_default
 returns-in_default c =
-    turn_cut c.args.s.now c.args.column c.args.at c.args.end c.if-at-end.false _ c.field_within.ensures c.in_default.in_default-own.keys2
+    turn_cut c.args.s.now c.args.column c.args.at c.args.end c.if-at-end.false _ c.field_within.ensures c.in_default.not-Field
 
 pub returns-then-tag-column : goal.returns-then-tag-column
 returns-then-tag-column c =

@@ -2,7 +2,7 @@ use mathlib.Core.List.{List}
 use mathlib.Core.Path.{◌≡◌, sym, ap, ◌∙◌}
 use Prim.Native.Nat.{ℕ}
 use native.Mathlib.Omega.{arith}
-use lib.ListN.{length}
+use lib.ListN.{length, length-take, length-drop}
 use borrow.Author.Rules.{rules}
 use Rattle.prelude.specs.Part.{splice}
 use Rattle.prelude.specs.LentLaws.{lent_cleared}
@@ -24,9 +24,14 @@ returns-then-row-eq0 c =
     let row = c.args.row.now in
     let first : c.first_cell-first.result ≡ object_class_cell (first_object_class (syntax_of row)) = c.first_cell-first.ensures ∙ ap
     (λ (x : ℕ). object_class_cell (first_object_class x)) c.syntax.ensures in cell_copied 153 17 c.first_cell-first.result row _
-    (ap length first ∙ cell_long _ (first_short _)) (omega arith) c.copy.ensures.1 ∙ ap (λ (v : List ℕ). splice 153 v row) first ∙ sym
+    (ap length first ∙ cell_long _ (first_short _)) (omega arith) c.copy_from_slice.ensures.after ∙ ap (λ (v : List ℕ). splice 153 v row) first ∙ sym
     (settled_first row (sym c.om_syntax.ensures ∙ c.if-om_syntax-ne127.false) c.if-row-eq0.true)
 
 pub returns-else-row-eq0 : goal.returns-else-row-eq0
 returns-else-row-eq0 c =
     sym (settled_given c.args.row.now (sym c.om_syntax.ensures ∙ c.if-om_syntax-ne127.false) c.if-row-eq0.false)
+
+pub copy_from_slice-requires : goal.copy_from_slice-requires
+copy_from_slice-requires c =
+    let long : length c.first_cell-first.result ≡ 17 = ap length c.first_cell-first.ensures ∙ cell_long _ (first_short _) in
+    simp (length-take, length-drop) (omega arith)

@@ -1,3 +1,4 @@
+use mathlib.Core.Path.{sym}
 use native.Mathlib.Omega.{arith}
 use lib.ListN.{length}
 use borrow.Author.Rules.{rules}
@@ -43,7 +44,7 @@ returns-in-Plain c =
     let v = c.args.v.now in
     let cell = c.args.cell.now in
     let t = told v (length cell) c.in-Plain.is c.requires in plain_image c.in-Plain.is t
-    (copied_whole v cell _ (plain_long t) c.copy.ensures.1)
+    c.copy_from_slice.ensures.after
 
 pub returns-in-Number : goal.returns-in-Number
 returns-in-Number c =
@@ -65,3 +66,7 @@ pub returns-in-Entries : goal.returns-in-Entries
 returns-in-Entries c =
     entries_image c.in-Entries.is (told c.args.v.now (length c.args.cell.now) c.in-Entries.is c.requires)
     c.store_entries.ensures
+
+pub copy_from_slice-requires : goal.copy_from_slice-requires
+copy_from_slice-requires c =
+    sym (plain_long (told c.args.v.now (length c.args.cell.now) c.in-Plain.is c.requires))
