@@ -415,6 +415,7 @@ all_named added =
 
 case_named : {n : ℕ} (test : Rule → Bool) (rs : List Rule) → Each (λ r. (rule : RuleName) × (rule_number rule ≡ r.number)) rs
     → Among n (cases_of test rs) → (rule : RuleName) × (rule_number rule ≡ n)
+case_named {n = n} test mathlib.Core.List.[] h x'' = elim x'' [ ]
 case_named test (r ∷ rs) h (Among.here e q) = (h.0.0, h.0.1 ∙ q)
 case_named test (r ∷ rs) h (Among.there a) = case_named test rs h.1 a
 

@@ -102,6 +102,7 @@ nonzero added test = rising_nonzero rank rank_zero (rank refusal.still_needed) (
 module _ (test : Rule → Bool) where
   pub case_picked : {n : ℕ} (k : ℕ) (rs : List Rule) → Rising rank k (cases_of test rs) → Among n (cases_of test rs) → test (numbered rs n) ≡ true
   unfolding numbered
+  case_picked {n = n} k [] rise x'' = elim x'' [ ]
   case_picked {n} k (r ∷ rs) rise (Among.here e q) = rw (says_true (says_eq r.number n) q) e
   case_picked {n} k (r ∷ rs) rise (Among.there a) =
       rw (says_false (says_eq r.number n) (λ q. omega (arith, ap rank q, among_above rank (rank r.number) (cases_of test rs) rise.1 a)))

@@ -1,4 +1,6 @@
 // The shape of the two tables' stores: number 2 is given where it is broken.
+#![tactic(auto)]
+
 ghost use Rattle.std.specs.Prelude.{◌≡◌, ◌≤◌, length};
 ghost use Rattle.prelude.specs.Part.{is_zero};
 ghost use Rattle.schema.specs.declared.number.TableId.TheVariants.{Attributes, Classes};

@@ -1,0 +1,10 @@
+use Rattle.prelude.specs.Part.{part}
+use mathlib.Core.Path.{ap, ◌∙◌}
+use Prim.Native.Nat.{ℕ}
+use borrow.Author.Rules.{rules}
+use Rattle.change_read.proofs.carried.added_row.Goals as goal
+
+pub returns : goal.returns
+returns c =
+    c.part_of.ensures ∙ ap (λ (n : ℕ). part 0 n c.args.row.now)
+    c.row_width.ensures

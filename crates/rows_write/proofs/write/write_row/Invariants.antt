@@ -1,0 +1,31 @@
+use mathlib.Core.List.{List}
+use mathlib.Core.Path.{◌≡◌, refl, sym, ap, ◌∙◌}
+use Prim.Native.Nat.{ℕ, ◌+◌, ◌-◌, ◌≤◌, ◌<◌}
+use native.Mathlib.Nat.{add-zero}
+use native.Mathlib.Omega.{arith}
+use lib.ListN.{length, drop}
+use borrow.Author.Rules.{rules}
+use Rattle.prelude.specs.SpliceLaws.{splice_none, write_turn}
+use Rattle.prelude.specs.Part.{splice}
+use Rattle.rows_format.specs.declared.column.Column.{Column}
+use Rattle.rows_format.specs.Formats.{columns_of, no_column}
+use Rattle.rows_format.specs.FormatsLaws.{fits_in, format_few}
+use Rattle.rows_format.specs.Columns.{field_of, write_by}
+use Rattle.rows_write.specs.WritingLaws.{write_next, length_next, write_done}
+use Rattle.rows_write.proofs.Writing.{formed_column}
+use Rattle.rows_write.proofs.write.write_row.Given as goal
+
+-- what is left, written at the place reached, makes the whole
+pub record Going (row : List ℕ) (table : List Column) (count end n : ℕ) (goal out : List ℕ) (next i : ℕ) : Type 0 where
+  pub few : i ≤ count
+  pub long : length out ≡ n
+  pub place : next + length (write_by (drop i table) row) ≡ end
+  pub fits : end ≤ n
+  pub same : splice next (write_by (drop i table) row) out ≡ goal
+
+abbrev pub invariant-loop-i : goal.invariant-loop-i
+invariant-loop-i l = Going l.row (columns_of l.format) l.count (l.at + length (write_by (columns_of l.format) l.row))
+    (length l.initial.out) (splice l.at (write_by (columns_of l.format) l.row) l.initial.out) l.out l.next l.i
+
+abbrev pub decreases-loop-i : goal.decreases-loop-i
+decreases-loop-i l = l.count - l.i

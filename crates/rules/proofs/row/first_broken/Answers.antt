@@ -1,0 +1,8 @@
+use Rattle.rules.specs.Rules.{numbered}
+use borrow.Author.Rules.{rules}
+use Rattle.rules.proofs.row.first_broken.Goals as goal
+
+pub returns : goal.returns
+unfolding numbered
+returns c =
+    c.first_by.ensures
