@@ -85,12 +85,12 @@ cut_place s at end place e = go (eqb at end) refl (leb (at + 3) end) refl (leb (
 
 module _ (s : List ℕ) (field : FieldRead) (is : field ≡ field_at s 0 (length s)) where
   -- no whole field: none, or one that is cut
-  pub front_none : (row : List ℕ) → row ≡ scratch → OneOf (1 ∷ 2 ∷ []) (tag_of FieldRead.the_type field) → Came (Bad 0) row (read_change s)
+  pub front_none : (row : List ℕ) → row ≡ scratch → ((x y z : ℕ) → field ≡ fields.Field x y z → ⊥) → Came (Bad 0) row (read_change s)
   unfolding read_change field_out
   front_none row zero k = go field is k
     where
-      go : (f : FieldRead) → f ≡ field_at s 0 (length s) → OneOf (1 ∷ 2 ∷ []) (tag_of FieldRead.the_type f) → Came (Bad 0) row (read_change s)
-      go (fields.Field tag start stop) e h = absurd (⊎_elim (λ (q : ◌≡◌ {A = ℕ} 0 1). omega (arith, q)) (λ (q : ◌≡◌ {A = ℕ} 0 2). omega (arith, q)) h)
+      go : (f : FieldRead) → f ≡ field_at s 0 (length s) → ((x y z : ℕ) → f ≡ fields.Field x y z → ⊥) → Came (Bad 0) row (read_change s)
+      go (fields.Field tag start stop) e h = absurd (h tag start stop refl)
       go fields.End e h = record { answer = rw (← e); row = rw (← e) zero }
       go (fields.Bad at) e h = record { answer = rw (← e, cut_place s 0 (length s) at (sym e)); row = rw (← e) zero }
 

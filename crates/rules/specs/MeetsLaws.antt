@@ -39,7 +39,7 @@ use Rattle.rules_attribute.specs.Syntax.{object_class_wrong}
 use Rattle.rules_attribute.specs.Links.{forward_missing}
 use Rattle.rules_class.specs.Live.{not_live, class_wrong, SuperclassEarly, lists_itself, superclass_late, naming_wrong}
 use Rattle.rules_class.specs.LiveLaws.{says_not_live, says_naming_wrong, says_lists_itself, says_superclass_late}
-use Rattle.rules_class.specs.Category.{class88, abstract, list_category, category_wrong, inheritance_number, RootIllegal}
+use Rattle.rules_class.specs.Category.{class88, abstract, list_category, category_wrong, inheritance_number, inheritance_wrong, RootIllegal}
 use Rattle.rules_class.specs.declared.category.Inheritance.{Inheritance}
 use Rattle.rules_class.specs.declared.category.Inheritance.TheVariants.{RootNotAbstract, AbstractUnderOther, AuxiliaryUnderStructural}
 use Rattle.rules_class.specs.declared.category.Inheritance.TheVariants.{StructuralUnderAuxiliary}
@@ -208,7 +208,7 @@ module _ (added : Added) (m : Schema) where
       let n = says_named_live Attributes m in
       let e = says_entry_live added Attributes m in (
         λ h. (n.0 (λ k l. (parts k (h Classes k l)).0), e.0 (λ k l. (parts k (h Classes k l)).1)),
-        λ h. of_classes_lem m _ (λ k l. ap₂ (λ (x y : Bool). x || y) (n.1 h.0 k l) (e.1 h.1 k l)),
+        λ h. of_classes_lem m (attribute_not_live added) (λ k l. ap₂ (λ (x y : Bool). x || y) (n.1 h.0 k l) (e.1 h.1 k l)),
       )
     where
       parts : (k : ℕ) → (not_live Attributes m.attributes (m.classes.row k) || entry_dead added Attributes m.attributes (m.classes.row k) k) ≡ false
@@ -239,7 +239,7 @@ module _ (added : Added) (m : Schema) where
           b.0 (λ k l. (class_parts k (h Classes k l)).1.1.0),
           e.0 (λ k l. (class_parts k (h Classes k l)).1.1.1),
         ),
-        λ h. of_classes_lem m _ (λ k l.
+        λ h. of_classes_lem m (λ x j. class_not_live added x.classes j) (λ k l.
             ap₂ (λ (x y : Bool). x || y)
             (ap₂ (λ (x y : Bool). x || y) (n.1 h.0 k l) (not-true _ ((early k).passes (h.1 k l))))
             (ap₂ (λ (x y : Bool). x || y) (b.1 h.2 k l) (e.1 h.3 k l))),
@@ -254,7 +254,7 @@ module _ (added : Added) (m : Schema) where
 category_met : (kind : ClassList) (m : Schema)
     → ((t : TableId) (k : ℕ) → k < (table t m).count → of_classes (λ x j. category_wrong kind x.classes (x.classes.row j)) m t k ≡ false) ↔ Fitting kind m
 category_met kind m =
-    class_met m _ (λ k. says_category_wrong kind m.classes (m.classes.row k)) (λ k l. (
+    class_met m (λ x j. category_wrong kind x.classes (x.classes.row j)) (λ k. says_category_wrong kind m.classes (m.classes.row k)) (λ k l. (
       λ none n few listed there.
           sure (says_or (says_eq (category_of (m.classes.row n)) class88) (says_eq (category_of (m.classes.row n)) (list_category kind)))
           (λ other. none (record { at = n; below = few; is = record { listed = listed; there = there; other = other } })),
@@ -272,7 +272,7 @@ module _ (x : Inheritance) (some : 0 < inheritance_number x) (m : Schema) where
       λ l d. says_fails (says_inheritance_wrong m.classes 0 x some) (h Classes 0 l) (inl (refl, d)),
       λ k l d there ill. says_fails (says_inheritance_wrong m.classes k x some) (h Classes k l) (inr (d, (there, ill))),
     ),
-    λ h. of_classes_lem m _ (λ k l. says_false (says_inheritance_wrong m.classes k x some)
+    λ h. of_classes_lem m (λ n. inheritance_wrong (inheritance_number x) n.classes) (λ k l. says_false (says_inheritance_wrong m.classes k x some)
         (⊎_elim (λ s. h.0 (rw s.0 at l) (rw s.0 at s.1)) (λ s. h.1 k l s.0 s.1.0 s.1.1))),
   )
 
@@ -291,7 +291,7 @@ naming_met : (m : Schema)
     → ((t : TableId) (k : ℕ) → k < (table t m).count → of_classes (λ x j. naming_wrong x.attributes (naming_of (x.classes.row j))) m t k ≡ false)
     ↔ Met Nothing RuleName.naming_unfit m
 naming_met m =
-    class_met m _ (λ k. says_naming_wrong m.attributes (naming_of (m.classes.row k))) (λ k l. (
+    class_met m (λ x j. naming_wrong x.attributes (naming_of (x.classes.row j))) (λ k. says_naming_wrong m.attributes (naming_of (m.classes.row k))) (λ k l. (
       λ none n by there. sure (says_and (says_eq (syntax_of (m.attributes.row n)) 12) (says_test (is_single_valued (m.attributes.row n))))
           (λ wrong. none (record { attribute = n; by = by; there = there; wrong = wrong })),
       λ h bad. bad.wrong (h bad.attribute bad.by bad.there),
@@ -300,7 +300,7 @@ naming_met m =
 forward_met : (m : Schema) → ((t : TableId) (k : ℕ) → k < (table t m).count → of_attributes (λ a j. forward_missing a (a.row j)) m t k ≡ false)
     ↔ Met Nothing RuleName.link_alone m
 forward_met m =
-    attribute_met m _ (λ k. says_forward_missing m.attributes (m.attributes.row k)) (λ k. (
+    attribute_met m (λ a j. forward_missing a (a.row j)) (λ k. says_forward_missing m.attributes (m.attributes.row k)) (λ k. (
       λ n odd. sure (says_any m.attributes.count (λ j i. says_and (says_forward (m.attributes.row k) (m.attributes.row j))
           (says_live m.attributes (m.attributes.row k) j))) (λ none. n (odd, none)),
       λ h bad. bad.1 (h bad.0),

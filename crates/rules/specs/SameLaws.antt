@@ -26,7 +26,7 @@ use Rattle.rules_attribute.specs.Syntax.{syntax_wrong, object_class_wrong}
 use Rattle.rules_attribute.specs.Links.{forward_missing, link_syntax_wrong}
 use Rattle.rules_attribute.specs.SameLaws.{forward_missing_same}
 use Rattle.rules_class.specs.Live.{not_live, naming_wrong}
-use Rattle.rules_class.specs.Category.{category_wrong}
+use Rattle.rules_class.specs.Category.{category_wrong, inheritance_wrong}
 use Rattle.rules_class.specs.SameLaws.{not_live_same, class_wrong_same, lists_itself_same, category_wrong_same, inheritance_wrong_same}
 use Rattle.rules_class.specs.SameLaws.{naming_wrong_same}
 use Rattle.rules.specs.declared.row.Added.{Added}
@@ -103,7 +103,7 @@ module _ {m n : Schema} (s : SameRows m n) where
       (ap₂ (λ (p q : Bool). p || q) (barred_same added k l) (entry_same added Classes k l))
 
   inheritance_same : (number : ℕ) → SameBreaks m n (inheritance_rule number).breaks
-  inheritance_same number = of_classes_lem _ (λ k l. inheritance_wrong_same (s Classes) k l number)
+  inheritance_same number = of_classes_lem (λ x. inheritance_wrong number x.classes) (λ k l. inheritance_wrong_same (s Classes) k l number)
 
   all_same : (added : Added) → Each (λ r. SameBreaks m n r.breaks) (schema_rules added)
   all_same added =

@@ -182,18 +182,11 @@ module _ (s : List ℕ) (at : ℕ) (phase : Phase) (missing : Bool) {x : Rows} {
 -- ---- what `let .. else` leaves
 
 -- no row is announced
-pub no_row : (tag : SheetTag) (a c : List ℕ) → OneOf (0 ∷ 2 ∷ []) (tag_of SheetTag.the_type tag) → room.Free ≡ room_in tag a c
+pub no_row : (tag : SheetTag) (a c : List ℕ) → ((t : TableId) → tag ≡ Row t → ⊥) → room.Free ≡ room_in tag a c
 unfolding room_in
 no_row Heading a c h = refl
-no_row (Row t) a c h = absurd (⊎_elim (λ (q : ◌≡◌ {A = ℕ} 1 0). omega (arith, q)) (λ (q : ◌≡◌ {A = ℕ} 1 2). omega (arith, q)) h)
+no_row (Row t) a c h = absurd (h t refl)
 no_row Unknown a c h = refl
-
--- no whole field stands there
-pub no_field : (f : FieldRead) → OneOf (1 ∷ 2 ∷ []) (tag_of FieldRead.the_type f) → (b start stop : ℕ) → ¬ (f ≡ fields.Field b start stop)
-no_field (fields.Field tag start stop) h b first last e = absurd
-    (⊎_elim (λ (q : ◌≡◌ {A = ℕ} 0 1). omega (arith, q)) (λ (q : ◌≡◌ {A = ℕ} 0 2). omega (arith, q)) h)
-no_field fields.End h b first last e = let no : ◌≡◌ {A = ℕ} 0 1 = cc in omega arith
-no_field (fields.Bad place) h b first last e = let no : ◌≡◌ {A = ℕ} 0 1 = cc in omega arith
 
 -- the room that a row of a table has
 module _ (t : TableId) (a c : List ℕ) (tag : SheetTag) (is : tag ≡ Row t) (n m : ℕ) (counted : n ≡ count_in t (store_of t a c)) (limits : m ≡ limit t) where

@@ -36,7 +36,7 @@ loop-k-preserved c =
     let store = c.args.store.now in (
       omega (arith, c.loop-k-test.true),
       all_more (λ k. well_formed table ((table_in table store).row k)) c.loop-k.k c.loop-k.invariant.1
-          (sym (c.well_formed-2.ensures ∙ ap (well_formed table) (c.row.ensures ∙ id_row table c.loop-k.k store c.row_id.ensures)) ∙
+          (sym (c.well_formed-in-loop-k.ensures ∙ ap (well_formed table) (c.row.ensures ∙ id_row table c.loop-k.k store c.row_id.ensures)) ∙
           c.if-well_formed.true),
     )
 
@@ -46,7 +46,7 @@ returns-else-well_formed c =
     let store = c.args.store.now in
     sym
     (all_not (λ k. well_formed table ((table_in table store).row k)) c.loop-k.k c.args.n c.loop-k-test.true
-    (sym (c.well_formed-2.ensures ∙ ap (well_formed table) (c.row.ensures ∙ id_row table c.loop-k.k store c.row_id.ensures)) ∙
+    (sym (c.well_formed-in-loop-k.ensures ∙ ap (well_formed table) (c.row.ensures ∙ id_row table c.loop-k.k store c.row_id.ensures)) ∙
     c.if-well_formed.false))
 
 pub returns : goal.returns

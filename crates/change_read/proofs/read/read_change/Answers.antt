@@ -10,7 +10,7 @@ use Rattle.change_read.proofs.read.read_change.Goals as goal
 pub returns-in_default : goal.returns-in_default
 returns-in_default c =
     let s = c.args.s.now in
-    front_none s _ (step_field s 0 _ c.step_at-step.ensures) c.args.row.now c.requires c.in_default.in_default-own.keys2
+    front_none s _ (step_field s 0 _ c.step_at-step.ensures) c.args.row.now c.requires c.in_default.not-Field
 
 pub returns-in_default-change_of : goal.returns-in_default-change_of
 returns-in_default-change_of c =

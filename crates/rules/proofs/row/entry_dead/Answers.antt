@@ -25,8 +25,7 @@ pub returns-in_default : goal.returns-in_default
 unfolding entry_dead live
 returns-in_default c =
     let table = c.args.table in
-    let entry = c.added-1.given.0 in
-    let number = entry.1.1.0 in
+    let number = c.in-Entry.number in
     let beyond = number_beyond table number (sym c.number_read.ensures ∙ c.in_default.is) in
     let gone : (table_in table c.args.store.now).count ≤ number = omega (arith, beyond, c.requires.0.few) in
     rw (c.in-Entry.is, eq-eqb _ _ c.if-class-c.false, sym c.same_table.ensures ∙ not-false _ c.if-not-same_table.false-raw, le-ltb _ _ gone)

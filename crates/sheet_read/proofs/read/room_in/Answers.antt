@@ -6,7 +6,7 @@ use Rattle.sheet_read.proofs.read.room_in.Goals as goal
 
 pub returns-in_default : goal.returns-in_default
 returns-in_default c =
-    no_row c.args.tag c.args.attributes.now c.args.classes.now c.in_default.in_default-own.keys2
+    no_row c.args.tag c.args.attributes.now c.args.classes.now c.in_default.not-Row
 
 pub row_count-requires : goal.row_count-requires
 row_count-requires c =

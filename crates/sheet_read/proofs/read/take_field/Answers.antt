@@ -4,7 +4,7 @@ use lib.ListN.{length}
 use Rattle.wire.specs.WireLaws.{field_is}
 use Rattle.reader.specs.ReaderLaws.{step_tag, step_field, step_next}
 use Rattle.sheet_read.specs.Reading.{step, sheet_tag, take_tagged, take_field}
-use Rattle.sheet_read.proofs.Steps.{as_step, same_step, step_full, step_whole, step_cut, free_room, no_field}
+use Rattle.sheet_read.proofs.Steps.{as_step, same_step, step_full, step_whole, step_cut, free_room}
 use native.Mathlib.Omega.{arith}
 use borrow.Author.Rules.{rules}
 use Rattle.sheet_read.proofs.read.take_field.Goals as goal
@@ -28,7 +28,7 @@ returns-in_default-field c =
     let missing = c.args.missing in
     let tag = c.sheet_tag-tag.ensures ∙ ap sheet_tag (step_tag s at _ c.step_at-step.ensures) in
     as_step (take_field s at phase missing) _ c.args.attributes.now c.args.classes.now (λ x a c' h. step_cut s at phase missing h _ tag _
-    c.room_in-room.ensures c.in-Free.is _ (step_field s at _ c.step_at-step.ensures) (no_field _ c.in_default-field.in_default-field-own.keys2))
+    c.room_in-room.ensures c.in-Free.is _ (step_field s at _ c.step_at-step.ensures) c.in_default-field.not-Field)
 
 pub take_tagged-requires : goal.take_tagged-requires
 take_tagged-requires c =
@@ -38,10 +38,10 @@ take_tagged-requires c =
     let classes = c.args.classes.now in
     let met = c.step_at-step.ensures in
     let w = field_is s at (length s) _ _ _ (sym (step_field s at _ met) ∙ c.in-Field.is) in
-    let next = step_next s at _ met _ _ _ c.in-Field.is in (
-      (omega (arith, w.start_is, w.stop_is, next), omega (arith, w.within, next)),
-      (c.requires.1.lent, free_room _ attributes classes c.requires.1.few (sym c.room_in-room.ensures ∙ c.in-Free.is)),
-    )
+    let next = step_next s at _ met _ _ _ c.in-Field.is in record {
+      start_le_stop = (omega (arith, w.start_is, w.stop_is, next), omega (arith, w.within, next));
+      lent = (c.requires.1.lent, free_room _ attributes classes c.requires.1.few (sym c.room_in-room.ensures ∙ c.in-Free.is));
+    }
 
 pub returns : goal.returns
 returns c =
@@ -50,12 +50,11 @@ returns c =
     let phase = c.args.phase in
     let missing = c.args.missing in
     let met = c.step_at-step.ensures in
-    let f = c.field-1.given in
-    let w = field_is s at (length s) _ _ _ (sym (step_field s at _ met) ∙ f.1) in
-    let next = step_next s at _ met _ _ _ f.1 in
+    let w = field_is s at (length s) _ _ _ (sym (step_field s at _ met) ∙ c.in-Field.is) in
+    let next = step_next s at _ met _ _ _ c.in-Field.is in
     let tag = c.sheet_tag-tag.ensures ∙ ap sheet_tag (step_tag s at _ met) in
-    same_step (take_tagged c.sheet_tag-tag.result s at phase missing f.0.1.0 c.step_at-step.result.next)
-    (take_field s at phase missing) (λ x a c' h. ap (λ t. take_tagged t s at phase missing f.0.1.0 c.step_at-step.result.next x)
-    (tag ∙ ap sheet_tag (sym w.tag_is)) ∙ ap (λ stop. take_tagged (sheet_tag f.0.0) s at phase missing f.0.1.0 stop x) next
-    ∙ step_whole s at phase missing h _ tag _ c.room_in-room.ensures c.in-Free.is _ _ _ _ (step_field s at _ met) f.1)
+    same_step (take_tagged c.sheet_tag-tag.result s at phase missing c.in-Field.start c.step_at-step.result.next)
+    (take_field s at phase missing) (λ x a c' h. ap (λ t. take_tagged t s at phase missing c.in-Field.start c.step_at-step.result.next x)
+    (tag ∙ ap sheet_tag (sym w.tag_is)) ∙ ap (λ stop. take_tagged (sheet_tag c.in-Field.tag) s at phase missing c.in-Field.start stop x) next
+    ∙ step_whole s at phase missing h _ tag _ c.room_in-room.ensures c.in-Free.is _ _ _ _ (step_field s at _ met) c.in-Field.is)
     c.take_tagged.ensures

@@ -8,7 +8,7 @@ use Rattle.sheet_read.proofs.read.take_row.Goals as goal
 pub read_into-read-requires : goal.read_into-read-requires
 unfolding zeros
 read_into-read-requires c =
-    ((c.requires.start_le_stop.0, c.requires.start_le_stop.1, refl), c.requires.table_in_bounds)
+    record { start_le_stop = (c.requires.start_le_stop.0, c.requires.start_le_stop.1, refl); table_in_bounds = c.requires.table_in_bounds }
 
 pub returns-in_default : goal.returns-in_default
 returns-in_default c = (

@@ -6,11 +6,11 @@ use Rattle.sheet_read.proofs.read.take_table_row.Goals as goal
 
 pub take_row-requires : goal.take_row-requires
 take_row-requires c =
-    (c.requires.start_le_stop, table_room c.args.table Attributes c.in-Attributes.is c.requires.lent.0 c.requires.lent.1)
+    record { start_le_stop = c.requires.start_le_stop; table_in_bounds = table_room c.args.table Attributes c.in-Attributes.is c.requires.lent.0 c.requires.lent.1 }
 
 pub take_row-requires-in-Classes : goal.take_row-requires-in-Classes
 take_row-requires-in-Classes c =
-    (c.requires.start_le_stop, table_room c.args.table Classes c.in-Classes.is c.requires.lent.0 c.requires.lent.1)
+    record { start_le_stop = c.requires.start_le_stop; table_in_bounds = table_room c.args.table Classes c.in-Classes.is c.requires.lent.0 c.requires.lent.1 }
 
 pub returns-in-Attributes : goal.returns-in-Attributes
 returns-in-Attributes c =

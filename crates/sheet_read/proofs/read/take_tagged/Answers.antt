@@ -6,7 +6,7 @@ use Rattle.sheet_read.proofs.read.take_tagged.Goals as goal
 
 pub take_table_row-requires : goal.take_table_row-requires
 take_table_row-requires c =
-    (c.requires.start_le_stop, (c.requires.lent.0, c.requires.lent.1 c.in-Row.table c.in-Row.is))
+    record { start_le_stop = c.requires.start_le_stop; lent = (c.requires.lent.0, c.requires.lent.1 c.in-Row.table c.in-Row.is) }
 
 pub returns-in-Heading : goal.returns-in-Heading
 returns-in-Heading c =
