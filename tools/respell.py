@@ -29,7 +29,7 @@ def is_old(name):
 
 
 def snake(name):
-    return re.sub(r"(?<=[a-z0-9])[A-Z]", lambda m: "_" + m[0].lower(), name).replace("-", "_")
+    return re.sub(r"(?<=[a-z0-9])[A-Z]|(?<=[A-Z])[A-Z](?=[a-z])", lambda m: "_" + m[0].lower(), name).lower().replace("-", "_")
 
 
 def sources(*ends):

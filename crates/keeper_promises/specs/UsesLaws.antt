@@ -37,7 +37,7 @@ use Rattle.rules_attribute.specs.SyntaxLaws.{says_syntax_fits}
 use Rattle.rules_class.specs.Category.{list_category}
 use Rattle.rules_class.specs.Live.{SuperclassEarly}
 use Rattle.rules.specs.Meets.{Meets, Fitting, name_invalid, name_taken, identifier_invalid, identifier_taken, guid_taken, attribute_not_live, class_not_live}
-use Rattle.rules.specs.Meets.{not_an_auxiliary, not_aSuperior, root_not_abstract, abstract_under_other, auxiliary_under_structural, structural_under_auxiliary}
+use Rattle.rules.specs.Meets.{not_an_auxiliary, not_a_superior, root_not_abstract, abstract_under_other, auxiliary_under_structural, structural_under_auxiliary}
 use Rattle.rules.specs.Meets.{naming_unfit, mapi_taken, range_crossed, syntax_misfit, object_class_wrong}
 use Rattle.rules.specs.Meets.{link_taken, link_alone, link_syntax_unfit}
 use Rattle.rules.specs.declared.row.Added.TheVariants.{Nothing}
@@ -208,7 +208,7 @@ module _ (m : Schema) (met : Meets Nothing m) where
 
       superior_fits : (d : ℕ) → d < 128 → Lists Superiors row d
           → Usable classes row d × ((category_of (classes.row d) ≡ 0) ⊎ (category_of (classes.row d) ≡ 1))
-      superior_fits d below h = fits Superiors (met not_aSuperior) c d l below h (inr (inr h))
+      superior_fits d below h = fits Superiors (met not_a_superior) c d l below h (inr (inr h))
 
       naming_fits : (b : ℕ) → naming_of row ≡ By (record { 0 = b })
           → Usable m.attributes row b × ((syntax_of (m.attributes.row b) ≡ 12) × (is_single_valued (m.attributes.row b) ≡ true))

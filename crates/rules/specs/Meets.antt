@@ -41,7 +41,7 @@ NumbersApart m number =
 
 -- the rules by name
 pub data RuleName : Type 0 where
-  name_invalid name_taken identifier_invalid identifier_taken guid_taken attribute_not_live class_not_live not_an_auxiliary not_aSuperior : RuleName
+  name_invalid name_taken identifier_invalid identifier_taken guid_taken attribute_not_live class_not_live not_an_auxiliary not_a_superior : RuleName
   root_not_abstract abstract_under_other auxiliary_under_structural structural_under_auxiliary : RuleName
   naming_unfit mapi_taken range_crossed syntax_misfit object_class_wrong link_taken link_alone link_syntax_unfit : RuleName
 
@@ -54,7 +54,7 @@ rule_number guid_taken = refusal.guid_taken
 rule_number attribute_not_live = refusal.attribute_not_live
 rule_number class_not_live = refusal.class_not_live
 rule_number not_an_auxiliary = refusal.not_an_auxiliary
-rule_number not_aSuperior = refusal.not_aSuperior
+rule_number not_a_superior = refusal.not_a_superior
 rule_number root_not_abstract = inheritance_number RootNotAbstract
 rule_number abstract_under_other = inheritance_number AbstractUnderOther
 rule_number auxiliary_under_structural = inheritance_number AuxiliaryUnderStructural
@@ -112,7 +112,7 @@ Met added class_not_live m =
     NamedLive Classes m × ((k : ℕ) → k < m.classes.count → SuperclassEarly k (m.classes.row k)) × NotItself added m × EntryLive added Classes m
 -- 19, 20
 Met added not_an_auxiliary m = Fitting Auxiliaries m
-Met added not_aSuperior m = Fitting Superiors m
+Met added not_a_superior m = Fitting Superiors m
 -- 21 row 0 is abstract; 38 no class is abstract under another kind, 39 auxiliary under structural, 40 structural under auxiliary
 Met added root_not_abstract m = 0 < m.classes.count → category_of (m.classes.row 0) ≡ abstract
 Met added abstract_under_other m = Legal AbstractUnderOther m

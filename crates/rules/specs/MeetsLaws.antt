@@ -35,7 +35,9 @@ use Rattle.rules_unique.specs.UniqueLaws.{says_taken}
 use Rattle.rules_attribute.specs.RangeLaws.{says_range_wrong}
 use Rattle.rules_attribute.specs.SyntaxLaws.{says_syntax_fits, says_syntax_wrong, says_object_class_wrong}
 use Rattle.rules_attribute.specs.LinksLaws.{says_forward, says_forward_missing, says_link_syntax_fits, says_link_syntax_wrong}
-use Rattle.rules_attribute.specs.Syntax.{object_class_wrong}
+use Rattle.rules_attribute.specs.Range.{range_wrong}
+use Rattle.rules_attribute.specs.Syntax.{syntax_wrong, object_class_wrong}
+use Rattle.rules_attribute.specs.Links.{link_syntax_wrong}
 use Rattle.rules_attribute.specs.Links.{forward_missing}
 use Rattle.rules_class.specs.Live.{not_live, class_wrong, SuperclassEarly, lists_itself, superclass_late, naming_wrong}
 use Rattle.rules_class.specs.LiveLaws.{says_not_live, says_naming_wrong, says_lists_itself, says_superclass_late}
@@ -322,7 +324,7 @@ kept_met added m RuleName.guid_taken = (unique_apart m Guid both_guids, apart_un
 kept_met added m RuleName.attribute_not_live = attribute_live_met added m
 kept_met added m RuleName.class_not_live = class_live_met added m
 kept_met added m RuleName.not_an_auxiliary = category_met Auxiliaries m
-kept_met added m RuleName.not_aSuperior = category_met Superiors m
+kept_met added m RuleName.not_a_superior = category_met Superiors m
 kept_met added m RuleName.root_not_abstract = root_met m
 kept_met added m RuleName.abstract_under_other = under_met AbstractUnderOther (omega arith) m (λ own f. f)
 kept_met added m RuleName.auxiliary_under_structural = under_met AuxiliaryUnderStructural (omega arith) m (λ own f. f)
@@ -330,19 +332,19 @@ kept_met added m RuleName.structural_under_auxiliary = under_met StructuralUnder
 kept_met added m RuleName.naming_unfit = naming_met m
 kept_met added m RuleName.mapi_taken = numbers_met m Mapi refl refl mapi_of (λ a b. (λ d. d, λ d. d))
 kept_met added m RuleName.range_crossed =
-    attribute_met m _ (λ k. says_range_wrong (m.attributes.row k)) (λ k. (λ n. n, λ n. n))
+    attribute_met m (λ a k. range_wrong (a.row k)) (λ k. says_range_wrong (m.attributes.row k)) (λ k. (λ n. n, λ n. n))
 kept_met added m RuleName.syntax_misfit =
-    attribute_met m _ (λ k. says_syntax_wrong (m.attributes.row k))
+    attribute_met m (λ a k. syntax_wrong (a.row k)) (λ k. says_syntax_wrong (m.attributes.row k))
     (λ k. decided (says_syntax_fits (syntax_of (m.attributes.row k)) (om_syntax_of (m.attributes.row k))))
 kept_met added m RuleName.object_class_wrong =
-    attribute_met m _ (λ k. says_object_class_wrong (m.attributes.row k)) (λ k. (
+    attribute_met m (λ a k. object_class_wrong (a.row k)) (λ k. says_object_class_wrong (m.attributes.row k)) (λ k. (
       λ n e. sure (says_object_class_fits (syntax_of (m.attributes.row k)) (object_class_of (m.attributes.row k))) (λ d. n (e, d)),
       λ h bad. bad.1 (h bad.0),
     ))
 kept_met added m RuleName.link_taken = numbers_met m Link refl refl link_of (λ a b. (λ d. d, λ d. d))
 kept_met added m RuleName.link_alone = forward_met m
 kept_met added m RuleName.link_syntax_unfit =
-    attribute_met m _ (λ k. says_link_syntax_wrong (m.attributes.row k)) (λ k. decided (says_link_syntax_fits (m.attributes.row k)))
+    attribute_met m (λ a k. link_syntax_wrong (a.row k)) (λ k. says_link_syntax_wrong (m.attributes.row k)) (λ k. decided (says_link_syntax_fits (m.attributes.row k)))
 
 -- ---- all of them
 
@@ -354,7 +356,7 @@ meets added m = (λ h rule. (kept_met added m rule).0 (each_numbered (Kept m) (s
         let kept : (rule : RuleName) → Kept m (numbered (schema_rules added) (rule_number rule)) = λ rule. (kept_met added m rule).1 (h rule) in
         unfold numbered in
         (kept RuleName.name_invalid & kept RuleName.name_taken & kept RuleName.identifier_invalid & kept RuleName.identifier_taken & kept RuleName.guid_taken
-        & kept RuleName.attribute_not_live & kept RuleName.class_not_live & kept RuleName.not_an_auxiliary & kept RuleName.not_aSuperior
+        & kept RuleName.attribute_not_live & kept RuleName.class_not_live & kept RuleName.not_an_auxiliary & kept RuleName.not_a_superior
         & kept RuleName.root_not_abstract & kept RuleName.abstract_under_other & kept RuleName.auxiliary_under_structural
         & kept RuleName.structural_under_auxiliary & kept RuleName.naming_unfit & kept RuleName.mapi_taken & kept RuleName.range_crossed
         & kept RuleName.syntax_misfit & kept RuleName.object_class_wrong & kept RuleName.link_taken & kept RuleName.link_alone & kept RuleName.link_syntax_unfit & tt)
@@ -408,7 +410,7 @@ all_named : (added : Added) → Each (λ r. (rule : RuleName) × (rule_number ru
 all_named added =
     (RuleName.name_invalid, refl) & (RuleName.name_taken, refl) & (RuleName.identifier_invalid, refl) & (RuleName.identifier_taken, refl)
     & (RuleName.guid_taken, refl) & (RuleName.attribute_not_live, refl) & (RuleName.class_not_live, refl) & (RuleName.not_an_auxiliary, refl)
-    & (RuleName.not_aSuperior, refl) & (RuleName.root_not_abstract, refl) & (RuleName.abstract_under_other, refl)
+    & (RuleName.not_a_superior, refl) & (RuleName.root_not_abstract, refl) & (RuleName.abstract_under_other, refl)
     & (RuleName.auxiliary_under_structural, refl) & (RuleName.structural_under_auxiliary, refl) & (RuleName.naming_unfit, refl)
     & (RuleName.mapi_taken, refl) & (RuleName.range_crossed, refl) & (RuleName.syntax_misfit, refl) & (RuleName.object_class_wrong, refl)
     & (RuleName.link_taken, refl) & (RuleName.link_alone, refl) & (RuleName.link_syntax_unfit, refl) & tt
@@ -454,7 +456,7 @@ meets_nothing added m h RuleName.guid_taken = h RuleName.guid_taken
 meets_nothing added m h RuleName.attribute_not_live = ((h RuleName.attribute_not_live).0, tt)
 meets_nothing added m h RuleName.class_not_live = let p = h RuleName.class_not_live in (p.0, p.1, tt, tt)
 meets_nothing added m h RuleName.not_an_auxiliary = h RuleName.not_an_auxiliary
-meets_nothing added m h RuleName.not_aSuperior = h RuleName.not_aSuperior
+meets_nothing added m h RuleName.not_a_superior = h RuleName.not_a_superior
 meets_nothing added m h RuleName.root_not_abstract = h RuleName.root_not_abstract
 meets_nothing added m h RuleName.abstract_under_other = h RuleName.abstract_under_other
 meets_nothing added m h RuleName.auxiliary_under_structural = h RuleName.auxiliary_under_structural

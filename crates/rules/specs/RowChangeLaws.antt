@@ -241,7 +241,7 @@ module _ (k : ℕ) (m n : Schema) where
           & alone refusal.attribute_not_live (attributes_live t h added at)
           & alone refusal.class_not_live (classes_live t h added at)
           & alone refusal.not_an_auxiliary (category_alone Auxiliaries (was refusal.not_an_auxiliary Classes))
-          & alone refusal.not_aSuperior (category_alone Superiors (was refusal.not_aSuperior Classes))
+          & alone refusal.not_a_superior (category_alone Superiors (was refusal.not_a_superior Classes))
           & alone refusal.root_not_abstract (inheritance_alone refusal.root_not_abstract (was refusal.root_not_abstract Classes))
           & alone refusal.abstract_under_other (inheritance_alone refusal.abstract_under_other (was refusal.abstract_under_other Classes))
           & alone refusal.auxiliary_under_structural (inheritance_alone refusal.auxiliary_under_structural (was refusal.auxiliary_under_structural Classes))

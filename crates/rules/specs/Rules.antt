@@ -79,7 +79,7 @@ schema_rules added =
     ∷ rule refusal.attribute_not_live (of_classes (attribute_not_live added))
     ∷ rule refusal.class_not_live (of_classes (λ m k. class_not_live added m.classes k))
     ∷ rule refusal.not_an_auxiliary (of_classes (λ m k. category_wrong Auxiliaries m.classes (m.classes.row k)))
-    ∷ rule refusal.not_aSuperior (of_classes (λ m k. category_wrong Superiors m.classes (m.classes.row k)))
+    ∷ rule refusal.not_a_superior (of_classes (λ m k. category_wrong Superiors m.classes (m.classes.row k)))
     ∷ inheritance_rule refusal.root_not_abstract
     ∷ inheritance_rule refusal.abstract_under_other
     ∷ inheritance_rule refusal.auxiliary_under_structural

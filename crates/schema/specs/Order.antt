@@ -9,7 +9,7 @@ order =
     refusal.done ∷ refusal.short_store ∷ refusal.broken_shape ∷ refusal.not_in_order ∷ refusal.unreadable ∷ refusal.no_such_row ∷ refusal.no_free_row ∷
     refusal.wrong_state ∷ refusal.base_row ∷ refusal.added_base_row ∷ refusal.entry_conflict ∷ refusal.still_needed ∷ refusal.name_invalid ∷ refusal.name_taken ∷
     refusal.identifier_invalid ∷ refusal.identifier_taken ∷ refusal.guid_taken ∷ refusal.attribute_not_live ∷ refusal.class_not_live ∷ refusal.not_an_auxiliary ∷
-    refusal.not_aSuperior ∷ refusal.root_not_abstract ∷ refusal.abstract_under_other ∷ refusal.auxiliary_under_structural ∷ refusal.structural_under_auxiliary ∷
+    refusal.not_a_superior ∷ refusal.root_not_abstract ∷ refusal.abstract_under_other ∷ refusal.auxiliary_under_structural ∷ refusal.structural_under_auxiliary ∷
     refusal.naming_unfit ∷ refusal.mapi_taken ∷ refusal.range_crossed ∷ refusal.syntax_misfit ∷ refusal.object_class_wrong ∷
     refusal.link_taken ∷ refusal.link_alone ∷ refusal.link_syntax_unfit ∷ refusal.mandatory_differs ∷ refusal.short_output ∷ []
 

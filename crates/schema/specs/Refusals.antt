@@ -82,8 +82,8 @@ abbrev pub not_an_auxiliary : ℕ
 not_an_auxiliary = 19
 
 -- "20 A possible superior not of category 0 or 1."
-abbrev pub not_aSuperior : ℕ
-not_aSuperior = 20
+abbrev pub not_a_superior : ℕ
+not_a_superior = 20
 
 -- "21 keeps 'row 0 not abstract'"
 abbrev pub root_not_abstract : ℕ

@@ -73,5 +73,5 @@ returns-in_default c =
     sym
     (numbered_unlike (λ r. r.breaks (schema_in c.args.attributes.now c.args.classes.now) Classes c.args.c.0) (λ n. refl)
     (refusal.naming_unfit ∷ refusal.structural_under_auxiliary ∷ refusal.auxiliary_under_structural ∷ refusal.abstract_under_other ∷
-    refusal.root_not_abstract ∷ refusal.not_aSuperior ∷ refusal.not_an_auxiliary ∷ refusal.class_not_live ∷ refusal.attribute_not_live ∷ [])
+    refusal.root_not_abstract ∷ refusal.not_a_superior ∷ refusal.not_an_auxiliary ∷ refusal.class_not_live ∷ refusal.attribute_not_live ∷ [])
     common_numbers (schema_rules c.args.added) c.args.number c.in_default.in_default-own.rest c.requires.2 (unfold strays among in refl))

@@ -1,0 +1,87 @@
+use Prim.Native.Nat.{◌+◌}
+use native.Mathlib.Omega.{arith}
+use mathlib.Core.Path.{ap, ◌∙◌, sym}
+use mathlib.Core.Bool.{true≢false}
+use borrow.Author.Rules.{rules}
+use Rattle.change_rows.proofs.Editing.{common_row}
+use Rattle.change_rows.specs.Rows.{edited_row, is_addition}
+use Rattle.change_rows.specs.RowsLaws.{wide_row}
+use Rattle.prelude.specs.PartLaws.{part_short}
+use Rattle.prelude.specs.SpliceLaws.{set_splice}
+use Rattle.schema.specs.Layout.{defunct_at, name_limit}
+use Rattle.rows_format.specs.Formats.{new_lower_at, new_name_at}
+use Rattle.change_rows.proofs.edit.edit_row.Goals as goal
+
+pub put_bytes-requires : goal.put_bytes-requires
+put_bytes-requires c =
+    rw c.new_range.ensures (omega (
+      arith,
+      (part_short new_lower_at 10 c.args.scratch.now).0,
+      wide_row c.args.row.now
+          c.in-SetRange.is c.requires.2,
+    ))
+
+pub put_bytes-requires-in-Rename : goal.put_bytes-requires-in-Rename
+put_bytes-requires-in-Rename c =
+    rw c.new_name.ensures (omega (
+      arith,
+      (part_short new_name_at (1 + name_limit) c.args.scratch.now).0,
+      common_row c.args.change
+          c.args.row.now c.requires.2,
+    ))
+
+pub bounds-row-150 : goal.bounds-row-150
+bounds-row-150 c =
+    omega (arith, common_row c.args.change c.args.row.now c.requires.2)
+
+pub bounds-row-150-in-Reactivate : goal.bounds-row-150-in-Reactivate
+bounds-row-150-in-Reactivate c =
+    omega (arith, common_row c.args.change c.args.row.now c.requires.2)
+
+pub add_entry-requires : goal.add_entry-requires
+add_entry-requires c =
+    (c.requires.1, wide_row c.args.row.now c.in-AddEntry.is c.requires.2)
+
+pub remove_entry-requires : goal.remove_entry-requires
+remove_entry-requires c =
+    (c.requires.1, wide_row c.args.row.now c.in-RemoveEntry.is c.requires.2)
+
+pub returns-in-Add : goal.returns-in-Add
+returns-in-Add c =
+    absurd (true≢false (sym (ap is_addition c.in-Add.is) ∙ c.requires.0))
+
+pub returns-in-SetRange : goal.returns-in-SetRange
+unfolding edited_row
+returns-in-SetRange c =
+    rw (c.in-SetRange.is, ← c.new_range.ensures) c.put_bytes.ensures.bytes
+
+pub returns-in-Rename : goal.returns-in-Rename
+unfolding edited_row
+returns-in-Rename c =
+    rw (c.in-Rename.is, ← c.new_name.ensures) c.put_bytes-in-Rename.ensures.bytes
+
+pub returns-in-Deactivate : goal.returns-in-Deactivate
+unfolding edited_row
+returns-in-Deactivate c =
+    rw c.in-Deactivate.is (set_splice defunct_at 1 c.args.row.now (omega (
+      arith,
+      common_row c.args.change
+          c.args.row.now c.requires.2,
+    )))
+
+pub returns-in-Reactivate : goal.returns-in-Reactivate
+unfolding edited_row
+returns-in-Reactivate c =
+    rw c.in-Reactivate.is (set_splice defunct_at 0 c.args.row.now (omega (
+      arith,
+      common_row c.args.change
+          c.args.row.now c.requires.2,
+    )))
+
+pub returns-in-AddEntry : goal.returns-in-AddEntry
+returns-in-AddEntry c =
+    rw c.in-AddEntry.is c.add_entry.ensures
+
+pub returns-in-RemoveEntry : goal.returns-in-RemoveEntry
+returns-in-RemoveEntry c =
+    rw c.in-RemoveEntry.is c.remove_entry.ensures
