@@ -1,5 +1,6 @@
 // The sheet of a schema: how long it is, and its bytes written into a lent output.
 #![tactic(auto)]
+
 ghost use Rattle.std.specs.Prelude.{◌≡◌, ◌+◌, ◌≤◌, length};
 ghost use Rattle.prelude.specs.Part.{splice};
 ghost use Rattle.prelude.specs.Written.{WrittenAt};

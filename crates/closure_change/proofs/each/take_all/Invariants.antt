@@ -1,0 +1,19 @@
+use mathlib.Core.Path.{◌≡◌, refl}
+use Prim.Native.Nat.{◌≤◌, ◌-◌}
+use lib.ListN.{length}
+use Rattle.schema.specs.Numbers.{class_limit}
+use Rattle.closure_change.proofs.Holding.{Done, done_none, done_more, done_length, done_end}
+use Rattle.schema.specs.Store.{closure_at}
+use Rattle.closure_change.specs.KeptLaws.{kept_length}
+use Prim.Native.Nat.{◌+◌}
+use Rattle.closure_change.specs.Kept.{taken_from}
+use native.Mathlib.Omega.{arith}
+use borrow.Author.Rules.{rules}
+use Rattle.closure_change.proofs.each.take_all.Given as goal
+
+abbrev pub invariant-loop-c : goal.invariant-loop-c
+invariant-loop-c l = (l.c ≤ class_limit) × (length l.closure ≡ length l.initial.closure)
+    × Done l.n l.k.0 (λ i row. closure_at l.fresh i) l.initial.closure l.c l.closure
+
+abbrev pub decreases-loop-c : goal.decreases-loop-c
+decreases-loop-c l = class_limit - l.c
