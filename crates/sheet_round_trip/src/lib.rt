@@ -1,1 +1,2 @@
 // The round trips of whole sheets: no code, only laws.
+#![tactic(auto)]

@@ -1,0 +1,65 @@
+use mathlib.Core.Path.{ap, sym, ◌∙◌}
+use Rattle.schema.specs.NumbersLaws.{class_is, class_beyond}
+use Rattle.schema.specs.Store.{stores, table_in}
+use Rattle.schema.specs.declared.number.TableId.TheVariants.{Classes}
+use Rattle.graph.specs.Depth.{depth_of, depth_answer}
+use Rattle.keeper.specs.CheckedLaws.{in_shape, readable_classes}
+use Rattle.keeper.specs.EndLaws.{depth_refused, depth_absent, depth_present}
+use native.Mathlib.Omega.{arith}
+use borrow.Author.Rules.{rules}
+use Rattle.keeper.proofs.depth.depth.Goals as goal
+
+pub returns-then-shape-ne-DONE : goal.returns-then-shape-ne-DONE
+returns-then-shape-ne-DONE c =
+    depth_refused (stores c.args.attributes.now c.args.classes.now c.args.closure.now) c.args.class
+    c.check_shape-shape.ensures c.if-shape-ne-DONE.true
+
+pub returns-in_default : goal.returns-in_default
+returns-in_default c =
+    let class = c.args.class in
+    let attributes = c.args.attributes.now in
+    let classes = c.args.classes.now in
+    let closure = c.args.closure.now in
+    let beyond = class_beyond class (sym c.new.ensures ∙ c.in_default.is) in
+    c.refused.ensures ∙ depth_absent (stores attributes classes closure) class c.check_shape-shape.ensures c.if-shape-ne-DONE.false
+    (omega (arith, beyond, (readable_classes (stores attributes classes closure) c.check_shape-shape.ensures c.if-shape-ne-DONE.false).few))
+
+pub row_count-requires : goal.row_count-requires
+row_count-requires c =
+    (in_shape (stores c.args.attributes.now c.args.classes.now c.args.closure.now) c.check_shape-shape.ensures
+    c.if-shape-ne-DONE.false).long.classes
+
+pub returns-then-c-row_count : goal.returns-then-c-row_count
+returns-then-c-row_count c =
+    let class = c.args.class in
+    let w = class_is class _ (sym c.new.ensures ∙ c.in-Class.is) in
+    c.refused-then-c-row_count.ensures ∙ depth_absent (stores c.args.attributes.now c.args.classes.now c.args.closure.now) class
+    c.check_shape-shape.ensures c.if-shape-ne-DONE.false (omega (arith, w.0, c.if-c-row_count.true, c.row_count.ensures))
+
+pub depth_of-requires : goal.depth_of-requires
+depth_of-requires c =
+    let attributes = c.args.attributes.now in
+    let classes = c.args.classes.now in
+    let closure = c.args.closure.now in (
+      (in_shape (stores attributes classes closure) c.check_shape-shape.ensures c.if-shape-ne-DONE.false).long.classes,
+      omega
+          (arith, c.if-c-row_count.false, c.row_count.ensures, (readable_classes (stores attributes classes closure) c.check_shape-shape.ensures c.if-shape-ne-DONE.false).few),
+    )
+
+pub returns-in-Steps : goal.returns-in-Steps
+returns-in-Steps c =
+    let class = c.args.class in
+    let classes = c.args.classes.now in
+    let w = class_is class _ (sym c.new.ensures ∙ c.in-Class.is) in
+    c.done.ensures ∙ ap depth_answer (sym c.in-Steps.is ∙ c.depth_of.ensures ∙ ap (depth_of (table_in Classes classes)) (sym w.0)) ∙
+    depth_present (stores c.args.attributes.now classes c.args.closure.now) class c.check_shape-shape.ensures c.if-shape-ne-DONE.false
+    (omega (arith, w.0, c.if-c-row_count.false, c.row_count.ensures))
+
+pub returns-in-NotEarlier : goal.returns-in-NotEarlier
+returns-in-NotEarlier c =
+    let class = c.args.class in
+    let classes = c.args.classes.now in
+    let w = class_is class _ (sym c.new.ensures ∙ c.in-Class.is) in
+    c.refused-in-NotEarlier.ensures ∙ ap depth_answer (sym c.in-NotEarlier.is ∙ c.depth_of.ensures ∙ ap (depth_of (table_in Classes classes)) (sym w.0)) ∙
+    depth_present (stores c.args.attributes.now classes c.args.closure.now) class c.check_shape-shape.ensures c.if-shape-ne-DONE.false
+    (omega (arith, w.0, c.if-c-row_count.false, c.row_count.ensures))
