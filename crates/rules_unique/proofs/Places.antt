@@ -1,9 +1,9 @@
 -- All rows in one pass: a row whose mark was not met before has no rival among the rows before it.
-use mathlib.Core.Bool.{Bool, true, false, cond, ◌&&◌, ◌||◌, true≢false}
+use mathlib.Core.Bool.{Bool, true, false, ◌&&◌, ◌||◌, true≢false}
 use mathlib.Core.List.{List}
 use mathlib.Core.Logic.{◌⊎◌, inl, inr, ⊎_elim}
 use mathlib.Core.Path.{◌≡◌, refl, sym, ap, ap₂, subst, ◌∙◌}
-use Prim.Native.Nat.{ℕ, zero, suc, ◌+◌, ◌-◌, ◌*◌, ◌%◌, ◌<◌, ◌≤◌}
+use Prim.Native.Nat.{ℕ, zero, suc, ◌+◌, ◌*◌, ◌%◌, ◌<◌, ◌≤◌}
 use native.Mathlib.Decide.{ℕ_discrete, dec_lt}
 use native.Mathlib.Nat.{mod-lt, zero-lt-suc}
 use native.Mathlib.Numerals.{add-one}
@@ -12,7 +12,7 @@ use lib.Bits.{bit_and, and_mask}
 use lib.ListN.{length, get_or}
 use Rattle.prelude.specs.Below.{any_below}
 use Rattle.prelude.specs.BelowLaws.{any_false, any_here, last_or_less}
-use Rattle.prelude.specs.SaysLaws.{choose, says_eq, says_lt, says_true, says_false, true_or_false}
+use Rattle.prelude.specs.SaysLaws.{choose, says_eq, says_false, true_or_false}
 use Rattle.sets.specs.Sets.{member, with_member}
 use Rattle.sets.specs.SetsLaws.{bit_with, bit_with_other, says_member}
 use Rattle.schema.specs.declared.number.TableId.{TableId}

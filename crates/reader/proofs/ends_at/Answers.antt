@@ -1,4 +1,3 @@
-use borrow.Author.Rules.{rules}
 use Rattle.reader.specs.ReaderLaws.{step_ended}
 use Rattle.reader.proofs.ends_at.Goals as goal
 

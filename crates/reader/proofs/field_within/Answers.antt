@@ -1,6 +1,5 @@
 use mathlib.Core.Path.{◌∙◌}
 use native.Mathlib.Omega.{arith}
-use borrow.Author.Rules.{rules}
 use Rattle.reader.specs.ReaderLaws.{step_field}
 use Rattle.reader.proofs.Front.{front_field, front_length}
 use Rattle.reader.proofs.field_within.Goals as goal

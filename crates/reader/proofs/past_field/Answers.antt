@@ -1,13 +1,7 @@
-use mathlib.Core.List.{[], ◌∷◌}
 use mathlib.Core.Path.{◌≡◌, refl, sym, ap, ◌∙◌}
 use Prim.Native.Nat.{ℕ}
-use denote.Enum.Declared.{tag_of}
-use types.Run.{OneOf}
-use native.Mathlib.Omega.{arith}
-use borrow.Author.Rules.{rules}
 use Rattle.wire.specs.declared.FieldRead.{FieldRead}
 use Rattle.wire.specs.declared.FieldRead.TheVariants as fields
-use Rattle.wire.specs.contracts.FieldRead
 use Rattle.reader.specs.Reader.{past_read, past_field}
 use Rattle.reader.proofs.past_field.Goals as goal
 

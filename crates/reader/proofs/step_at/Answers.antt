@@ -1,5 +1,4 @@
-use Rattle.std.proofs.Common.{rules}
-use Rattle.reader.specs.Reader.{past_field, step_at}
+use Rattle.reader.specs.Reader.{step_at}
 use Rattle.reader.proofs.step_at.Goals as goal
 
 pub returns : goal.returns

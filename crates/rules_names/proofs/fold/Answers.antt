@@ -2,7 +2,6 @@ use mathlib.Core.Path.{sym, ◌∙◌}
 use Rattle.rules_names.specs.Name.{folded}
 use Rattle.rules_names.specs.NameLaws.{says_between}
 use native.Mathlib.Omega.{arith}
-use borrow.Author.Rules.{rules}
 use Rattle.rules_names.proofs.fold.Goals as goal
 
 pub overflow_add-result : goal.overflow_add-result

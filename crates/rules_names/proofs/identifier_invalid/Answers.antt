@@ -1,7 +1,6 @@
 use borrow.Author.Tests.{lt-ltb, le-ltb}
 use Rattle.rules_names.specs.Name.{identifier_invalid}
 use native.Mathlib.Omega.{arith}
-use borrow.Author.Rules.{rules}
 use Rattle.rules_names.proofs.identifier_invalid.Goals as goal
 
 pub returns-then-arc_count-lt2 : goal.returns-then-arc_count-lt2

@@ -1,5 +1,4 @@
 use Rattle.rules_names.specs.Name.{is_letter}
-use borrow.Author.Rules.{rules}
 use Rattle.rules_names.proofs.is_letter.Goals as goal
 
 pub returns-then-is_between : goal.returns-then-is_between

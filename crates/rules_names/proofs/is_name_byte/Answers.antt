@@ -1,5 +1,4 @@
 use Rattle.rules_names.specs.Name.{is_name_byte}
-use borrow.Author.Rules.{rules}
 use Rattle.rules_names.proofs.is_name_byte.Goals as goal
 
 pub returns-then-is_letter : goal.returns-then-is_letter

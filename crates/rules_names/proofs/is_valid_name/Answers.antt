@@ -1,11 +1,9 @@
 use Rattle.rules_names.specs.Name.{is_letter, is_name_byte, valid_name}
-use mathlib.Core.Bool.{and-false, true}
-use mathlib.Core.Path.{◌≡◌, sym, ap, ◌∙◌}
-use Prim.Native.Nat.{◌-◌, ◌≤◌}
+use mathlib.Core.Bool.{and-false}
+use mathlib.Core.Path.{sym, ap, ◌∙◌}
 use borrow.Author.Tests.{not-true, not-false}
 use lib.ListN.{length, get_or}
 use Rattle.prelude.specs.SaysLaws.{says_false}
-use Rattle.prelude.specs.Below.{all_below}
 use Rattle.prelude.specs.BelowLaws.{all_zero, all_more, all_not, all_end}
 use Rattle.rules_names.specs.NameLaws.{says_valid}
 use native.Mathlib.Omega.{arith}

@@ -1,5 +1,4 @@
 use Rattle.rules_names.specs.Name.{name_invalid}
-use borrow.Author.Rules.{rules}
 use Rattle.rules_names.proofs.name_invalid.Goals as goal
 
 pub returns : goal.returns

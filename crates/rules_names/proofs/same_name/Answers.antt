@@ -1,10 +1,8 @@
-use mathlib.Core.Bool.{and-false, true}
-use mathlib.Core.Path.{◌≡◌, sym, ap, ◌∙◌}
-use Prim.Native.Nat.{◌-◌, ◌≤◌}
+use mathlib.Core.Bool.{and-false}
+use mathlib.Core.Path.{sym, ap, ◌∙◌}
 use borrow.Author.Tests.{eq-eqb, ne_eqb}
 use lib.Dec.{eqb}
 use lib.ListN.{length, get_or}
-use Rattle.prelude.specs.Below.{all_below}
 use Rattle.prelude.specs.BelowLaws.{all_zero, all_more, all_not, all_end}
 use Rattle.rules_names.specs.Name.{folded, same_name}
 use borrow.Author.Rules.{rules}

@@ -1,4 +1,3 @@
-use borrow.Author.Rules.{rules}
 use Rattle.rules_unique.specs.Unique.{has_key}
 use Rattle.rules_unique.proofs.has_key.Goals as goal
 

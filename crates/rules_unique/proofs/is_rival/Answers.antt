@@ -1,5 +1,4 @@
 use mathlib.Core.Path.{sym, ◌∙◌}
-use borrow.Author.Rules.{rules}
 use Rattle.schema.specs.Numbers.{table_of, number_of}
 use Rattle.rules_unique.specs.UniqueLaws.{row_keyed}
 use Rattle.rules_unique.proofs.is_rival.Goals as goal

@@ -4,7 +4,6 @@ use Rattle.tables.specs.ShapedLaws.{shaped_within}
 use Rattle.schema.specs.Numbers.{table_of, number_of}
 use mathlib.Core.Path.{sym, ap, ◌∙◌}
 use borrow.Author.Tests.{not-true, not-false}
-use borrow.Author.Rules.{rules}
 use Rattle.rules_unique.proofs.is_taken.Goals as goal
 
 pub returns-then-not-has_key : goal.returns-then-not-has_key

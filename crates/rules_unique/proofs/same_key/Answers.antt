@@ -1,5 +1,4 @@
 use native.Mathlib.Omega.{arith}
-use borrow.Author.Rules.{rules}
 use Rattle.rules_unique.specs.Unique.{same_key}
 use Rattle.rules_unique.proofs.same_key.Goals as goal
 

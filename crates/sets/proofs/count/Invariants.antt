@@ -1,11 +1,7 @@
-use mathlib.Core.Path.{◌≡◌, ap, ◌∙◌}
-use Prim.Native.Nat.{ℕ, ◌≤◌, ◌*◌, ◌-◌}
-use lib.Count.{ones-le}
+use mathlib.Core.Path.{◌≡◌}
+use Prim.Native.Nat.{◌≤◌, ◌*◌, ◌-◌}
 use lib.ListN.{length}
-use Rattle.sets.specs.Sets.{member, count_below, member_count}
-use Rattle.sets.specs.CountLaws.{count_le, count_byte}
-use native.Mathlib.Omega.{arith}
-use borrow.Author.Rules.{rules}
+use Rattle.sets.specs.Sets.{member, count_below}
 use Rattle.sets.proofs.count.Given as goal
 
 abbrev pub invariant-loop-i : goal.invariant-loop-i

@@ -1,5 +1,4 @@
 use Rattle.sets.proofs.Bytes.{inserted}
-use borrow.Author.Rules.{rules}
 use Rattle.sets.proofs.insert_within.Goals as goal
 
 pub returns : goal.returns

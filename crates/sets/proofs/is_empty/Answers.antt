@@ -1,6 +1,5 @@
 use mathlib.Core.Path.{◌∙◌}
 use Rattle.sets.proofs.Bytes.{zero_empty}
-use borrow.Author.Rules.{rules}
 use Rattle.sets.proofs.is_empty.Goals as goal
 
 pub returns : goal.returns

@@ -1,8 +1,7 @@
-use mathlib.Core.Path.{◌≡◌, sym}
-use Prim.Native.Nat.{ℕ, ◌≤◌, ◌<◌, ◌-◌}
+use mathlib.Core.Path.{sym}
+use Prim.Native.Nat.{◌≤◌}
 use borrow.Author.Count.{below_none, below_more}
-use lib.Bits.{bit_or}
-use lib.ListN.{length, get_or}
+use lib.ListN.{length}
 use Rattle.prelude.specs.SaysLaws.{says_true, says_false}
 use Rattle.sets.specs.SetsLaws.{says_subset}
 use Rattle.sets.proofs.Bytes.{subset_byte, subset_bytes}

@@ -1,13 +1,7 @@
-use mathlib.Core.Path.{◌≡◌, sym}
+use mathlib.Core.Path.{◌≡◌}
 use Prim.Native.Nat.{ℕ, ◌≤◌, ◌<◌, ◌-◌}
-use borrow.Author.Count.{below_none, below_more}
 use lib.Bits.{bit_or}
 use lib.ListN.{length, get_or}
-use Rattle.prelude.specs.SaysLaws.{says_true, says_false}
-use Rattle.sets.specs.SetsLaws.{says_subset}
-use Rattle.sets.proofs.Bytes.{subset_byte, subset_bytes}
-use native.Mathlib.Omega.{arith}
-use borrow.Author.Rules.{rules}
 use Rattle.sets.proofs.is_subset.Given as goal
 
 abbrev pub invariant-loop-i : goal.invariant-loop-i

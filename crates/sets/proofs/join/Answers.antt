@@ -1,8 +1,8 @@
 use mathlib.Core.Path.{◌≡◌, ap, ◌∙◌}
-use Prim.Native.Nat.{ℕ, ◌<◌, ◌-◌}
+use Prim.Native.Nat.{ℕ, ◌<◌}
 use lib.Bits.{bit_or}
 use lib.ListN.{length, get_or}
-use Rattle.prelude.proofs.Fill.{Filled, fill_none, fill_more, fill_later, fill_all}
+use Rattle.prelude.proofs.Fill.{fill_none, fill_more, fill_later, fill_all}
 use Rattle.sets.specs.Sets.{union}
 use Rattle.sets.specs.SetsLaws.{union_length}
 use Rattle.sets.proofs.Bytes.{union_byte}

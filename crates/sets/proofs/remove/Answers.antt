@@ -1,7 +1,6 @@
 use mathlib.Core.Path.{sym}
 use native.Mathlib.Omega.{arith}
 use Rattle.sets.specs.SetsLaws.{without_beyond}
-use borrow.Author.Rules.{rules}
 use Rattle.sets.proofs.remove.Goals as goal
 
 pub returns-else-n-s : goal.returns-else-n-s

@@ -1,5 +1,4 @@
 use Rattle.sets.proofs.Bytes.{removed}
-use borrow.Author.Rules.{rules}
 use Rattle.sets.proofs.remove_within.Goals as goal
 
 pub returns : goal.returns

@@ -1,6 +1,5 @@
 use Rattle.wire.specs.WireLaws.{field_end, field_short, field_past, field_whole}
 use native.Mathlib.Omega.{arith}
-use borrow.Author.Rules.{rules}
 use Rattle.wire.proofs.field_at.Goals as goal
 
 pub returns-then-at-end : goal.returns-then-at-end

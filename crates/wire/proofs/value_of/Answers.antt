@@ -1,6 +1,5 @@
 use mathlib.Core.Path.{refl}
 use Rattle.prelude.specs.Part.{part}
-use borrow.Author.Rules.{rules}
 use Rattle.wire.proofs.value_of.Goals as goal
 
 pub returns : goal.returns

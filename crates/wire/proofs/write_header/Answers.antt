@@ -1,8 +1,6 @@
-use mathlib.Core.Path.{◌∙◌}
 use lib.ListN.{length-set}
 use Rattle.wire.specs.WireLaws.{header_written}
 use native.Mathlib.Omega.{arith}
-use borrow.Author.Rules.{rules}
 use Rattle.wire.proofs.write_header.Goals as goal
 
 pub write_u16-requires : goal.write_u16-requires

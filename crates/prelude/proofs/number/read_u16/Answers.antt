@@ -1,6 +1,5 @@
 use Rattle.prelude.specs.BigEndianLaws.{two_bytes}
 use native.Mathlib.Omega.{arith}
-use borrow.Author.Rules.{rules}
 use Rattle.prelude.proofs.number.read_u16.Goals as goal
 
 pub returns : goal.returns

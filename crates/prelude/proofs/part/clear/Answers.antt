@@ -1,9 +1,6 @@
 use mathlib.Core.Path.{sym}
-use Prim.Native.Nat.{◌-◌}
-use lib.ListN.{length}
-use Rattle.prelude.specs.Part.{zeros}
 use Rattle.prelude.specs.PartLaws.{zeros_length, zeros_at}
-use Rattle.prelude.proofs.Fill.{Filled, fill_none, fill_more, fill_all}
+use Rattle.prelude.proofs.Fill.{fill_none, fill_more, fill_all}
 use borrow.Author.Rules.{rules}
 use Rattle.prelude.proofs.part.clear.Goals as goal
 

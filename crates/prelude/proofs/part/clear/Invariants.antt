@@ -1,10 +1,7 @@
-use mathlib.Core.Path.{sym}
 use Prim.Native.Nat.{◌-◌}
 use lib.ListN.{length}
 use Rattle.prelude.specs.Part.{zeros}
-use Rattle.prelude.specs.PartLaws.{zeros_length, zeros_at}
-use Rattle.prelude.proofs.Fill.{Filled, fill_none, fill_more, fill_all}
-use borrow.Author.Rules.{rules}
+use Rattle.prelude.proofs.Fill.{Filled}
 use Rattle.prelude.proofs.part.clear.Given as goal
 
 abbrev pub invariant-loop-i : goal.invariant-loop-i

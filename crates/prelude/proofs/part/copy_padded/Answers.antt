@@ -2,10 +2,9 @@ use mathlib.Core.Path.{◌≡◌, refl, sym, ap, ◌∙◌}
 use mathlib.Core.List.{List, ◌++◌, append-nil}
 use Prim.Native.Nat.{ℕ, ◌-◌, ◌≤◌}
 use lib.ListN.{length, take, drop, length-append, length-drop, drop_of_length-le}
-use lib.Seq.{take-length, take_at, take_all}
+use lib.Seq.{take_at, take_all}
 use Rattle.prelude.specs.Part.{zeros, padded}
 use native.Mathlib.Omega.{arith}
-use borrow.Author.Rules.{rules}
 use Rattle.prelude.proofs.part.copy_padded.Goals as goal
 
 -- the bytes of s and then zeros to the end: d after the copy is e, and its rest came back as `back`

@@ -1,6 +1,5 @@
 use mathlib.Core.Path.{refl}
 use Rattle.prelude.specs.PartLaws.{part_cut}
-use borrow.Author.Rules.{rules}
 use Rattle.prelude.proofs.part.part_of.Goals as goal
 
 pub returns : goal.returns

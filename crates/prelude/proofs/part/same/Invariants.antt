@@ -1,13 +1,7 @@
-use mathlib.Core.Path.{◌≡◌, sym, ap}
+use mathlib.Core.Path.{◌≡◌}
 use mathlib.Core.List.{List}
-use Prim.Native.Nat.{ℕ, ◌≤◌, ◌<◌, ◌-◌}
-use native.Mathlib.Decide.{ℕ_discrete}
+use Prim.Native.Nat.{ℕ, ◌≤◌, ◌<◌}
 use lib.ListN.{length, get_or}
-use lib.Seq.{ext_get_or}
-use Rattle.prelude.specs.SaysLaws.{says_true, says_false}
-use Rattle.prelude.specs.PartLaws.{says_same_bytes}
-use native.Mathlib.Omega.{arith}
-use borrow.Author.Rules.{rules}
 use Rattle.prelude.proofs.part.same.Given as goal
 
 -- the bytes from i on are the same

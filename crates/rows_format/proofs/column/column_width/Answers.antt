@@ -1,6 +1,5 @@
 use Rattle.rows_format.specs.Columns.{column_width}
 use native.Mathlib.Omega.{arith}
-use borrow.Author.Rules.{rules}
 use Rattle.rows_format.proofs.column.column_width.Goals as goal
 
 pub room_of-requires : goal.room_of-requires

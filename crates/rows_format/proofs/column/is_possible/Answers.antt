@@ -1,5 +1,4 @@
 use Rattle.rows_format.specs.Columns.{possible}
-use borrow.Author.Rules.{rules}
 use Rattle.rows_format.proofs.column.is_possible.Goals as goal
 
 pub returns-in-Required : goal.returns-in-Required

@@ -1,5 +1,4 @@
 use Rattle.rows_format.specs.Columns.{mark}
-use borrow.Author.Rules.{rules}
 use Rattle.rows_format.proofs.column.mark_of.Goals as goal
 
 pub returns-in-Marked : goal.returns-in-Marked

@@ -1,7 +1,6 @@
 use mathlib.Core.Path.{ap}
 use Rattle.rows_format.specs.Encodings.{room}
 use native.Mathlib.Omega.{arith}
-use borrow.Author.Rules.{rules}
 use Rattle.rows_format.proofs.column.room_of.Goals as goal
 
 pub overflow_add-result : goal.overflow_add-result

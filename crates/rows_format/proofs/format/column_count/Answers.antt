@@ -1,5 +1,4 @@
 use Rattle.rows_format.specs.Formats.{columns_of, range_columns, name_columns, target_columns, entry_columns, may_be_defunct, never_defunct}
-use borrow.Author.Rules.{rules}
 use Rattle.rows_format.proofs.format.column_count.Goals as goal
 
 pub returns-in-Row : goal.returns-in-Row

@@ -1,5 +1,4 @@
 use Rattle.rows_format.specs.Formats.{columns_of}
-use borrow.Author.Rules.{rules}
 use Rattle.rows_format.proofs.format.column_of.Goals as goal
 
 pub returns-in-Row : goal.returns-in-Row

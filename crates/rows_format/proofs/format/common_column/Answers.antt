@@ -2,7 +2,6 @@ use mathlib.Core.Path.{◌∙◌, sym}
 use lib.ListN.{get_or-eq_default}
 use Rattle.rows_format.specs.Formats.{common_columns, no_column}
 use Rattle.prelude.specs.UnlikeLaws.{unlike_past}
-use borrow.Author.Rules.{rules}
 use Rattle.rows_format.proofs.format.common_column.Goals as goal
 
 pub returns-in-0 : goal.returns-in-0

@@ -1,5 +1,4 @@
 use Rattle.rows_format.specs.Formats.{format_width}
-use borrow.Author.Rules.{rules}
 use Rattle.rows_format.proofs.format.format_width.Goals as goal
 
 pub returns-in-Row : goal.returns-in-Row

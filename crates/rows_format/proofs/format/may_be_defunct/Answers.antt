@@ -1,4 +1,3 @@
-use borrow.Author.Rules.{rules}
 use Rattle.rows_format.proofs.format.may_be_defunct.Goals as goal
 
 pub returns : goal.returns

@@ -1,4 +1,3 @@
-use borrow.Author.Rules.{rules}
 use Rattle.rows_format.proofs.format.never_defunct.Goals as goal
 
 pub returns : goal.returns

@@ -1,5 +1,4 @@
 use Rattle.rows_format.specs.Formats.{no_column}
-use borrow.Author.Rules.{rules}
 use Rattle.rows_format.proofs.format.no_column.Goals as goal
 
 pub returns : goal.returns

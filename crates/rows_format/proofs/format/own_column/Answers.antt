@@ -1,5 +1,4 @@
 use Rattle.rows_format.specs.Formats.{own_columns}
-use borrow.Author.Rules.{rules}
 use Rattle.rows_format.proofs.format.own_column.Goals as goal
 
 pub returns-in-Attributes : goal.returns-in-Attributes

@@ -2,7 +2,6 @@ use mathlib.Core.Path.{sym, ◌∙◌}
 use lib.ListN.{get_or-append}
 use Rattle.rows_format.specs.Formats.{common_columns, own_columns, no_column}
 use Rattle.rows_format.proofs.Arms.{common_long, common_past}
-use borrow.Author.Rules.{rules}
 use Rattle.rows_format.proofs.format.row_column.Goals as goal
 
 pub returns-then-i-lt-COMMON : goal.returns-then-i-lt-COMMON

@@ -1,6 +1,5 @@
 use mathlib.Core.Path.{refl}
 use Rattle.rows_format.specs.Formats.{common_columns, attribute_columns, class_columns, own_columns}
-use borrow.Author.Rules.{rules}
 use Rattle.rows_format.proofs.format.row_columns.Goals as goal
 
 pub returns-in-Attributes : goal.returns-in-Attributes

@@ -1,4 +1,3 @@
-use borrow.Author.Rules.{rules}
 use borrow.Author.Tests.{eq-eqb, ne_eqb}
 use Rattle.rules_attribute.specs.Links.{is_back_link, link_syntax_fits}
 use Rattle.rules_attribute.proofs.link.link_syntax_fits.Goals as goal

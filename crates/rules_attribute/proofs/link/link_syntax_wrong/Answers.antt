@@ -1,4 +1,3 @@
-use borrow.Author.Rules.{rules}
 use Rattle.rules_attribute.specs.Links.{link_syntax_wrong}
 use Rattle.rules_attribute.proofs.link.link_syntax_wrong.Goals as goal
 

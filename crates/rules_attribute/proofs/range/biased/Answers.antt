@@ -1,5 +1,4 @@
 use mathlib.Core.Path.{sym}
-use borrow.Author.Rules.{rules}
 use Rattle.rules_attribute.specs.RangeLaws.{biased_low, biased_high}
 use Rattle.rules_attribute.proofs.range.biased.Goals as goal
 

@@ -1,4 +1,3 @@
-use borrow.Author.Rules.{rules}
 use Rattle.rules_attribute.specs.Range.{range_wrong, ends_crossed}
 use Rattle.rules_attribute.proofs.range.range_wrong.Goals as goal
 

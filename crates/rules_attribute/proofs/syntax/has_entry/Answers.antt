@@ -1,8 +1,5 @@
-use mathlib.Core.Bool.{false}
-use mathlib.Core.Path.{◌≡◌, sym, ◌∙◌}
-use Prim.Native.Nat.{◌-◌, ◌≤◌}
+use mathlib.Core.Path.{sym, ◌∙◌}
 use borrow.Author.Rules.{rules}
-use Rattle.prelude.specs.Below.{any_below}
 use Rattle.prelude.specs.BelowLaws.{any_zero, any_more, any_here, any_end}
 use Rattle.schema.specs.ObjectClasses.{entry_says, entry_count}
 use Rattle.rules_attribute.proofs.syntax.has_entry.Goals as goal

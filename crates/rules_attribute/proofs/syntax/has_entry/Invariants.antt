@@ -1,9 +1,7 @@
 use mathlib.Core.Bool.{false}
-use mathlib.Core.Path.{◌≡◌, sym, ◌∙◌}
+use mathlib.Core.Path.{◌≡◌}
 use Prim.Native.Nat.{◌-◌, ◌≤◌}
-use borrow.Author.Rules.{rules}
 use Rattle.prelude.specs.Below.{any_below}
-use Rattle.prelude.specs.BelowLaws.{any_zero, any_more, any_here, any_end}
 use Rattle.schema.specs.ObjectClasses.{entry_says, entry_count}
 use Rattle.rules_attribute.proofs.syntax.has_entry.Given as goal
 

@@ -1,10 +1,9 @@
-use mathlib.Core.Bool.{false, ◌&&◌}
-use mathlib.Core.Path.{◌≡◌, sym, ◌∙◌}
-use Prim.Native.Nat.{◌+◌, ◌-◌, ◌≤◌, ◌*◌}
+use mathlib.Core.Bool.{◌&&◌}
+use mathlib.Core.Path.{sym, ◌∙◌}
+use Prim.Native.Nat.{◌+◌, ◌*◌}
 use lib.Dec.{eqb}
 use lib.ListN.{get_or}
 use borrow.Author.Rules.{rules}
-use Rattle.prelude.specs.Below.{any_below}
 use Rattle.prelude.specs.BelowLaws.{any_zero, any_more, any_here, any_end}
 use Rattle.rules_attribute.specs.Syntax.{pair_count}
 use Rattle.rules_attribute.proofs.syntax.has_pair.Goals as goal

@@ -1,5 +1,4 @@
 use native.Mathlib.Omega.{arith}
-use borrow.Author.Rules.{rules}
 use borrow.Author.Tests.{eq-eqb, ne_eqb}
 use Rattle.schema.specs.ObjectClassesLaws.{entry_length}
 use Rattle.rules_attribute.proofs.syntax.is_entry.Goals as goal

@@ -1,4 +1,3 @@
-use borrow.Author.Rules.{rules}
 use Rattle.schema.specs.ObjectClasses.{object_class_fits}
 use Rattle.schema.specs.ObjectClassesLaws.{entries_whole}
 use Rattle.rules_attribute.proofs.syntax.object_class_fits.Goals as goal

@@ -1,4 +1,3 @@
-use borrow.Author.Rules.{rules}
 use Rattle.rules_attribute.specs.Syntax.{syntax_fits}
 use Rattle.rules_attribute.proofs.syntax.syntax_fits.Goals as goal
 

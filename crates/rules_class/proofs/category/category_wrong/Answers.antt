@@ -1,15 +1,13 @@
 use Rattle.rules_class.proofs.Bytewise.{any_bytes}
 use Rattle.rules_class.specs.Category.{category_wrong, wrongly_listed}
 use Rattle.schema.specs.Layout.{class_set}
-use Prim.Native.Nat.{◌+◌, ◌*◌, ◌≤◌, ◌-◌}
-use mathlib.Core.Bool.{false}
-use mathlib.Core.Path.{◌≡◌, sym, ◌∙◌}
+use Prim.Native.Nat.{◌+◌, ◌*◌}
+use mathlib.Core.Path.{sym, ◌∙◌}
 use Rattle.schema.specs.declared.number.TableId.TheVariants.{Classes}
 use Rattle.schema.specs.Store.{table_in}
 use Rattle.prelude.specs.BelowLaws.{any_zero, any_more, any_here, any_end}
 use Rattle.prelude.specs.Below.{any_below}
 use native.Mathlib.Omega.{arith}
-use borrow.Author.Rules.{rules}
 use Rattle.rules_class.proofs.category.category_wrong.Goals as goal
 
 pub loop-at-init : goal.loop-at-init

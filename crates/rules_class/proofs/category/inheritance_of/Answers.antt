@@ -3,7 +3,6 @@ use mathlib.Core.Path.{sym, ap, ◌∙◌}
 use Prim.Native.Nat.{ℕ}
 use native.Mathlib.Omega.{arith}
 use lib.ListN.{length}
-use borrow.Author.Rules.{rules}
 use Rattle.schema.specs.NumbersLaws.{class_is, class_beyond}
 use Rattle.schema.specs.Numbers.{class_read}
 use Rattle.schema.specs.ClassRow.{superclass_of}

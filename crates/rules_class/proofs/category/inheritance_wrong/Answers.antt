@@ -1,4 +1,3 @@
-use borrow.Author.Rules.{rules}
 use Rattle.rules_class.specs.Category.{inheritance_wrong}
 use Rattle.rules_class.proofs.category.inheritance_wrong.Goals as goal
 

@@ -1,4 +1,3 @@
-use borrow.Author.Rules.{rules}
 use borrow.Author.Tests.{not-true, not-false}
 use Rattle.rules_class.specs.Category.{wrongly_listed}
 use Rattle.rules_class.proofs.category.is_wrongly_listed.Goals as goal

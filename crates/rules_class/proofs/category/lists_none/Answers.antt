@@ -4,7 +4,6 @@ use mathlib.Core.Path.{ap}
 use Rattle.prelude.specs.PartLaws.{part_length}
 use lib.ListN.{length}
 use native.Mathlib.Omega.{arith}
-use borrow.Author.Rules.{rules}
 use Rattle.rules_class.proofs.category.lists_none.Goals as goal
 
 pub is_blank-requires : goal.is_blank-requires

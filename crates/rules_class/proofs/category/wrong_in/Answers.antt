@@ -1,14 +1,11 @@
 use Rattle.rules_class.proofs.Bytewise.{none_wrong}
 use Rattle.rules_class.specs.Category.{wrongly_listed}
-use Prim.Native.Nat.{◌+◌, ◌*◌, ◌≤◌, ◌-◌}
-use mathlib.Core.Bool.{false}
-use mathlib.Core.Path.{◌≡◌, sym, ◌∙◌}
+use Prim.Native.Nat.{◌+◌, ◌*◌}
+use mathlib.Core.Path.{sym, ◌∙◌}
 use Rattle.schema.specs.declared.number.TableId.TheVariants.{Classes}
 use Rattle.schema.specs.Store.{table_in}
 use Rattle.prelude.specs.BelowLaws.{any_zero, any_more, any_here, any_end}
-use Rattle.prelude.specs.Below.{any_below}
 use native.Mathlib.Omega.{arith}
-use borrow.Author.Rules.{rules}
 use Rattle.rules_class.proofs.category.wrong_in.Goals as goal
 
 pub lists_none-requires : goal.lists_none-requires

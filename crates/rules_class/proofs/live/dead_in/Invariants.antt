@@ -1,14 +1,9 @@
-use Rattle.rules_class.proofs.Bytewise.{in_byte, limit_small, none_dead}
-use Rattle.rules_class.proofs.Dead.{dead_at, dead_asked}
 use Rattle.rules_class.specs.Live.{names_dead}
 use Prim.Native.Nat.{◌+◌, ◌*◌, ◌≤◌, ◌-◌}
 use mathlib.Core.Bool.{false}
-use mathlib.Core.Path.{◌≡◌, sym, ◌∙◌}
+use mathlib.Core.Path.{◌≡◌}
 use Rattle.schema.specs.Store.{table_in}
-use Rattle.prelude.specs.BelowLaws.{any_zero, any_more, any_here, any_end}
 use Rattle.prelude.specs.Below.{any_below}
-use native.Mathlib.Omega.{arith}
-use borrow.Author.Rules.{rules}
 use Rattle.rules_class.proofs.live.dead_in.Given as goal
 
 abbrev pub invariant-loop-i : goal.invariant-loop-i

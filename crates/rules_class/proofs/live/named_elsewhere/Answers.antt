@@ -1,5 +1,4 @@
 use Rattle.rules_class.specs.Blank.{named_elsewhere}
-use borrow.Author.Rules.{rules}
 use Rattle.rules_class.proofs.live.named_elsewhere.Goals as goal
 
 pub returns-in-By : goal.returns-in-By

@@ -1,7 +1,6 @@
 use mathlib.Core.Path.{sym, ◌∙◌}
 use borrow.Author.Tests.{not-true, not-false}
 use Rattle.rules_class.specs.Live.{names_dead}
-use borrow.Author.Rules.{rules}
 use Rattle.rules_class.proofs.live.names_dead.Goals as goal
 
 pub returns-then-not-is_naming : goal.returns-then-not-is_naming

@@ -6,7 +6,6 @@ use Rattle.prelude.specs.PartLaws.{part_length}
 use lib.ListN.{length}
 use Rattle.prelude.specs.SaysLaws.{says_eq, says_false, says_true}
 use native.Mathlib.Omega.{arith}
-use borrow.Author.Rules.{rules}
 use Rattle.rules_class.proofs.live.names_no_attribute.Goals as goal
 
 pub is_blank-requires : goal.is_blank-requires

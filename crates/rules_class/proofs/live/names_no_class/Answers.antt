@@ -5,7 +5,6 @@ use mathlib.Core.Path.{sym, ap, ◌∙◌}
 use Rattle.prelude.specs.PartLaws.{part_length}
 use lib.ListN.{length}
 use native.Mathlib.Omega.{arith}
-use borrow.Author.Rules.{rules}
 use Rattle.rules_class.proofs.live.names_no_class.Goals as goal
 
 pub is_blank-requires : goal.is_blank-requires

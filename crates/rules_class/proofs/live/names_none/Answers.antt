@@ -1,5 +1,4 @@
 use native.Mathlib.Omega.{arith}
-use borrow.Author.Rules.{rules}
 use Rattle.rules_class.proofs.live.names_none.Goals as goal
 
 pub names_no_attribute-requires : goal.names_no_attribute-requires

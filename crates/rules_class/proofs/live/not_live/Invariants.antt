@@ -1,14 +1,9 @@
-use Rattle.rules_class.proofs.Bytewise.{any_bytes, whole_bytes}
-use Rattle.rules_class.specs.Live.{names_dead, not_live}
-use Rattle.schema.specs.Numbers.{limit}
-use Prim.Native.Nat.{ℕ, ◌+◌, ◌*◌, ◌/◌, ◌≤◌, ◌-◌}
+use Rattle.rules_class.specs.Live.{names_dead}
+use Prim.Native.Nat.{◌+◌, ◌*◌, ◌≤◌, ◌-◌}
 use mathlib.Core.Bool.{false}
-use mathlib.Core.Path.{◌≡◌, sym, ap, ◌∙◌}
+use mathlib.Core.Path.{◌≡◌}
 use Rattle.schema.specs.Store.{table_in}
-use Rattle.prelude.specs.BelowLaws.{any_zero, any_more, any_here, any_end}
 use Rattle.prelude.specs.Below.{any_below}
-use native.Mathlib.Omega.{arith}
-use borrow.Author.Rules.{rules}
 use Rattle.rules_class.proofs.live.not_live.Given as goal
 
 abbrev pub invariant-loop-at : goal.invariant-loop-at

@@ -1,7 +1,6 @@
 use mathlib.Core.Logic.{⊎_elim}
 use mathlib.Core.Path.{sym, ◌∙◌}
 use native.Mathlib.Omega.{arith}
-use borrow.Author.Rules.{rules}
 use borrow.Author.Tests.{eq-eqb, ne_eqb}
 use Rattle.prelude.specs.SaysLaws.{says_same, says_iff, says_le, says_not, says_lt, says_true}
 use Rattle.schema.specs.ClassRow.{superclass_of}

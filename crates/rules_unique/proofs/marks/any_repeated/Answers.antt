@@ -1,4 +1,4 @@
-use Rattle.rules_unique.proofs.Places.{Apart, Marked, apart_more, marked_more, none_taken, one_taken, place_there, places_few}
+use Rattle.rules_unique.proofs.Places.{apart_more, marked_more, none_taken, one_taken, place_there, places_few}
 use Rattle.rules_unique.specs.Marks.{key_mark, marks_width, met, place_count}
 use Rattle.rules_unique.specs.Unique.{every_row, taken}
 use Rattle.rules_unique.specs.UniqueLaws.{schema_keyed}
@@ -10,7 +10,7 @@ use Rattle.sets.specs.SetsLaws.{with_length}
 use Rattle.sets.specs.Sets.{with_member}
 use Rattle.prelude.specs.PartLaws.{zeros_length}
 use lib.ListN.{length}
-use Prim.Native.Nat.{ℕ, ◌≤◌, ◌<◌, ◌-◌}
+use Prim.Native.Nat.{ℕ, ◌<◌}
 use mathlib.Core.Path.{◌≡◌, sym, ap, subst, ◌∙◌}
 use mathlib.Core.Bool.{true, false, ◌&&◌}
 use native.Mathlib.Omega.{arith}

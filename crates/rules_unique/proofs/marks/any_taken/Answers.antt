@@ -1,6 +1,5 @@
 use Rattle.prelude.specs.Part.{zeros}
 use mathlib.Core.Path.{refl}
-use borrow.Author.Rules.{rules}
 use Rattle.rules_unique.proofs.marks.any_taken.Goals as goal
 
 pub any_repeated-requires : goal.any_repeated-requires

@@ -1,6 +1,5 @@
 use Rattle.rules_unique.specs.Marks.{absent}
 use native.Mathlib.Omega.{arith}
-use borrow.Author.Rules.{rules}
 use Rattle.rules_unique.proofs.marks.is_absent.Goals as goal
 
 pub mapi-requires : goal.mapi-requires

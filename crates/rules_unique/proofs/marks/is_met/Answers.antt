@@ -1,6 +1,5 @@
 use Rattle.rules_unique.specs.Marks.{met}
 use mathlib.Core.Path.{sym, ◌∙◌}
-use borrow.Author.Rules.{rules}
 use Rattle.rules_unique.proofs.marks.is_met.Goals as goal
 
 pub returns-then-is_absent : goal.returns-then-is_absent

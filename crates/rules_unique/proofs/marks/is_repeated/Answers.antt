@@ -2,7 +2,6 @@ use mathlib.Core.Path.{sym, ◌∙◌}
 use Rattle.rules_unique.specs.UniqueLaws.{schema_keyed}
 use Rattle.schema.specs.Numbers.{table_of, number_of}
 use Rattle.tables.specs.ShapedLaws.{shaped_within}
-use borrow.Author.Rules.{rules}
 use Rattle.rules_unique.proofs.marks.is_repeated.Goals as goal
 
 pub schema_row-requires : goal.schema_row-requires

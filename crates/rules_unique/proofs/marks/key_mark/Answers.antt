@@ -1,6 +1,5 @@
 use Rattle.rules_unique.specs.Marks.{key_mark}
 use native.Mathlib.Omega.{arith}
-use borrow.Author.Rules.{rules}
 use Rattle.rules_unique.proofs.marks.key_mark.Goals as goal
 
 pub name-requires : goal.name-requires

@@ -1,11 +1,7 @@
-use mathlib.Core.Path.{◌≡◌, refl, ap, ◌∙◌}
-use Prim.Native.Nat.{ℕ, ◌≤◌, ◌-◌}
-use native.Mathlib.Omega.{arith}
-use lib.Bits.{and_le_l}
+use mathlib.Core.Path.{◌≡◌}
+use Prim.Native.Nat.{◌≤◌, ◌-◌}
 use lib.ListN.{length}
-use borrow.Author.Rules.{rules}
 use Rattle.rules_unique.specs.Marks.{mark_of}
-use Rattle.rules_unique.proofs.Places.{mark_below, mark_more}
 use Rattle.rules_unique.proofs.marks.mark_of.Given as goal
 
 abbrev pub invariant-loop-i : goal.invariant-loop-i

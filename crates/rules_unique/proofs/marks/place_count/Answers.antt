@@ -1,7 +1,6 @@
 use Rattle.rules_unique.specs.Marks.{place_count}
 use mathlib.Core.Path.{sym, ◌∙◌}
 use native.Mathlib.Omega.{arith}
-use borrow.Author.Rules.{rules}
 use Rattle.rules_unique.proofs.marks.place_count.Goals as goal
 
 pub row_count-n-requires : goal.row_count-n-requires

@@ -1,4 +1,3 @@
-use borrow.Author.Rules.{rules}
 use Rattle.schema.specs.AttributeRow.{bound_at}
 use Rattle.schema.proofs.attribute.bound_at.Goals as goal
 

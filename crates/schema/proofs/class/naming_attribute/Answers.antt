@@ -5,7 +5,6 @@ use Rattle.schema.specs.Numbers.{attribute_limit, attribute_read}
 use Rattle.schema.specs.declared.number.AttributeRead.TheVariants.{Attribute}
 use Rattle.schema.specs.ClassRow.{naming_of}
 use native.Mathlib.Omega.{arith}
-use borrow.Author.Rules.{rules}
 use Rattle.schema.proofs.class.naming_attribute.Goals as goal
 
 -- a byte is below the limit, so the constructor takes it

@@ -1,5 +1,4 @@
 use mathlib.Core.Path.{ap, ◌∙◌}
-use borrow.Author.Rules.{rules}
 use Rattle.schema.specs.Numbers.{class_read}
 use Rattle.schema.proofs.class.superclass.Goals as goal
 

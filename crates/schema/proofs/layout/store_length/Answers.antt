@@ -1,4 +1,3 @@
-use borrow.Author.Rules.{rules}
 use Rattle.schema.proofs.layout.store_length.Goals as goal
 
 pub returns-in-Attributes : goal.returns-in-Attributes

@@ -1,5 +1,4 @@
 use mathlib.Core.Path.{sym, ◌∙◌}
-use borrow.Author.Rules.{rules}
 use borrow.Author.Tests.{lt-ltb, le-ltb}
 use Rattle.schema.specs.NumbersLaws.{number_is, number_beyond}
 use Rattle.schema.proofs.number.is_number.Goals as goal

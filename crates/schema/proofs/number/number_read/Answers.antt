@@ -11,7 +11,6 @@ use Rattle.schema.specs.declared.number.RowId.TheVariants.{Attribute, Class}
 use Rattle.schema.specs.declared.number.NumberRead.TheVariants.{Row, Beyond}
 use Rattle.schema.specs.declared.number.ClassRead.TheVariants as class
 use Rattle.schema.specs.declared.number.AttributeRead.TheVariants as attribute
-use borrow.Author.Rules.{rules}
 use Rattle.schema.proofs.number.number_read.Goals as goal
 
 -- what each constructor gives, as a row of either table

@@ -1,4 +1,3 @@
-use borrow.Author.Rules.{rules}
 use borrow.Author.Tests.{lt-ltb, le-ltb}
 use Rattle.schema.specs.Numbers.{place_id}
 use Rattle.schema.proofs.number.place_id.Goals as goal

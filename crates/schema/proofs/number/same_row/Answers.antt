@@ -1,6 +1,5 @@
 use mathlib.Core.Path.{sym, ◌∙◌}
 use Rattle.schema.specs.Numbers.{same_row}
-use borrow.Author.Rules.{rules}
 use Rattle.schema.proofs.number.same_row.Goals as goal
 
 pub returns-then-same_table : goal.returns-then-same_table

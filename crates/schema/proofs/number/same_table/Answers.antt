@@ -1,5 +1,4 @@
 use Rattle.schema.specs.Numbers.{same_table}
-use borrow.Author.Rules.{rules}
 use Rattle.schema.proofs.number.same_table.Goals as goal
 
 pub returns-in-Attributes-b : goal.returns-in-Attributes-b

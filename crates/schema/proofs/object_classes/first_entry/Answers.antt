@@ -1,15 +1,12 @@
-use mathlib.Core.Bool.{false}
-use mathlib.Core.Path.{◌≡◌, sym}
-use Prim.Native.Nat.{ℕ, ◌-◌, ◌≤◌}
+use mathlib.Core.Path.{sym}
+use Prim.Native.Nat.{ℕ}
 use native.Mathlib.Omega.{arith}
 use lib.Dec.{eqb}
 use borrow.Author.Rules.{rules}
 use borrow.Author.Tests.{eq-eqb, ne_eqb}
-use Rattle.prelude.specs.Below.{any_below}
 use Rattle.prelude.specs.BelowLaws.{any_zero, any_more, any_end, first_found, first_absent}
 use Rattle.schema.specs.ObjectClasses.{entry_count, entry_syntax}
 use Rattle.schema.specs.ObjectClassesLaws.{entry_length}
-use Rattle.schema.specs.Store.{table}
 use Rattle.schema.proofs.object_classes.first_entry.Goals as goal
 
 pub loop-i-init : goal.loop-i-init

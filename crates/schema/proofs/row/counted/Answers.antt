@@ -1,4 +1,3 @@
-use borrow.Author.Rules.{rules}
 use Rattle.schema.proofs.row.counted.Goals as goal
 
 pub returns : goal.returns

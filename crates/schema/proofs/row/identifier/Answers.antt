@@ -1,4 +1,3 @@
-use borrow.Author.Rules.{rules}
 use Rattle.schema.proofs.row.identifier.Goals as goal
 
 pub returns : goal.returns

@@ -1,6 +1,5 @@
 use native.Mathlib.Omega.{arith}
 use lib.ListN.{length}
-use borrow.Author.Rules.{rules}
 use borrow.Author.Tests.{lt-ltb, le-ltb}
 use Rattle.schema.specs.Layout.{store_length}
 use Rattle.schema.specs.declared.number.TableId.TheVariants.{Attributes, Classes}

@@ -3,7 +3,6 @@ use Prim.Native.Nat.{ℕ, ◌+◌, ◌*◌}
 use Rattle.prelude.specs.Part.{part}
 use Rattle.schema.specs.Layout.{closure_width}
 use native.Mathlib.Omega.{arith}
-use borrow.Author.Rules.{rules}
 use Rattle.schema.proofs.store.closure_row.Goals as goal
 
 pub returns : goal.returns

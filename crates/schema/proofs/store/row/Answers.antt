@@ -5,7 +5,6 @@ use lib.ListN.{length}
 use Rattle.prelude.specs.PartLaws.{row_fits}
 use Rattle.schema.specs.Numbers.{limit, table_of, number_of}
 use Rattle.schema.specs.Layout.{rows_at, row_width}
-use borrow.Author.Rules.{rules}
 use Rattle.schema.proofs.store.row.Goals as goal
 
 pub part_of-requires : goal.part_of-requires

@@ -1,4 +1,3 @@
-use borrow.Author.Rules.{rules}
 use Rattle.schema.proofs.store.row_count.Goals as goal
 
 pub returns-in-Attributes : goal.returns-in-Attributes

@@ -4,7 +4,6 @@ use Rattle.schema.specs.Layout.{row_width}
 use Rattle.schema.specs.declared.number.RowId.{RowId}
 use Rattle.schema.specs.declared.number.RowId.TheVariants.{Attribute, Class}
 use native.Mathlib.Omega.{arith}
-use borrow.Author.Rules.{rules}
 use Rattle.schema.proofs.store.row_start.Goals as goal
 
 -- far below what a number of the machine can hold

@@ -1,4 +1,3 @@
-use borrow.Author.Rules.{rules}
 use Rattle.schema.proofs.store.schema_row.Goals as goal
 
 pub attribute_row-requires : goal.attribute_row-requires

@@ -1,4 +1,3 @@
-use borrow.Author.Rules.{rules}
 use Rattle.tables.proofs.live.is_active_for.Goals as goal
 
 pub returns-then-is_defunct : goal.returns-then-is_defunct

@@ -1,4 +1,3 @@
-use borrow.Author.Rules.{rules}
 use Rattle.tables.proofs.named.in_either.Goals as goal
 
 pub returns-then-has : goal.returns-then-has

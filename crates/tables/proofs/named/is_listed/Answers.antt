@@ -1,4 +1,3 @@
-use borrow.Author.Rules.{rules}
 use Rattle.tables.specs.Named.{lists}
 use Rattle.tables.proofs.named.is_listed.Goals as goal
 

@@ -1,4 +1,3 @@
-use borrow.Author.Rules.{rules}
 use Rattle.tables.specs.Named.{named_by}
 use Rattle.tables.proofs.named.is_named_by.Goals as goal
 

@@ -1,4 +1,3 @@
-use borrow.Author.Rules.{rules}
 use Rattle.tables.proofs.named.is_naming.Goals as goal
 
 pub names_class-requires : goal.names_class-requires

@@ -1,6 +1,5 @@
 use mathlib.Core.Path.{sym, ◌∙◌}
 use native.Mathlib.Omega.{arith}
-use borrow.Author.Rules.{rules}
 use borrow.Author.Tests.{ne_eqb}
 use Rattle.schema.specs.ClassRow.{superclass_of}
 use Rattle.schema.specs.NumbersLaws.{class_is, class_beyond}

@@ -1,4 +1,3 @@
-use borrow.Author.Rules.{rules}
 use Rattle.tables.specs.Named.{names}
 use Rattle.tables.proofs.named.names_attribute.Goals as goal
 

@@ -1,4 +1,3 @@
-use borrow.Author.Rules.{rules}
 use mathlib.Core.Path.{sym, ◌∙◌}
 use Rattle.tables.specs.Named.{names}
 use Rattle.tables.proofs.named.names_class.Goals as goal

@@ -1,4 +1,3 @@
-use borrow.Author.Rules.{rules}
 use Rattle.tables.proofs.Written.{lent_cleared_front}
 use Rattle.tables.proofs.store.empty.Goals as goal
 

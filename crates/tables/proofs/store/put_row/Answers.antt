@@ -8,7 +8,6 @@ use Rattle.tables.proofs.Written.{cut_length, row_put}
 use Rattle.tables.specs.Filled.{put_in}
 use Rattle.tables.proofs.Widths.{row_room}
 use native.Mathlib.Omega.{arith}
-use borrow.Author.Rules.{rules}
 use Rattle.tables.proofs.store.put_row.Goals as goal
 
 pub overflow_add-end : goal.overflow_add-end

@@ -1,5 +1,4 @@
 use native.Mathlib.Omega.{arith}
-use borrow.Author.Rules.{rules}
 use Rattle.prelude.specs.SpliceLaws.{set_splice}
 use Rattle.tables.proofs.Widths.{limit_byte, limit_u16}
 use Rattle.tables.proofs.store.write_count.Goals as goal

@@ -1,4 +1,3 @@
-use borrow.Author.Rules.{rules}
 use Rattle.schema.proofs.answer.Answer.broken_by.Goals as goal
 
 pub returns : goal.returns
