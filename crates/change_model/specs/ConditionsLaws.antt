@@ -151,6 +151,7 @@ module _ (change : Change) (r : List ℕ) (m : Schema) where
   at q c = subst (Condition change r m) q c
 
   asked_condition : {x : ℕ} → Among x (asked_cases change r m) → Condition change r m x
+  asked_condition (Among.there (Among.there (Among.there (Among.there (Among.there (Among.there (Among.there x22))))))) = elim x22 [ ]
   asked_condition (Among.here e q) = at q (let h = (says_absent change r m).holds e in Condition.no_such_row h.0 h.1)
   asked_condition (Among.there (Among.here e q)) = at q (let h = (says_full change m).holds e in Condition.no_free_row h.0 h.1)
   asked_condition (Among.there (Among.there (Among.here e q))) = at q (Condition.wrong_state ((says_state change old).holds e))
@@ -170,6 +171,7 @@ module _ (change : Change) (r : List ℕ) (m : Schema) where
       broken b = let u = among_unmet (added_by change r m.classes.count) result b in at u.1 (Condition.rule u.0 u.2)
 
       thirty : {x : ℕ} → Among x ((refusal.mandatory_differs when mandatory_differs m.classes result.classes) ∷ []) → Condition change r m x
+      thirty (Among.there x5) = elim x5 [ ]
       thirty (Among.here e q) = at q (Condition.mandatory_differs ((says_differs m.classes result.classes).holds e))
 
   -- a number of the cases has its condition
