@@ -111,7 +111,7 @@ module _ (s : List ℕ) (P : Rows → Type 0) where
             → ((at : ℕ) (phase : Phase) (missing : Bool) (x : Rows) → P x → P (rest at phase missing x).rows)
             → (t : Turn) {y : Rows} → P y → P (onward rest t y).rows
         onward_keeps rest keeps (On next later lacking) {y} k = unfold onward in (keeps next later lacking y k)
-        onward_keeps rest keeps (Stop read) k = unfold onward in k
+        onward_keeps rest keeps (Stop _) k = unfold onward in k
 
     pub read_keeps : P no_rows → P (read_sheet s).rows
     unfolding read_sheet

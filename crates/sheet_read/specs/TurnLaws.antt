@@ -33,7 +33,7 @@ use Rattle.sheet_read.specs.declared.read.Room.TheVariants as room
 
 abbrev pub Forward : List ℕ → ℕ → Turn → Type 0
 Forward s at (On next phase missing) = (at < next) × (next ≤ length s)
-Forward s at (Stop read) = Unit {0}
+Forward s at (Stop _) = Unit {0}
 
 module _ (s : List ℕ) (at : ℕ) (phase : Phase) (missing : Bool) (x : Rows) where
   row_forward : (t : TableId) (stop : ℕ) → at < stop → stop ≤ length s → (r : RowRead) → Forward s at (row_turn t stop missing r)
@@ -110,9 +110,9 @@ module _ {s : List ℕ} {at : ℕ} {phase : Phase} {missing : Bool} {x : Rows} (
     turned = (rest l).same ∙ ap (λ (z : Step). onward (read_from (rest l).fuel s) z.turn z.rows) is
 
     -- a turn that stops
-    pub stands_stop : (read : SheetRead) → y.turn ≡ Stop read → read_sheet s ≡ sheet_out read y.rows
+    pub stands_stop : (came : SheetRead) → y.turn ≡ Stop came → read_sheet s ≡ sheet_out came y.rows
     unfolding onward
-    stands_stop read e = turned ∙ ap (λ (z : Turn). onward (read_from (rest l).fuel s) z y.rows) e
+    stands_stop came e = turned ∙ ap (λ (z : Turn). onward (read_from (rest l).fuel s) z y.rows) e
 
     -- and one that goes on
     pub stands_forward : (next : ℕ) (later : Phase) (lacking : Bool) → y.turn ≡ On next later lacking → (at < next) × (next ≤ length s)

@@ -121,7 +121,7 @@ module _ (s : List ℕ) (P : At) where
             → ((at : ℕ) (phase : Phase) (missing : Bool) (x : Rows) → P at phase missing x → Came (rest at phase missing x))
             → (t : Turn) (y : Rows) → After t y → Came (onward rest t y)
         onward_came rest came (On next later lacking) y r = unfold onward in (came next later lacking y r)
-        onward_came rest came (Stop read) y r = unfold onward in (λ q. absurd (r q))
+        onward_came rest came (Stop _) y r = unfold onward in (λ q. absurd (r q))
 
     pub accepted_ends : P 0 Start true no_rows → (read_sheet s).answer ≡ Read → Ends s P (read_sheet s).rows
     unfolding read_sheet
