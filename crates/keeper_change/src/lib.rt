@@ -1,6 +1,7 @@
 // The change calls. Each is lent all three stores and the change, asks nothing of its caller, and its contract equates the answer and every final byte with
 // a definition in specs/.
 #![tactic(auto)]
+
 mod judge;
 pub mod plain;
 pub mod quick;
