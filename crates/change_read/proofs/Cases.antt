@@ -1,7 +1,6 @@
 -- Each way that reading a change can go, from what the code's tests leave.
 use mathlib.Core.Bool.{Bool, true, false}
 use mathlib.Core.List.{List, [], ◌∷◌}
-use mathlib.Core.Logic.{⊎_elim}
 use mathlib.Core.Path.{◌≡◌, refl, sym, ap, ◌∙◌}
 use Prim.Native.Nat.{ℕ, ◌+◌}
 use native.Mathlib.Omega.{arith}
@@ -9,8 +8,6 @@ use lib.Dec.{eqb, leb}
 use lib.ListN.{length}
 use Rattle.prelude.specs.Unlike.{Unlike, among}
 use Rattle.prelude.specs.UnlikeLaws.{unlike_key}
-use denote.Enum.Declared.{tag_of}
-use types.Run.{OneOf}
 use Rattle.wire.specs.declared.FieldRead.{FieldRead}
 use Rattle.wire.specs.Wire.{value_end, field_at}
 use Rattle.rows_format.specs.declared.format.Format.{Format}
@@ -24,7 +21,6 @@ use Rattle.change_read.specs.declared.read.ChangeRead.{ChangeRead}
 use Rattle.change_read.specs.declared.read.ChangeRead.TheVariants.{Read, Bad}
 use Rattle.change_read.specs.Reading.{Came, scratch, change_of, format_of, whole_read, tagged_out, field_out, read_change, read_value}
 use Rattle.wire.specs.declared.FieldRead.TheVariants as fields
-use Rattle.wire.specs.contracts.FieldRead
 use Rattle.rows_read.specs.declared.read.RowRead.TheVariants as rows
 
 -- ---- no tag of a change

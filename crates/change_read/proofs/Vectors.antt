@@ -1,7 +1,7 @@
 -- Changes read, by computation, where two sentences of document 01 meet. The gate's scripts (crates/replay/data) have the rest.
 use mathlib.Core.List.{List, [], ◌∷◌, ◌++◌}
 use mathlib.Core.Path.{◌≡◌, refl}
-use Prim.Native.Nat.{ℕ, ◌+◌}
+use Prim.Native.Nat.{ℕ}
 use lib.ListN.{replicate}
 use Rattle.prelude.specs.Below.{any_below, all_below, first_below}
 use Rattle.prelude.specs.Part.{part, splice, zeros, padded, is_zero}

@@ -1,5 +1,5 @@
 -- Reading a change comes to what `ChangeStops` says, and to nothing else.
-use Rattle.std.specs.Prelude.{List, ◌↔◌, ◌⊎◌, ◌≡◌, refl, ℕ, ◌+◌, ◌≤◌, ◌<◌, get_or, length}
+use Rattle.std.specs.Prelude.{List, ◌↔◌, ◌≡◌, refl, ℕ, ◌+◌, ◌≤◌, ◌<◌, get_or, length}
 use Rattle.std.proofs.Common.{⊎_elim, subst, sym, ◌∙◌, arith}
 use Rattle.std.proofs.Math.Path.{ap}
 use Rattle.prelude.specs.BigEndian.{big_endian}

@@ -19,7 +19,6 @@ use Rattle.rows_read.specs.Reading.{out}
 use Rattle.rows_read.specs.ObjectClass.{read_row}
 use Rattle.rows_read.specs.RoundTripLaws.{written_value_read}
 use Rattle.change_read.specs.declared.read.Change.{Change}
-use Rattle.change_read.specs.declared.read.ChangeRead.TheVariants.{Read}
 use Rattle.change_read.specs.Reading.{format_of, scratch, whole_read, read_value, tagged_out, field_out, read_change}
 use Rattle.change_read.specs.ChangeLaws.{Reads, format_fits_row, scratch_length}
 use Rattle.change_read.specs.Stopping.{change_tag}

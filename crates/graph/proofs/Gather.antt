@@ -15,7 +15,6 @@ use Rattle.sets.specs.SideLaws.{member_zeros}
 use Rattle.schema.specs.Numbers.{class_limit}
 use Rattle.schema.specs.Layout.{class_set, attribute_set, mandatory_at}
 use Rattle.schema.specs.Store.{Table}
-use Rattle.tables.specs.Named.{lists}
 use Rattle.graph.specs.Graph.{collects_by, lists_mandatory, reaches, demands, demanded_set}
 use Rattle.graph.specs.Collect.{chosen_lists, collected, plus}
 

@@ -1,19 +1,16 @@
 -- The cell of a syntax's first value, as the code takes it from the table.
-use mathlib.Core.List.{List, ◌∷◌, ◌++◌}
+use mathlib.Core.List.{List, ◌∷◌}
 use mathlib.Core.Logic.{⊎_elim}
 use mathlib.Core.Path.{◌≡◌, sym, ap, ◌∙◌}
 use Prim.Native.Nat.{ℕ, ◌<◌}
-use native.Mathlib.Omega.{arith}
-use lib.ListN.{length, take, drop}
+use lib.ListN.{length}
 use Rattle.prelude.specs.Part.{part, row_at, zeros, padded}
-use Rattle.prelude.specs.PartLaws.{part_length, zeros_length}
 use Rattle.schema.specs.Layout.{object_class_limit}
 use Rattle.schema.specs.ObjectClasses.{entry_width, entry_count, object_classes, entry_value, first_entry, first_object_class}
-use Rattle.schema.specs.ObjectClassesLaws.{entries_whole, entry_length, entry_cell, no_value, first_entry_is}
+use Rattle.schema.specs.ObjectClassesLaws.{entry_cell, no_value, first_entry_is}
 use Rattle.rows_format.specs.Encodings.{image}
 use Rattle.rows_read.specs.ObjectClass.{object_class_width, object_class_cell}
 use Rattle.rows_read.specs.ObjectClassLaws.{no_cell}
-use Rattle.rows_read.proofs.Storing.{copied_whole}
 
 module _ (syntax : ℕ) {i : ℕ} {table : List ℕ} (t : table ≡ object_classes) (e : i ≡ first_entry table syntax) where
   first_at : first_entry object_classes syntax ≡ i

@@ -1,24 +1,19 @@
 -- What stands where `let .. else` does not take a field: one that is cut; and where it takes no turn: a refusal.
 use mathlib.Core.Bool.{Bool, true, false}
-use mathlib.Core.List.{List, [], ◌∷◌}
-use mathlib.Core.Logic.{⊎_elim}
+use mathlib.Core.List.{List}
 use mathlib.Core.Path.{◌≡◌, refl, sym}
 use Prim.Native.Nat.{ℕ, ◌+◌}
 use native.Mathlib.Omega.{arith}
 use lib.Dec.{eqb, leb}
-use denote.Enum.Declared.{tag_of}
-use types.Run.{OneOf}
 use borrow.Author.Tests.{ne_eqb}
 use Rattle.wire.specs.Wire.{field_at, value_end}
 use Rattle.wire.specs.declared.FieldRead.{FieldRead}
 use Rattle.wire.specs.declared.FieldRead.TheVariants as fields
-use Rattle.wire.specs.contracts.FieldRead
 use Rattle.rows_format.specs.declared.column.Column.{Column}
 use Rattle.rows_read.specs.declared.field.Turn.{Turn}
 use Rattle.rows_read.specs.declared.field.Turn.TheVariants.{Taken, Passed, Refused}
 use Rattle.rows_read.specs.Reading.{turn_of}
 use Rattle.rows_read.specs.ReadingLaws.{turn_bad}
-use Rattle.rows_read.specs.contracts.field.Turn as turn
 
 -- before the end a field stands, whole or cut
 not_end : (s : List ℕ) (at end : ℕ) → ¬ (at ≡ end) → ¬ (field_at s at end ≡ fields.End)

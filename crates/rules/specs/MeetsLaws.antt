@@ -27,7 +27,6 @@ use Rattle.tables.specs.declared.named.ClassList.TheVariants.{Auxiliaries, Super
 use Rattle.tables.specs.Named.{Lists}
 use Rattle.tables.specs.Live.{Live, live}
 use Rattle.rules_names.specs.NameLaws.{says_valid, says_name_invalid, says_identifier_invalid}
-use Rattle.rules_names.specs.Name.{identifier_invalid, name_invalid}
 use Rattle.rules_unique.specs.declared.Key.{Key}
 use Rattle.rules_unique.specs.declared.Key.TheVariants.{Name, Identifier, Guid, Mapi, Link}
 use Rattle.rules_unique.specs.Unique.{has_key, every_row, taken, SameKey, Clash}

@@ -117,22 +117,22 @@ module _ {m n : Schema} (s : SameRows m n) where
       & of_classes_lem (attribute_not_live added) (attribute_live_same added)
       & of_classes_lem (λ x k. class_not_live added x.classes k) (class_live_same added)
       & of_classes_lem (λ x k. category_wrong Auxiliaries x.classes (x.classes.row k))
-        (λ k l. category_wrong_same c Auxiliaries (m.classes.row k) ∙ same_by (category_wrong Auxiliaries n.classes) Classes k l)
+      (λ k l. category_wrong_same c Auxiliaries (m.classes.row k) ∙ same_by (category_wrong Auxiliaries n.classes) Classes k l)
       & of_classes_lem (λ x k. category_wrong Superiors x.classes (x.classes.row k))
-        (λ k l. category_wrong_same c Superiors (m.classes.row k) ∙ same_by (category_wrong Superiors n.classes) Classes k l)
+      (λ k l. category_wrong_same c Superiors (m.classes.row k) ∙ same_by (category_wrong Superiors n.classes) Classes k l)
       & inheritance_same refusal.root_not_abstract
       & inheritance_same refusal.abstract_under_other
       & inheritance_same refusal.auxiliary_under_structural
       & inheritance_same refusal.structural_under_auxiliary
       & of_classes_lem (λ x k. naming_wrong x.attributes (naming_of (x.classes.row k)))
-        (λ k l. naming_wrong_same a (naming_of (m.classes.row k)) ∙ same_by (λ r. naming_wrong n.attributes (naming_of r)) Classes k l)
+      (λ k l. naming_wrong_same a (naming_of (m.classes.row k)) ∙ same_by (λ r. naming_wrong n.attributes (naming_of r)) Classes k l)
       & taken_same every_row Mapi s
       & of_attributes_lem (λ x k. range_wrong (x.row k)) (λ k l. same_by range_wrong Attributes k l)
       & of_attributes_lem (λ x k. syntax_wrong (x.row k)) (λ k l. same_by syntax_wrong Attributes k l)
       & of_attributes_lem (λ x k. object_class_wrong (x.row k)) (λ k l. same_by object_class_wrong Attributes k l)
       & taken_same every_row Link s
       & of_attributes_lem (λ x k. forward_missing x (x.row k))
-        (λ k l. forward_missing_same a (m.attributes.row k) ∙ same_by (forward_missing n.attributes) Attributes k l)
+      (λ k l. forward_missing_same a (m.attributes.row k) ∙ same_by (forward_missing n.attributes) Attributes k l)
       & of_attributes_lem (λ x k. link_syntax_wrong (x.row k)) (λ k l. same_by link_syntax_wrong Attributes k l)
       & tt
 

@@ -1,7 +1,6 @@
 -- Each way that reading a field of a sheet can go, from what the code's tests leave.
 use mathlib.Core.Bool.{Bool, cond, false, true}
-use mathlib.Core.List.{List, [], ◌∷◌, ◌++◌}
-use mathlib.Core.Logic.{⊎_elim}
+use mathlib.Core.List.{List, ◌++◌}
 use mathlib.Core.Path.{◌≡◌, ap, refl, sym, ◌∙◌}
 use Prim.Native.Nat.{◌<◌, ℕ, ◌≤◌, ◌-◌}
 use native.Mathlib.Decide.{ℕ_discrete}
@@ -9,8 +8,6 @@ use native.Mathlib.Omega.{arith}
 use lib.Dec.{eqb}
 use lib.ListN.{get_or, length, length-append, take}
 use lib.Seq.{take_at}
-use denote.Enum.Declared.{tag_of}
-use types.Run.{OneOf}
 use Rattle.prelude.specs.SaysLaws.{says_eq, says_false, says_true}
 use Rattle.prelude.specs.Part.{Bytes, part, zeros}
 use Rattle.prelude.specs.PartLaws.{part_zeros, zeros_length}
@@ -41,8 +38,6 @@ use Rattle.sheet_read.specs.Reading.{Rows, field_step, heading_open, take_headin
 use Rattle.sheet_read.specs.Reading.{rows_with, sheet_tag, step, take_field, take_tagged, row_out, take_table_row, row_turn, Step, rows_open}
 use Rattle.sheet_read.specs.ReadingLaws.{more_fit, row_out_wide}
 use Rattle.wire.specs.declared.FieldRead.TheVariants as fields
-use Rattle.wire.specs.contracts.FieldRead
-use Rattle.sheet_read.specs.contracts.read.SheetTag
 use Rattle.rows_read.specs.declared.read.RowRead.TheVariants as row
 use Rattle.sheet_read.specs.declared.read.Room.TheVariants as room
 

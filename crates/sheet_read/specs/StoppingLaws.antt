@@ -1,5 +1,5 @@
 -- Reading a sheet comes to what `SheetStops` says, and to nothing else.
-use Rattle.std.specs.Prelude.{Bool, ◌&&◌, false, List, ◌↔◌, ◌⊎◌, ◌≡◌, refl, ℕ, suc, zero, ◌+◌, ◌-◌, ◌≤◌, ◌<◌, get_or}
+use Rattle.std.specs.Prelude.{Bool, ◌&&◌, false, List, ◌↔◌, ◌⊎◌, ◌≡◌, refl, ℕ, suc, zero, ◌+◌, ◌≤◌, ◌<◌, get_or}
 use Rattle.std.proofs.Math.Bool.{cond, true}
 use Rattle.std.proofs.Math.Logic.{inl, inr, ⊎_elim}
 use Rattle.std.proofs.Math.Path.{ap}

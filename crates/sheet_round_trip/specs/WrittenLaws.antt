@@ -26,7 +26,6 @@ use Rattle.sheet_read.specs.AcceptedLaws.{row_tag_lem}
 use Rattle.sheet_read.specs.declared.read.Phase.{Phase}
 use Rattle.sheet_read.specs.declared.read.Phase.TheVariants.{Start, InRows}
 use Rattle.sheet_read.specs.declared.read.SheetRead.TheVariants.{Read}
-use Rattle.sheet_read.specs.declared.read.SheetTag.TheVariants.{Row}
 use Rattle.sheet_read.specs.Reading.{Rows, rows, no_rows, rows_in, plus, schema_from, sheet_tag, position, heading_open, rows_open, is_heading, row_out}
 use Rattle.sheet_read.specs.Reading.{sheet_out, read_sheet}
 use Rattle.sheet_read.specs.ReadingLaws.{AllRows, Sound}

@@ -1,7 +1,6 @@
 use Rattle.sheet_write.specs.Writing.{heading}
 use Rattle.sheet_write.proofs.Rows.{heading_length}
 use native.Mathlib.Omega.{arith}
-use borrow.Author.Rules.{rules}
 use Rattle.sheet_write.proofs.put_heading.Goals as goal
 
 pub write_field-requires : goal.write_field-requires

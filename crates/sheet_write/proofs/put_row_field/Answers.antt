@@ -1,5 +1,4 @@
 use native.Mathlib.Omega.{arith}
-use borrow.Author.Rules.{rules}
 use Rattle.rows_format.specs.ShortLaws.{written_short}
 use Rattle.rows_format.specs.declared.format.Format.TheVariants.{Row}
 use Rattle.sheet_write.proofs.Rows.{row_columns, row_field_length, row_put}

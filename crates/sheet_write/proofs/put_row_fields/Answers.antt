@@ -1,12 +1,10 @@
-use Rattle.sheet_write.proofs.Rows.{field_of_row, fields_all, row_writable}
-use Rattle.prelude.specs.WrittenLaws.{Writing, writing_none, writing_room, writing_more, writing_length, writing_done, written_as}
+use Rattle.sheet_write.proofs.Rows.{fields_all, row_writable}
+use Rattle.prelude.specs.WrittenLaws.{writing_none, writing_room, writing_more, writing_done, written_as}
 use Rattle.schema.specs.Store.{table_in}
 use Rattle.schema.specs.StoreLaws.{id_within, id_row}
 use lib.ListN.{length}
 use mathlib.Core.Path.{ap, sym, ◌∙◌}
-use Prim.Native.Nat.{◌-◌}
 use native.Mathlib.Omega.{arith}
-use borrow.Author.Rules.{rules}
 use Rattle.sheet_write.proofs.put_row_fields.Goals as goal
 
 pub row_count-count-requires : goal.row_count-count-requires

@@ -1,16 +1,9 @@
-use Rattle.sheet_write.proofs.Rows.{field_of_row, fields_all, next_short, row_writable}
+use Rattle.sheet_write.proofs.Rows.{field_of_row}
 use Rattle.prelude.specs.Concat.{concat_below}
-use Rattle.prelude.specs.ConcatLaws.{concat_none, concat_more_length}
 use Rattle.schema.specs.Store.{table_in}
-use Rattle.schema.specs.StoreLaws.{id_within, id_row}
-use Rattle.schema.specs.NumbersLaws.{limit_most}
-use Rattle.sheet_write.specs.Writing.{row_field}
 use lib.ListN.{length}
-use mathlib.Core.List.{List}
-use mathlib.Core.Path.{ap, sym, ◌≡◌, ◌∙◌}
-use Prim.Native.Nat.{ℕ, ◌≤◌, ◌-◌}
-use native.Mathlib.Omega.{arith}
-use borrow.Author.Rules.{rules}
+use mathlib.Core.Path.{◌≡◌}
+use Prim.Native.Nat.{◌≤◌, ◌-◌}
 use Rattle.sheet_write.proofs.row_fields_length.Given as goal
 
 abbrev pub invariant-loop-k : goal.invariant-loop-k

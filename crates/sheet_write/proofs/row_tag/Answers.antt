@@ -1,4 +1,3 @@
-use borrow.Author.Rules.{rules}
 use Rattle.sheet_read.specs.Stopping.{row_tag}
 use Rattle.sheet_write.proofs.row_tag.Goals as goal
 

@@ -1,5 +1,4 @@
 use native.Mathlib.Omega.{arith}
-use borrow.Author.Rules.{rules}
 use Rattle.schema.specs.declared.number.TableId.TheVariants.{Attributes, Classes}
 use Rattle.schema.specs.Store.{table_in, schema_in}
 use Rattle.sheet_write.proofs.Rows.{all_short, sheet_size}

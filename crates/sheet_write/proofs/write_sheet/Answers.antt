@@ -2,7 +2,6 @@ use Rattle.sheet_write.proofs.Rows.{sheet_put, sheet_size, heading_length}
 use Rattle.prelude.specs.WrittenLaws.{written_length}
 use Rattle.schema.specs.Store.{schema_in}
 use native.Mathlib.Omega.{arith}
-use borrow.Author.Rules.{rules}
 use Rattle.sheet_write.proofs.write_sheet.Goals as goal
 
 pub put_heading-first-requires : goal.put_heading-first-requires

@@ -1,5 +1,4 @@
 use Rattle.tables_shape.specs.Shape.{beside_zero}
-use borrow.Author.Rules.{rules}
 use Rattle.tables_shape.proofs.beside_zero.Goals as goal
 
 pub returns-in-Attributes : goal.returns-in-Attributes

@@ -1,5 +1,4 @@
 use Rattle.tables_shape.specs.Shape.{stores_formed}
-use borrow.Author.Rules.{rules}
 use Rattle.tables_shape.proofs.stores_formed.Goals as goal
 
 pub returns-then-table_formed : goal.returns-then-table_formed

@@ -1,7 +1,6 @@
 use mathlib.Core.Path.{sym, ◌∙◌}
 use borrow.Author.Tests.{not-true, not-false}
 use Rattle.tables_shape.proofs.Checking.{beside_broken, rows_many, rows_broken, rows_kept}
-use borrow.Author.Rules.{rules}
 use Rattle.tables_shape.proofs.table_formed.Goals as goal
 
 pub returns-then-not-beside_zero : goal.returns-then-not-beside_zero

@@ -1,6 +1,5 @@
 use mathlib.Core.Path.{sym, ap, ◌∙◌}
 use native.Mathlib.Omega.{arith}
-use borrow.Author.Rules.{rules}
 use Rattle.prelude.specs.Part.{is_zero}
 use Rattle.schema.specs.NumbersLaws.{id_table, id_number}
 use Rattle.tables_shape.proofs.Checking.{unused_none, unused_left, unused_found}

@@ -1,7 +1,6 @@
 use Rattle.prelude.specs.Part.{part}
 use mathlib.Core.Path.{ap, ◌∙◌}
 use Prim.Native.Nat.{ℕ}
-use borrow.Author.Rules.{rules}
 use Rattle.change_read.proofs.carried.added_row.Goals as goal
 
 pub returns : goal.returns

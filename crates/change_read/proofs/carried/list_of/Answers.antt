@@ -1,4 +1,3 @@
-use borrow.Author.Rules.{rules}
 use borrow.Author.Tests.{eq-eqb, ne_eqb}
 use Rattle.change_read.specs.Carried.{open_list}
 use Rattle.change_read.proofs.carried.list_of.Goals as goal

@@ -1,5 +1,4 @@
 use Rattle.change_read.specs.Reading.{format_of}
-use borrow.Author.Rules.{rules}
 use Rattle.change_read.proofs.read.format_of.Goals as goal
 
 pub returns-in-Add : goal.returns-in-Add

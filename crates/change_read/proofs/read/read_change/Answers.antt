@@ -4,7 +4,6 @@ use Rattle.wire.specs.WireLaws.{field_is}
 use Rattle.reader.specs.ReaderLaws.{step_field, step_last}
 use Rattle.change_read.proofs.Cases.{tagged_unknown, tagged_known, front_none, front_whole}
 use native.Mathlib.Omega.{arith}
-use borrow.Author.Rules.{rules}
 use Rattle.change_read.proofs.read.read_change.Goals as goal
 
 pub returns-in_default : goal.returns-in_default

@@ -4,7 +4,6 @@ use Rattle.rows_format.specs.Formats.{format_width}
 use Rattle.change_read.specs.ChangeLaws.{format_fits_row, scratch_length}
 use Rattle.change_read.proofs.Cases.{value_bad, value_read_lem, value_followed}
 use native.Mathlib.Omega.{arith}
-use borrow.Author.Rules.{rules}
 use Rattle.change_read.proofs.read.read_value.Goals as goal
 
 pub read_row-read-requires : goal.read_row-read-requires

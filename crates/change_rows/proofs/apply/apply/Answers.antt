@@ -5,7 +5,6 @@ use Rattle.schema.specs.LayoutLaws.{narrow_row}
 use Rattle.change_rows.specs.Rows.{table_for}
 use Rattle.change_rows.proofs.Applying.{added_store, edited_back, lent_wide, row_inside, row_target, target_start}
 use native.Mathlib.Omega.{arith}
-use borrow.Author.Rules.{rules}
 use Rattle.change_rows.proofs.apply.apply.Goals as goal
 
 pub added_row-requires : goal.added_row-requires

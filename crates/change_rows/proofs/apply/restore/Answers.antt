@@ -1,7 +1,6 @@
 use lib.ListN.{length}
 use native.Mathlib.Omega.{arith}
 use mathlib.Core.Path.{ap, ◌∙◌, ap₂}
-use borrow.Author.Rules.{rules}
 use Rattle.schema.specs.Layout.{row_width}
 use Rattle.schema.specs.LayoutLaws.{narrow_row}
 use Rattle.schema.specs.Numbers.{table_of, number_of}

@@ -7,7 +7,6 @@ use Rattle.change_read.specs.Carried.{target_of}
 use Rattle.change_rows.specs.Rows.{table_for}
 use Rattle.change_rows.proofs.Applying.{target_read}
 use native.Mathlib.Omega.{arith}
-use borrow.Author.Rules.{rules}
 use Rattle.change_rows.proofs.apply.row_changed.Goals as goal
 
 pub row_count-requires : goal.row_count-requires

@@ -1,6 +1,5 @@
 use native.Mathlib.Omega.{arith}
 use mathlib.Core.Path.{◌∙◌, ap₂}
-use borrow.Author.Rules.{rules}
 use Rattle.schema.specs.Numbers.{number_of, table_of}
 use Rattle.schema.specs.LayoutLaws.{narrow_row}
 use Rattle.schema.specs.StoreLaws.{table_row_length}

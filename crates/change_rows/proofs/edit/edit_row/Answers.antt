@@ -2,7 +2,6 @@ use Prim.Native.Nat.{◌+◌}
 use native.Mathlib.Omega.{arith}
 use mathlib.Core.Path.{ap, ◌∙◌, sym}
 use mathlib.Core.Bool.{true≢false}
-use borrow.Author.Rules.{rules}
 use Rattle.change_rows.proofs.Editing.{common_row}
 use Rattle.change_rows.specs.Rows.{edited_row, is_addition}
 use Rattle.change_rows.specs.RowsLaws.{wide_row}

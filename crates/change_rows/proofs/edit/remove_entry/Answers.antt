@@ -10,7 +10,6 @@ use Rattle.change_rows.specs.Rows.{edited_row}
 use Rattle.change_rows.specs.RowsLaws.{list_inside}
 use Rattle.change_rows.proofs.Editing.{list_back, list_kept}
 use native.Mathlib.Omega.{arith}
-use borrow.Author.Rules.{rules}
 use Rattle.change_rows.proofs.edit.remove_entry.Goals as goal
 
 pub returns-in_default : goal.returns-in_default

@@ -1,7 +1,6 @@
 use mathlib.Core.Path.{◌∙◌, ap, ap₂}
 use Rattle.schema.specs.Numbers.{number_read}
 use Rattle.change_rows.specs.Lists.{list_table}
-use borrow.Author.Rules.{rules}
 use Rattle.change_rows.proofs.list.entry_read.Goals as goal
 
 pub returns : goal.returns

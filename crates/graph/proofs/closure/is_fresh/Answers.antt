@@ -6,7 +6,6 @@ use Rattle.prelude.specs.Part.{same_bytes}
 use mathlib.Core.Path.{sym, ap₂, ◌∙◌}
 use Rattle.schema.specs.declared.number.TableId.TheVariants.{Classes}
 use Rattle.schema.specs.Store.{table_in}
-use borrow.Author.Rules.{rules}
 use Rattle.graph.proofs.closure.is_fresh.Goals as goal
 
 pub returns : goal.returns

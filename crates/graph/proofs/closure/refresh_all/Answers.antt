@@ -1,11 +1,11 @@
 use Rattle.graph.proofs.Rows.{staged_again, staged_length, staged_more, staged_end, staged_over}
-use Rattle.graph.specs.Stages.{passed_row, stage_rows}
+use Rattle.graph.specs.Stages.{passed_row}
 use Rattle.schema.specs.Layout.{closure_length}
 use Rattle.prelude.specs.Part.{splice}
 use Rattle.prelude.specs.Concat.{concat_below}
 use lib.ListN.{length}
-use Prim.Native.Nat.{ℕ, ◌+◌, ◌≤◌, ◌-◌}
-use mathlib.Core.Path.{◌≡◌, refl, ap, ◌∙◌}
+use Prim.Native.Nat.{ℕ, ◌+◌, ◌≤◌}
+use mathlib.Core.Path.{refl, ap, ◌∙◌}
 use Rattle.schema.specs.declared.number.TableId.TheVariants.{Classes}
 use Rattle.schema.specs.Store.{closure_at, table_in}
 use native.Mathlib.Omega.{arith}

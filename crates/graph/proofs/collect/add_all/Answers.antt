@@ -1,12 +1,9 @@
-use mathlib.Core.Path.{◌≡◌, sym, ◌∙◌}
-use Prim.Native.Nat.{◌≤◌, ◌-◌}
-use lib.ListN.{length}
+use mathlib.Core.Path.{◌∙◌}
 use borrow.Author.Rules.{rules}
 use Rattle.sets.specs.Sets.{member}
-use Rattle.schema.specs.Layout.{attribute_set}
 use Rattle.schema.specs.Store.{table_in}
 use Rattle.schema.specs.declared.number.TableId.TheVariants.{Classes}
-use Rattle.graph.proofs.Gather.{Added, add_none, add_more, add_end}
+use Rattle.graph.proofs.Gather.{add_none, add_more, add_end}
 use Rattle.graph.proofs.collect.add_all.Goals as goal
 
 pub loop-k-init : goal.loop-k-init

@@ -2,7 +2,6 @@ use mathlib.Core.Path.{sym, ap, ◌∙◌}
 use Prim.Native.Nat.{◌≤◌}
 use native.Mathlib.Omega.{arith}
 use lib.ListN.{length}
-use borrow.Author.Rules.{rules}
 use Rattle.prelude.specs.PartLaws.{part_length}
 use Rattle.sets.specs.Sets.{member}
 use Rattle.schema.specs.Layout.{attribute_set, class_width}

@@ -1,5 +1,4 @@
 use mathlib.Core.Path.{ap, ◌∙◌}
-use borrow.Author.Rules.{rules}
 use Rattle.prelude.specs.Part.{zeros}
 use Rattle.sets.specs.Sets.{member}
 use Rattle.schema.specs.Layout.{mandatory_at}

@@ -3,7 +3,6 @@ use native.Mathlib.Omega.{arith}
 use mathlib.Core.Path.{◌∙◌, ap, ap₂}
 use mathlib.Core.Bool.{not}
 use Prim.Native.Nat.{◌*◌, ◌+◌}
-use borrow.Author.Rules.{rules}
 use Rattle.schema.specs.Layout.{attribute_set, closure_width, demanded_at}
 use Rattle.schema.specs.Numbers.{class_limit}
 use Rattle.prelude.specs.Part.{part, same_bytes}

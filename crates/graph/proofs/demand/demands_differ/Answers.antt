@@ -1,12 +1,10 @@
 use native.Mathlib.Omega.{arith}
-use mathlib.Core.Path.{◌∙◌, ◌≡◌, sym}
-use mathlib.Core.Bool.{false, not}
-use Prim.Native.Nat.{◌-◌, ◌≤◌}
+use mathlib.Core.Path.{◌∙◌, sym}
+use mathlib.Core.Bool.{not}
 use borrow.Author.Rules.{rules}
 use Rattle.schema.specs.declared.number.TableId.TheVariants.{Classes}
 use Rattle.schema.specs.Store.{demanded_in, table_in}
 use Rattle.prelude.specs.BelowLaws.{any_end, any_here, any_more, any_zero}
-use Rattle.prelude.specs.Below.{any_below}
 use Rattle.prelude.specs.Part.{same_bytes}
 use Rattle.graph.specs.Graph.{demanded_set, demands_differ}
 use Rattle.graph.proofs.demand.demands_differ.Goals as goal

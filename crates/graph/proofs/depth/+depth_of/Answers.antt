@@ -1,6 +1,4 @@
-use Prim.Native.Nat.{ℕ, ◌<◌}
 use native.Mathlib.Omega.{arith}
-use borrow.Author.Rules.{rules}
 use Rattle.schema.specs.Store.{table_in}
 use Rattle.schema.specs.StoreLaws.{table_row_wide}
 use Rattle.schema.specs.declared.number.TableId.TheVariants.{Classes}

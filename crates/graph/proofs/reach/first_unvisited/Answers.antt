@@ -1,10 +1,7 @@
-use mathlib.Core.Bool.{false}
-use mathlib.Core.Path.{◌≡◌, sym, ◌∙◌}
-use Prim.Native.Nat.{ℕ, ◌≤◌, ◌<◌, ◌-◌}
+use mathlib.Core.Path.{sym, ◌∙◌}
 use native.Mathlib.Omega.{arith}
 use borrow.Author.Count.{below_more}
 use borrow.Author.Rules.{rules}
-use Rattle.sets.specs.Sets.{from}
 use Rattle.sets.specs.ListLaws.{from_before, from_past}
 use Rattle.graph.specs.Visit.{unvisited_in}
 use Rattle.graph.proofs.Next.{class_found, class_none}

@@ -1,13 +1,8 @@
 use mathlib.Core.Bool.{false}
-use mathlib.Core.Path.{◌≡◌, sym, ◌∙◌}
+use mathlib.Core.Path.{◌≡◌}
 use Prim.Native.Nat.{ℕ, ◌≤◌, ◌<◌, ◌-◌}
-use native.Mathlib.Omega.{arith}
-use borrow.Author.Count.{below_more}
-use borrow.Author.Rules.{rules}
 use Rattle.sets.specs.Sets.{from}
-use Rattle.sets.specs.ListLaws.{from_before, from_past}
 use Rattle.graph.specs.Visit.{unvisited_in}
-use Rattle.graph.proofs.Next.{class_found, class_none}
 use Rattle.graph.proofs.reach.first_unvisited.Given as goal
 
 abbrev pub invariant-loop-d : goal.invariant-loop-d

@@ -1,6 +1,5 @@
 use mathlib.Core.Bool.{Bool, true, false, not, ◌&&◌, ◌||◌, true≢false, false≢true}
 use mathlib.Core.Path.{◌≡◌, refl, sym, ◌∙◌}
-use borrow.Author.Rules.{rules}
 use Rattle.sets.specs.Sets.{member}
 use Rattle.graph.specs.Visit.{unvisited_in}
 use Rattle.graph.proofs.reach.is_unvisited.Goals as goal

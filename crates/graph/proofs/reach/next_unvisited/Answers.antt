@@ -1,5 +1,4 @@
 use native.Mathlib.Omega.{arith}
-use borrow.Author.Rules.{rules}
 use Rattle.schema.specs.StoreLaws.{table_row_wide}
 use Rattle.schema.specs.declared.number.TableId.TheVariants.{Classes}
 use Rattle.graph.proofs.Visit.{next_searched}

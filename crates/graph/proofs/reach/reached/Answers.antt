@@ -1,7 +1,6 @@
 use mathlib.Core.List.{List}
 use mathlib.Core.Path.{ap, ◌∙◌}
 use Prim.Native.Nat.{ℕ}
-use borrow.Author.Rules.{rules}
 use Rattle.sets.specs.Sets.{member, set_of}
 use Rattle.schema.specs.Layout.{class_set}
 use Rattle.schema.specs.Store.{table_in}

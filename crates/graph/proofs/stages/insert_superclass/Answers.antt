@@ -1,6 +1,5 @@
 use mathlib.Core.Path.{sym, ◌∙◌}
 use native.Mathlib.Omega.{arith}
-use borrow.Author.Rules.{rules}
 use Rattle.sets.specs.SetsLaws.{with_beyond}
 use Rattle.schema.specs.ClassRow.{superclass_of}
 use Rattle.schema.specs.NumbersLaws.{class_is, class_beyond}

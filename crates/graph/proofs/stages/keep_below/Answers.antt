@@ -1,9 +1,5 @@
-use Rattle.graph.proofs.Firsts.{Kept, kept_none, kept_more, kept_length, kept_end}
-use Rattle.schema.specs.Numbers.{class_limit}
-use Prim.Native.Nat.{◌≤◌, ◌-◌}
-use mathlib.Core.Path.{sym, ◌∙◌}
+use Rattle.graph.proofs.Firsts.{kept_none, kept_more, kept_end}
 use native.Mathlib.Omega.{arith}
-use borrow.Author.Rules.{rules}
 use Rattle.graph.proofs.stages.keep_below.Goals as goal
 
 pub loop-k-init : goal.loop-k-init

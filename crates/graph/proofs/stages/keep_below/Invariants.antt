@@ -1,9 +1,6 @@
-use Rattle.graph.proofs.Firsts.{Kept, kept_none, kept_more, kept_length, kept_end}
+use Rattle.graph.proofs.Firsts.{Kept}
 use Rattle.schema.specs.Numbers.{class_limit}
 use Prim.Native.Nat.{◌≤◌, ◌-◌}
-use mathlib.Core.Path.{sym, ◌∙◌}
-use native.Mathlib.Omega.{arith}
-use borrow.Author.Rules.{rules}
 use Rattle.graph.proofs.stages.keep_below.Given as goal
 
 abbrev pub invariant-loop-k : goal.invariant-loop-k

@@ -10,7 +10,6 @@ use Prim.Native.Nat.{ℕ}
 use mathlib.Core.Path.{ap, ◌∙◌}
 use mathlib.Core.List.{List}
 use native.Mathlib.Omega.{arith}
-use borrow.Author.Rules.{rules}
 use Rattle.graph.proofs.stages.pass_on.Goals as goal
 
 pub copy_padded-requires : goal.copy_padded-requires

@@ -4,10 +4,8 @@ use Rattle.schema.specs.Store.{closure_at}
 use Rattle.schema.specs.Layout.{closure_width}
 use Rattle.schema.specs.Numbers.{class_limit}
 use Rattle.prelude.specs.Part.{splice}
-use Rattle.prelude.specs.Concat.{concat_below}
-use lib.ListN.{length}
-use Prim.Native.Nat.{ℕ, ◌+◌, ◌*◌, ◌≤◌, ◌<◌, ◌-◌}
-use mathlib.Core.Path.{◌≡◌, refl, ap, ◌∙◌}
+use Prim.Native.Nat.{ℕ, ◌+◌, ◌*◌, ◌<◌}
+use mathlib.Core.Path.{refl, ap, ◌∙◌}
 use mathlib.Core.List.{List}
 use native.Mathlib.Omega.{arith}
 use borrow.Author.Rules.{rules}

@@ -1,16 +1,10 @@
-use Rattle.graph.proofs.Rows.{passed_rows, rowed_none, rowed_more, rowed_kept, rowed_length, rowed_end}
 use Rattle.graph.specs.Stages.{passed_row}
 use Rattle.schema.specs.Store.{closure_at}
-use Rattle.schema.specs.Layout.{closure_width}
-use Rattle.schema.specs.Numbers.{class_limit}
 use Rattle.prelude.specs.Part.{splice}
 use Rattle.prelude.specs.Concat.{concat_below}
 use lib.ListN.{length}
-use Prim.Native.Nat.{ℕ, ◌+◌, ◌*◌, ◌≤◌, ◌<◌, ◌-◌}
-use mathlib.Core.Path.{◌≡◌, refl, ap, ◌∙◌}
-use mathlib.Core.List.{List}
-use native.Mathlib.Omega.{arith}
-use borrow.Author.Rules.{rules}
+use Prim.Native.Nat.{◌≤◌, ◌-◌}
+use mathlib.Core.Path.{◌≡◌}
 use Rattle.graph.proofs.stages.pass_to_all.Given as goal
 
 abbrev pub invariant-loop-c : goal.invariant-loop-c

@@ -7,7 +7,6 @@ use mathlib.Core.Path.{sym, ap, ◌∙◌}
 use Rattle.schema.specs.declared.number.TableId.TheVariants.{Classes}
 use Rattle.schema.specs.Store.{table_in}
 use native.Mathlib.Omega.{arith}
-use borrow.Author.Rules.{rules}
 use Rattle.graph.proofs.stages.write_first.Goals as goal
 
 pub row_count-requires : goal.row_count-requires

@@ -4,7 +4,6 @@ use mathlib.Core.Path.{refl}
 use Rattle.schema.specs.declared.number.TableId.TheVariants.{Classes}
 use Rattle.schema.specs.Store.{table_in}
 use Rattle.schema.specs.StoreLaws.{closure_lent_back}
-use borrow.Author.Rules.{rules}
 use Rattle.graph.proofs.stages.write_first_at.Goals as goal
 
 pub returns : goal.returns

@@ -1,15 +1,12 @@
-use Rattle.graph.proofs.Rows.{stage_length, rowed_none, rowed_more, rowed_length, rowed_end}
-use Rattle.graph.specs.Stages.{stage_row, stage_rows}
+use Rattle.graph.specs.Stages.{stage_row}
 use Rattle.schema.specs.Numbers.{class_limit}
 use Rattle.prelude.specs.Part.{splice}
 use Rattle.prelude.specs.Concat.{concat_below}
 use lib.ListN.{length}
-use Prim.Native.Nat.{◌+◌, ◌≤◌, ◌-◌}
-use mathlib.Core.Path.{◌≡◌, refl}
+use Prim.Native.Nat.{◌≤◌, ◌-◌}
+use mathlib.Core.Path.{◌≡◌}
 use Rattle.schema.specs.declared.number.TableId.TheVariants.{Classes}
 use Rattle.schema.specs.Store.{table_in}
-use native.Mathlib.Omega.{arith}
-use borrow.Author.Rules.{rules}
 use Rattle.graph.proofs.stages.write_firsts.Given as goal
 
 abbrev pub invariant-loop-c : goal.invariant-loop-c

@@ -9,7 +9,6 @@ use mathlib.Core.List.{List}
 use Rattle.schema.specs.declared.number.TableId.TheVariants.{Classes}
 use Rattle.schema.specs.StoreLaws.{table_row_wide}
 use native.Mathlib.Omega.{arith}
-use borrow.Author.Rules.{rules}
 use Rattle.graph.proofs.stages.write_own_mandatory.Goals as goal
 
 pub class_row-requires : goal.class_row-requires

@@ -10,7 +10,6 @@ use mathlib.Core.Bool.{◌||◌}
 use Rattle.schema.specs.declared.number.TableId.TheVariants.{Classes}
 use Rattle.schema.specs.StoreLaws.{table_row_wide}
 use native.Mathlib.Omega.{arith}
-use borrow.Author.Rules.{rules}
 use Rattle.graph.proofs.stages.write_own_optional.Goals as goal
 
 pub class_row-row-requires : goal.class_row-row-requires

@@ -1,14 +1,6 @@
-use mathlib.Core.Bool.{Bool}
-use mathlib.Core.List.{List}
-use mathlib.Core.Path.{◌≡◌, refl, sym, ◌∙◌}
-use Prim.Native.Nat.{ℕ, ◌-◌, ◌%◌, ◌≤◌}
+use mathlib.Core.Path.{refl, sym, ◌∙◌}
 use native.Mathlib.Omega.{arith}
-use lib.ListN.{length, drop}
-use borrow.Author.Rules.{rules}
-use Rattle.schema.specs.Numbers.{limit}
-use Rattle.rows_format.specs.Entries.{entries, rises_below}
 use Rattle.rows_read.proofs.Entering.{rises_low, rises_over, rises_more, rises_done}
-use Rattle.rows_read.proofs.entries.rises.Invariants.{Going}
 use Rattle.rows_read.proofs.entries.rises.Goals as goal
 
 pub loop-i-init : goal.loop-i-init

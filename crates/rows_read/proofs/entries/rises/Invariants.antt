@@ -1,13 +1,10 @@
 use mathlib.Core.Bool.{Bool}
 use mathlib.Core.List.{List}
-use mathlib.Core.Path.{◌≡◌, refl, sym, ◌∙◌}
+use mathlib.Core.Path.{◌≡◌}
 use Prim.Native.Nat.{ℕ, ◌-◌, ◌%◌, ◌≤◌}
-use native.Mathlib.Omega.{arith}
 use lib.ListN.{length, drop}
-use borrow.Author.Rules.{rules}
 use Rattle.schema.specs.Numbers.{limit}
 use Rattle.rows_format.specs.Entries.{entries, rises_below}
-use Rattle.rows_read.proofs.Entering.{rises_low, rises_over, rises_more, rises_done}
 use Rattle.rows_read.proofs.entries.rises.Given as goal
 
 -- what is left of the entries decides as all of them do

@@ -1,14 +1,12 @@
 use mathlib.Core.List.{List}
-use mathlib.Core.Path.{◌≡◌, refl, sym, ap, ◌∙◌}
-use Prim.Native.Nat.{◌+◌, ℕ, ◌-◌, ◌%◌, ◌≤◌}
+use mathlib.Core.Path.{refl, sym, ap, ◌∙◌}
+use Prim.Native.Nat.{◌+◌, ℕ}
 use native.Mathlib.Omega.{arith}
-use lib.ListN.{length, drop}
-use borrow.Author.Rules.{rules}
+use lib.ListN.{drop}
 use Rattle.sets.specs.Sets.{set_of}
 use Rattle.prelude.specs.Unlike.{among}
 use Rattle.rows_format.specs.Entries.{entries}
-use Rattle.rows_read.proofs.Entering.{insert_begin, insert_all, Within, insert_turn, insert_done, within_rest}
-use Rattle.rows_read.proofs.entries.store_entries.Invariants.{Going}
+use Rattle.rows_read.proofs.Entering.{insert_begin, insert_all, insert_turn, insert_done, within_rest}
 use Rattle.rows_read.proofs.entries.store_entries.Goals as goal
 
 pub loop-i-init : goal.loop-i-init

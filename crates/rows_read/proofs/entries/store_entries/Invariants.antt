@@ -1,13 +1,11 @@
 use mathlib.Core.List.{List}
-use mathlib.Core.Path.{◌≡◌, refl, sym, ap, ◌∙◌}
-use Prim.Native.Nat.{◌+◌, ℕ, ◌-◌, ◌%◌, ◌≤◌}
-use native.Mathlib.Omega.{arith}
+use mathlib.Core.Path.{◌≡◌}
+use Prim.Native.Nat.{ℕ, ◌-◌, ◌%◌, ◌≤◌}
 use lib.ListN.{length, drop}
-use borrow.Author.Rules.{rules}
 use Rattle.sets.specs.Sets.{set_of}
 use Rattle.prelude.specs.Unlike.{among}
 use Rattle.rows_format.specs.Entries.{entries}
-use Rattle.rows_read.proofs.Entering.{insert_begin, insert_all, Within, insert_turn, insert_done, within_rest}
+use Rattle.rows_read.proofs.Entering.{insert_all, Within}
 use Rattle.rows_read.proofs.entries.store_entries.Given as goal
 
 -- the set with what is left of the entries is the set of all of them

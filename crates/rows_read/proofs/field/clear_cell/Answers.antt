@@ -1,4 +1,3 @@
-use borrow.Author.Rules.{rules}
 use Rattle.rows_format.specs.ColumnsLaws.{width_small}
 use Rattle.rows_read.proofs.Storing.{cell_cleared}
 use Rattle.rows_read.proofs.field.clear_cell.Goals as goal

@@ -1,5 +1,4 @@
 use mathlib.Core.Path.{sym, ◌∙◌}
-use borrow.Author.Rules.{rules}
 use Rattle.rows_read.proofs.field.passed.Goals as goal
 
 pub returns-then-is_required : goal.returns-then-is_required

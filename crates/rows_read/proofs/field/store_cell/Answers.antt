@@ -2,10 +2,9 @@ use mathlib.Core.Path.{sym, ◌∙◌}
 use Prim.Native.Nat.{◌≤◌}
 use native.Mathlib.Omega.{arith}
 use lib.ListN.{length, length-set}
-use borrow.Author.Rules.{rules}
 use Rattle.rows_format.specs.Columns.{column_width}
 use Rattle.rows_format.specs.ColumnsLaws.{takes_bool}
-use Rattle.rows_read.proofs.Storing.{rest_long, rest_back, marked_cell, bare_cell, marked_stored}
+use Rattle.rows_read.proofs.Storing.{rest_long, marked_cell, bare_cell, marked_stored}
 use Rattle.rows_read.proofs.field.store_cell.Goals as goal
 
 pub bounds-cell-0 : goal.bounds-cell-0

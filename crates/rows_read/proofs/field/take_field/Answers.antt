@@ -2,7 +2,6 @@ use mathlib.Core.List.{List}
 use mathlib.Core.Path.{sym, ap, ◌∙◌}
 use Prim.Native.Nat.{ℕ}
 use native.Mathlib.Omega.{arith}
-use borrow.Author.Rules.{rules}
 use Rattle.prelude.specs.Part.{splice}
 use Rattle.rows_format.specs.Columns.{takes, cell_of}
 use Rattle.rows_read.specs.ReadingLaws.{is_taken, stepped_refused, stepped_passed, stepped_taken}

@@ -1,5 +1,4 @@
 use mathlib.Core.Path.{sym, ◌∙◌}
-use borrow.Author.Rules.{rules}
 use Rattle.rows_format.specs.Columns.{takes}
 use Rattle.rows_read.proofs.field.takes.Goals as goal
 

@@ -1,6 +1,5 @@
 use mathlib.Core.Path.{refl, sym, ap, ◌∙◌}
 use native.Mathlib.Omega.{arith}
-use borrow.Author.Rules.{rules}
 use Rattle.wire.specs.WireLaws.{field_is, field_end}
 use Rattle.rows_format.specs.Columns.{takes}
 use Rattle.rows_read.specs.ReadingLaws.{turn_end, turn_other, turn_taken, turn_refused}

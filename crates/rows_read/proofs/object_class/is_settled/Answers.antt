@@ -1,4 +1,3 @@
-use borrow.Author.Rules.{rules}
 use Rattle.rows_read.proofs.Checking.{settled_not_object, settled_given, settled_first}
 use Rattle.rows_read.proofs.object_class.is_settled.Goals as goal
 

@@ -3,7 +3,6 @@ use mathlib.Core.Path.{◌≡◌, sym, ap, ◌∙◌}
 use Prim.Native.Nat.{ℕ}
 use native.Mathlib.Omega.{arith}
 use lib.ListN.{length, length-take, length-drop}
-use borrow.Author.Rules.{rules}
 use Rattle.prelude.specs.Part.{splice}
 use Rattle.prelude.specs.LentLaws.{lent_cleared}
 use Rattle.schema.specs.ObjectClasses.{first_object_class}

@@ -1,6 +1,5 @@
 use Rattle.rows_format.specs.Formats.{format_width}
 use Rattle.rows_read.specs.ObjectClass.{finished}
-use borrow.Author.Rules.{rules}
 use Rattle.rows_read.proofs.read.finish.Goals as goal
 
 pub finish_row-requires : goal.finish_row-requires

@@ -1,5 +1,4 @@
 use Rattle.rows_read.specs.ObjectClass.{finished_row}
-use borrow.Author.Rules.{rules}
 use Rattle.rows_read.proofs.read.finish_row.Goals as goal
 
 pub settle-requires : goal.settle-requires

@@ -1,16 +1,11 @@
-use mathlib.Core.Bool.{Bool, false}
-use mathlib.Core.List.{List}
-use mathlib.Core.Path.{◌≡◌, refl, sym, ap, ◌∙◌}
-use Prim.Native.Nat.{ℕ, ◌-◌, ◌≤◌, ◌<◌}
+use mathlib.Core.Path.{refl, sym, ap, ◌∙◌}
+use Prim.Native.Nat.{◌<◌}
 use native.Mathlib.Omega.{arith}
-use lib.ListN.{length, drop}
-use borrow.Author.Rules.{rules}
-use Rattle.rows_format.specs.declared.column.Column.{Column}
+use lib.ListN.{length}
 use Rattle.rows_format.specs.Formats.{columns_of, no_column}
 use Rattle.rows_format.specs.FormatsLaws.{fits_in}
-use Rattle.rows_read.specs.Reading.{Out, read_by}
+use Rattle.rows_read.specs.Reading.{Out}
 use Rattle.rows_read.specs.ReadingLaws.{took_within, read_next, read_stop, read_leftover, read_missing, read_whole}
-use Rattle.rows_read.proofs.read.read_fields.Invariants.{Going}
 use Rattle.rows_read.proofs.read.read_fields.Goals as goal
 
 pub loop-i-init : goal.loop-i-init

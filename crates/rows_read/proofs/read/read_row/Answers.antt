@@ -1,5 +1,4 @@
 use mathlib.Core.Path.{◌∙◌}
-use borrow.Author.Rules.{rules}
 use Rattle.rows_read.specs.ObjectClassLaws.{finish_bad, finish_read}
 use Rattle.rows_read.proofs.read.read_row.Goals as goal
 

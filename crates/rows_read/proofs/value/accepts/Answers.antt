@@ -1,4 +1,3 @@
-use borrow.Author.Rules.{rules}
 use borrow.Author.Tests.{eq-eqb, ne_eqb, lt-leb, le-leb}
 use Rattle.rows_format.specs.Encodings.{accepts}
 use Rattle.rows_read.proofs.value.accepts.Goals as goal

@@ -1,6 +1,5 @@
 use mathlib.Core.Path.{sym}
 use lib.ListN.{get_or-eq_default}
-use borrow.Author.Rules.{rules}
 use Rattle.rows_read.proofs.value.first_byte.Goals as goal
 
 pub returns-else-v-gt0 : goal.returns-else-v-gt0

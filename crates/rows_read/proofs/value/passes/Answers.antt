@@ -1,4 +1,3 @@
-use borrow.Author.Rules.{rules}
 use Rattle.rows_format.specs.Encodings.{passes}
 use Rattle.rows_read.proofs.value.passes.Goals as goal
 

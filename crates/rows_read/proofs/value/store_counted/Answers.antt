@@ -1,7 +1,6 @@
 use native.Mathlib.Omega.{arith}
 use lib.ListN.{length-set}
-use borrow.Author.Rules.{rules}
-use Rattle.rows_read.proofs.Storing.{rest_long, rest_back, counted_stored}
+use Rattle.rows_read.proofs.Storing.{rest_long, counted_stored}
 use Rattle.rows_read.proofs.value.store_counted.Goals as goal
 
 pub slice_bounds-copy_padded-count : goal.slice_bounds-copy_padded-count

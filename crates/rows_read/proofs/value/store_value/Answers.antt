@@ -1,9 +1,8 @@
 use mathlib.Core.Path.{sym}
 use native.Mathlib.Omega.{arith}
 use lib.ListN.{length}
-use borrow.Author.Rules.{rules}
 use Rattle.rows_read.proofs.Storing.{told, plain_long, number_fits, counted_fits, arcs_fit, entries_fit, plain_image, number_image}
-use Rattle.rows_read.proofs.Storing.{counted_image, arcs_image, entries_image, one_stored, copied_whole}
+use Rattle.rows_read.proofs.Storing.{counted_image, arcs_image, entries_image, one_stored}
 use Rattle.rows_read.proofs.value.store_value.Goals as goal
 
 pub read_u16-requires : goal.read_u16-requires

@@ -1,5 +1,4 @@
 use native.Mathlib.Omega.{arith}
-use borrow.Author.Rules.{rules}
 use Rattle.rows_format.specs.Columns.{column_width}
 use Rattle.rows_read.proofs.Checking.{rest_length, cell_has, cell_blank}
 use Rattle.rows_read.proofs.wellformed.cell_formed.Goals as goal

@@ -1,11 +1,10 @@
-use mathlib.Core.Path.{◌≡◌, refl, sym, ap, ◌∙◌}
-use Prim.Native.Nat.{◌-◌, ◌≤◌, ◌<◌}
+use mathlib.Core.Path.{refl, sym, ap, ◌∙◌}
+use Prim.Native.Nat.{◌<◌}
 use native.Mathlib.Omega.{arith}
-use lib.ListN.{length, drop}
-use borrow.Author.Rules.{rules}
+use lib.ListN.{length}
 use Rattle.prelude.specs.PartLaws.{part_length}
 use Rattle.rows_format.specs.Formats.{columns_of, no_column}
-use Rattle.rows_format.specs.Columns.{well_formed_cell, well_formed_by}
+use Rattle.rows_format.specs.Columns.{well_formed_cell}
 use Rattle.rows_format.specs.ColumnsLaws.{width_small}
 use Rattle.rows_format.specs.FormatsLaws.{fits_in}
 use Rattle.rows_read.proofs.Checking.{formed_next, formed_not, formed_done, cell_cut}

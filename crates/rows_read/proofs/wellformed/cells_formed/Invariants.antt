@@ -1,14 +1,8 @@
-use mathlib.Core.Path.{◌≡◌, refl, sym, ap, ◌∙◌}
-use Prim.Native.Nat.{◌-◌, ◌≤◌, ◌<◌}
-use native.Mathlib.Omega.{arith}
-use lib.ListN.{length, drop}
-use borrow.Author.Rules.{rules}
-use Rattle.prelude.specs.PartLaws.{part_length}
-use Rattle.rows_format.specs.Formats.{columns_of, no_column}
-use Rattle.rows_format.specs.Columns.{well_formed_cell, well_formed_by}
-use Rattle.rows_format.specs.ColumnsLaws.{width_small}
-use Rattle.rows_format.specs.FormatsLaws.{fits_in}
-use Rattle.rows_read.proofs.Checking.{formed_next, formed_not, formed_done, cell_cut}
+use mathlib.Core.Path.{◌≡◌}
+use Prim.Native.Nat.{◌-◌, ◌≤◌}
+use lib.ListN.{drop}
+use Rattle.rows_format.specs.Formats.{columns_of}
+use Rattle.rows_format.specs.Columns.{well_formed_by}
 use Rattle.rows_read.proofs.wellformed.cells_formed.Given as goal
 
 abbrev pub invariant-loop-i : goal.invariant-loop-i

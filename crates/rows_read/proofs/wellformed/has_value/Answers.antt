@@ -1,4 +1,3 @@
-use borrow.Author.Rules.{rules}
 use Rattle.rows_format.specs.Columns.{has_value}
 use Rattle.rows_read.proofs.wellformed.has_value.Goals as goal
 

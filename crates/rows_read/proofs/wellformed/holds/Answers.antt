@@ -1,6 +1,5 @@
 use mathlib.Core.Path.{ap}
 use native.Mathlib.Omega.{arith}
-use borrow.Author.Rules.{rules}
 use borrow.Author.Tests.{lt-leb, le-leb}
 use Rattle.rows_format.specs.Encodings.{holds, room}
 use Rattle.rows_read.proofs.wellformed.holds.Goals as goal

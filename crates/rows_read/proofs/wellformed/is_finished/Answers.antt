@@ -1,5 +1,4 @@
 use Rattle.rows_read.specs.WellFormed.{is_finished}
-use borrow.Author.Rules.{rules}
 use Rattle.rows_read.proofs.wellformed.is_finished.Goals as goal
 
 pub is_settled-requires : goal.is_settled-requires

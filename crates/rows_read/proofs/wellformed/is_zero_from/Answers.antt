@@ -1,5 +1,4 @@
 use mathlib.Core.Path.{ap, ◌∙◌}
-use borrow.Author.Rules.{rules}
 use Rattle.prelude.specs.Part.{is_zero}
 use Rattle.rows_read.proofs.Checking.{rest_of}
 use Rattle.rows_read.proofs.wellformed.is_zero_from.Goals as goal

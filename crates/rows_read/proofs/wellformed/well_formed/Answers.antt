@@ -1,6 +1,5 @@
 use Rattle.rows_format.specs.Formats.{format_width}
 use Rattle.rows_read.specs.WellFormed.{well_formed}
-use borrow.Author.Rules.{rules}
 use Rattle.rows_read.proofs.wellformed.well_formed.Goals as goal
 
 pub cells_formed-requires : goal.cells_formed-requires

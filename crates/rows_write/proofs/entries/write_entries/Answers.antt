@@ -1,6 +1,6 @@
 use mathlib.Core.List.{List}
 use mathlib.Core.Path.{◌≡◌, refl, sym, ap, ◌∙◌}
-use Prim.Native.Nat.{ℕ, ◌+◌, ◌-◌, ◌*◌, ◌≤◌}
+use Prim.Native.Nat.{ℕ, ◌+◌, ◌*◌}
 use native.Mathlib.Nat.{add-zero}
 use native.Mathlib.Omega.{arith}
 use lib.ListN.{length, length-append}
@@ -9,7 +9,6 @@ use Rattle.prelude.specs.Part.{splice}
 use Rattle.sets.specs.Sets.{member, list_below}
 use Rattle.rows_format.specs.Entries.{entry_bytes}
 use Rattle.rows_write.proofs.Listing.{entries_none, entries_more, entries_fit, entries_all}
-use Rattle.rows_write.proofs.entries.write_entries.Invariants.{Going}
 use Rattle.rows_write.proofs.entries.write_entries.Goals as goal
 
 pub overflow_mul-end : goal.overflow_mul-end

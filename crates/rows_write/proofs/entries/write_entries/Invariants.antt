@@ -1,14 +1,10 @@
 use mathlib.Core.List.{List}
-use mathlib.Core.Path.{◌≡◌, refl, sym, ap, ◌∙◌}
-use Prim.Native.Nat.{ℕ, ◌+◌, ◌-◌, ◌*◌, ◌≤◌}
-use native.Mathlib.Nat.{add-zero}
-use native.Mathlib.Omega.{arith}
-use lib.ListN.{length, length-append}
-use Rattle.prelude.specs.SpliceLaws.{splice_none, write_turn}
+use mathlib.Core.Path.{◌≡◌}
+use Prim.Native.Nat.{ℕ, ◌+◌, ◌-◌, ◌≤◌}
+use lib.ListN.{length}
 use Rattle.prelude.specs.Part.{splice}
 use Rattle.sets.specs.Sets.{member, list_below}
 use Rattle.rows_format.specs.Entries.{entry_bytes}
-use Rattle.rows_write.proofs.Listing.{entries_none, entries_more, entries_fit, entries_all}
 use Rattle.rows_write.proofs.entries.write_entries.Given as goal
 
 -- the members below n are written

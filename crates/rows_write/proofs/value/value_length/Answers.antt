@@ -1,5 +1,4 @@
 use native.Mathlib.Omega.{arith}
-use borrow.Author.Rules.{rules}
 use Rattle.rows_format.specs.EntriesLaws.{members_few, members_count}
 use Rattle.rows_write.proofs.Writing.{holding_small, plain_count, number_count, counted_count, arcs_count, entries_count}
 use Rattle.rows_write.proofs.value.value_length.Goals as goal

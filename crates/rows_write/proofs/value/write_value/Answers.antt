@@ -3,7 +3,6 @@ use mathlib.Core.Path.{sym, ap, ◌∙◌}
 use Prim.Native.Nat.{ℕ}
 use native.Mathlib.Omega.{arith}
 use lib.ListN.{length}
-use borrow.Author.Rules.{rules}
 use Rattle.prelude.specs.Part.{splice}
 use Rattle.prelude.specs.BigEndianLaws.{bytes_length}
 use Rattle.rows_write.proofs.Writing.{stored_plain, stored_number, stored_counted, stored_arcs, stored_entries, counted_inside, arcs_inside}

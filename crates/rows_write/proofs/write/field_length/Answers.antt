@@ -2,7 +2,6 @@ use mathlib.Core.Path.{◌≡◌, sym, ap, ◌∙◌}
 use Prim.Native.Nat.{ℕ, ◌+◌}
 use native.Mathlib.Omega.{arith}
 use lib.ListN.{length}
-use borrow.Author.Rules.{rules}
 use Rattle.wire.specs.WireLaws.{field_length}
 use Rattle.rows_format.specs.Columns.{field_of}
 use Rattle.rows_format.specs.ColumnsLaws.{width_small}

@@ -1,7 +1,6 @@
 use mathlib.Core.Path.{ap, ◌∙◌}
 use Prim.Native.Nat.{ℕ}
 use native.Mathlib.Omega.{arith}
-use borrow.Author.Rules.{rules}
 use Rattle.prelude.specs.Part.{splice}
 use Rattle.wire.specs.Wire.{header_bytes}
 use Rattle.wire.specs.WireLaws.{field_length}

@@ -1,17 +1,12 @@
-use mathlib.Core.List.{List}
-use mathlib.Core.Path.{◌≡◌, ap}
-use Prim.Native.Nat.{ℕ, ◌+◌, ◌-◌, ◌*◌, ◌≤◌, ◌<◌}
+use mathlib.Core.Path.{ap}
+use Prim.Native.Nat.{◌<◌}
 use native.Mathlib.Nat.{zero-add}
 use native.Mathlib.Omega.{arith}
-use lib.ListN.{length, drop}
-use borrow.Author.Rules.{rules}
-use Rattle.rows_format.specs.declared.column.Column.{Column}
+use lib.ListN.{length}
 use Rattle.rows_format.specs.Formats.{columns_of, no_column}
 use Rattle.rows_format.specs.FormatsLaws.{fits_in, format_few}
-use Rattle.rows_format.specs.Columns.{write_by}
 use Rattle.rows_write.specs.WritingLaws.{length_next, write_done}
 use Rattle.rows_write.proofs.Writing.{field_short, formed_column}
-use Rattle.rows_write.proofs.write.row_length.Invariants.{Going}
 use Rattle.rows_write.proofs.write.row_length.Goals as goal
 
 pub loop-i-init : goal.loop-i-init

@@ -1,16 +1,10 @@
 use mathlib.Core.List.{List}
-use mathlib.Core.Path.{◌≡◌, ap}
-use Prim.Native.Nat.{ℕ, ◌+◌, ◌-◌, ◌*◌, ◌≤◌, ◌<◌}
-use native.Mathlib.Nat.{zero-add}
-use native.Mathlib.Omega.{arith}
+use mathlib.Core.Path.{◌≡◌}
+use Prim.Native.Nat.{ℕ, ◌+◌, ◌-◌, ◌*◌, ◌≤◌}
 use lib.ListN.{length, drop}
-use borrow.Author.Rules.{rules}
 use Rattle.rows_format.specs.declared.column.Column.{Column}
-use Rattle.rows_format.specs.Formats.{columns_of, no_column}
-use Rattle.rows_format.specs.FormatsLaws.{fits_in, format_few}
+use Rattle.rows_format.specs.Formats.{columns_of}
 use Rattle.rows_format.specs.Columns.{write_by}
-use Rattle.rows_write.specs.WritingLaws.{length_next, write_done}
-use Rattle.rows_write.proofs.Writing.{field_short, formed_column}
 use Rattle.rows_write.proofs.write.row_length.Given as goal
 
 -- what was counted and what is left are all of it

@@ -4,7 +4,6 @@ use Prim.Native.Nat.{ℕ, ◌+◌}
 use native.Mathlib.Nat.{add-zero}
 use native.Mathlib.Omega.{arith}
 use lib.ListN.{length}
-use borrow.Author.Rules.{rules}
 use Rattle.prelude.specs.SpliceLaws.{splice_none}
 use Rattle.prelude.specs.Part.{splice}
 use Rattle.rows_format.specs.ColumnsLaws.{width_small}

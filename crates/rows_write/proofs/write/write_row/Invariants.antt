@@ -1,18 +1,11 @@
 use mathlib.Core.List.{List}
-use mathlib.Core.Path.{◌≡◌, refl, sym, ap, ◌∙◌}
-use Prim.Native.Nat.{ℕ, ◌+◌, ◌-◌, ◌≤◌, ◌<◌}
-use native.Mathlib.Nat.{add-zero}
-use native.Mathlib.Omega.{arith}
+use mathlib.Core.Path.{◌≡◌}
+use Prim.Native.Nat.{ℕ, ◌+◌, ◌-◌, ◌≤◌}
 use lib.ListN.{length, drop}
-use borrow.Author.Rules.{rules}
-use Rattle.prelude.specs.SpliceLaws.{splice_none, write_turn}
 use Rattle.prelude.specs.Part.{splice}
 use Rattle.rows_format.specs.declared.column.Column.{Column}
-use Rattle.rows_format.specs.Formats.{columns_of, no_column}
-use Rattle.rows_format.specs.FormatsLaws.{fits_in, format_few}
-use Rattle.rows_format.specs.Columns.{field_of, write_by}
-use Rattle.rows_write.specs.WritingLaws.{write_next, length_next, write_done}
-use Rattle.rows_write.proofs.Writing.{formed_column}
+use Rattle.rows_format.specs.Formats.{columns_of}
+use Rattle.rows_format.specs.Columns.{write_by}
 use Rattle.rows_write.proofs.write.write_row.Given as goal
 
 -- what is left, written at the place reached, makes the whole

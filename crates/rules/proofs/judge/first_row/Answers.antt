@@ -1,9 +1,7 @@
 use Rattle.schema.specs.StoreLaws.{schema_count}
-use Prim.Native.Nat.{◌≤◌, ◌-◌, ℕ}
+use Prim.Native.Nat.{ℕ}
 use mathlib.Core.List.{List}
-use mathlib.Core.Path.{◌≡◌, sym, ap, ◌∙◌}
-use mathlib.Core.Bool.{false}
-use Rattle.prelude.specs.Below.{any_below}
+use mathlib.Core.Path.{sym, ap, ◌∙◌}
 use Rattle.prelude.specs.BelowLaws.{any_zero, any_more, any_end, first_found, first_absent}
 use Rattle.rules.specs.Rules.{breaks}
 use Rattle.schema.specs.Store.{schema_in, table_in}

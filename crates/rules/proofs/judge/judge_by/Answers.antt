@@ -1,14 +1,12 @@
-use mathlib.Core.Path.{◌≡◌, refl, sym, ap, ◌∙◌}
-use Prim.Native.Nat.{ℕ, ◌-◌}
-use lib.ListN.{length, drop}
+use mathlib.Core.Path.{refl, sym, ap, ◌∙◌}
+use Prim.Native.Nat.{ℕ}
 use Rattle.schema.specs.Answers.{passed}
 use Rattle.schema.specs.declared.answer.Answer.{Answer}
 use Rattle.schema.specs.Store.{schema_in}
-use Rattle.rules.specs.Rules.{schema_rules, rules_of, numbered}
-use Rattle.rules.specs.Judge.{judge_rule, judge_rules}
+use Rattle.rules.specs.Rules.{schema_rules, numbered}
+use Rattle.rules.specs.Judge.{judge_rule}
 use Rattle.rules.specs.JudgeLaws.{judge_found, judge_next, judge_over}
 use native.Mathlib.Omega.{arith}
-use borrow.Author.Rules.{rules}
 use Rattle.rules.proofs.judge.judge_by.Goals as goal
 
 pub loop-i-init : goal.loop-i-init

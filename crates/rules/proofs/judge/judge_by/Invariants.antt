@@ -1,14 +1,9 @@
-use mathlib.Core.Path.{◌≡◌, refl, sym, ap, ◌∙◌}
-use Prim.Native.Nat.{ℕ, ◌-◌}
+use mathlib.Core.Path.{◌≡◌}
+use Prim.Native.Nat.{◌-◌}
 use lib.ListN.{length, drop}
-use Rattle.schema.specs.Answers.{passed}
-use Rattle.schema.specs.declared.answer.Answer.{Answer}
 use Rattle.schema.specs.Store.{schema_in}
-use Rattle.rules.specs.Rules.{schema_rules, rules_of, numbered}
-use Rattle.rules.specs.Judge.{judge_rule, judge_rules}
-use Rattle.rules.specs.JudgeLaws.{judge_found, judge_next, judge_over}
-use native.Mathlib.Omega.{arith}
-use borrow.Author.Rules.{rules}
+use Rattle.rules.specs.Rules.{schema_rules, rules_of}
+use Rattle.rules.specs.Judge.{judge_rules}
 use Rattle.rules.proofs.judge.judge_by.Given as goal
 
 abbrev pub invariant-loop-i : goal.invariant-loop-i

@@ -6,7 +6,6 @@ use Rattle.rules.specs.JudgeLaws.{answer_attribute, answer_class, answer_none}
 use Rattle.rules.specs.Rules.{schema_rules}
 use mathlib.Core.Path.{sym, ◌∙◌}
 use native.Mathlib.Omega.{arith}
-use borrow.Author.Rules.{rules}
 use Rattle.rules.proofs.judge.judge_rule.Goals as goal
 
 pub returns-then-is_clear : goal.returns-then-is_clear

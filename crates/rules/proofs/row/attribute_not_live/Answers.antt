@@ -3,7 +3,6 @@ use native.Mathlib.Omega.{arith}
 use Rattle.schema.specs.declared.number.TableId.TheVariants.{Classes}
 use Rattle.tables.specs.ShapedLaws.{shaped_wide}
 use Rattle.rules.specs.Rules.{attribute_not_live}
-use borrow.Author.Rules.{rules}
 use Rattle.rules.proofs.row.attribute_not_live.Goals as goal
 
 pub not_live-requires : goal.not_live-requires

@@ -8,7 +8,6 @@ use mathlib.Core.List.{[], ◌∷◌}
 use mathlib.Core.Path.{sym, refl}
 use Rattle.schema.specs.Refusals as refusal
 use native.Mathlib.Omega.{arith}
-use borrow.Author.Rules.{rules}
 use Rattle.rules.proofs.row.class_breaks.Goals as goal
 
 pub category_wrong-requires : goal.category_wrong-requires

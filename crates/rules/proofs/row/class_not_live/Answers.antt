@@ -3,7 +3,6 @@ use native.Mathlib.Omega.{arith}
 use Rattle.schema.specs.declared.number.TableId.TheVariants.{Classes}
 use Rattle.schema.specs.StoreLaws.{table_row_length}
 use Rattle.rules.specs.Rules.{class_not_live}
-use borrow.Author.Rules.{rules}
 use Rattle.rules.proofs.row.class_not_live.Goals as goal
 
 pub returns-then-class_wrong : goal.returns-then-class_wrong

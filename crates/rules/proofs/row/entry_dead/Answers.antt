@@ -8,7 +8,6 @@ use Rattle.schema.specs.Store.{table_in}
 use Rattle.tables.specs.Live.{live}
 use Rattle.rules.specs.Rules.{entry_dead}
 use native.Mathlib.Omega.{arith}
-use borrow.Author.Rules.{rules}
 use Rattle.rules.proofs.row.entry_dead.Goals as goal
 
 pub returns-then-class-c : goal.returns-then-class-c

@@ -1,5 +1,4 @@
 use Rattle.rules.specs.Rules.{numbered}
-use borrow.Author.Rules.{rules}
 use Rattle.rules.proofs.row.first_broken.Goals as goal
 
 pub returns : goal.returns

@@ -1,13 +1,10 @@
-use mathlib.Core.Path.{◌≡◌, refl, sym, ap, ◌∙◌}
-use Prim.Native.Nat.{ℕ, ◌-◌}
-use lib.ListN.{length, drop}
-use Rattle.prelude.specs.First.{first_of}
+use mathlib.Core.Path.{refl, sym, ap, ◌∙◌}
+use Prim.Native.Nat.{ℕ}
 use Rattle.schema.specs.Numbers.{table_of, number_of}
 use Rattle.schema.specs.Store.{schema_in}
-use Rattle.rules.specs.Rules.{Rule, schema_rules, rules_of, row_cases, breaks}
+use Rattle.rules.specs.Rules.{Rule, schema_rules, breaks}
 use Rattle.rules.specs.RulesLaws.{pick_found, pick_next, pick_none}
 use native.Mathlib.Omega.{arith}
-use borrow.Author.Rules.{rules}
 use Rattle.rules.proofs.row.first_by.Goals as goal
 
 pub loop-i-init : goal.loop-i-init

@@ -1,6 +1,5 @@
 use Rattle.rules.specs.Rules.{barred}
 use borrow.Author.Tests.{eq-eqb, ne_eqb}
-use borrow.Author.Rules.{rules}
 use Rattle.rules.proofs.row.is_barred.Goals as goal
 
 pub returns-then-a-c : goal.returns-then-a-c

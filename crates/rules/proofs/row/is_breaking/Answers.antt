@@ -3,7 +3,6 @@ use Rattle.tables.specs.ShapedLaws.{shaped_within}
 use Rattle.rules_unique.specs.UniqueLaws.{schema_keyed}
 use Rattle.schema.specs.Numbers.{table_of, number_of}
 use native.Mathlib.Omega.{arith}
-use borrow.Author.Rules.{rules}
 use Rattle.rules.proofs.row.is_breaking.Goals as goal
 
 pub schema_row-row-requires : goal.schema_row-row-requires

@@ -1,4 +1,3 @@
-use borrow.Author.Rules.{rules}
 use Rattle.rules.proofs.row.own_breaks.Goals as goal
 
 pub attribute_breaks-requires : goal.attribute_breaks-requires

@@ -1,6 +1,5 @@
 use borrow.Author.Tests.{eq-eqb, ne_eqb}
 use Rattle.sheet_read.specs.Reading.{is_heading}
-use borrow.Author.Rules.{rules}
 use Rattle.sheet_read.proofs.read.is_heading.Goals as goal
 
 pub returns-then-stop-start-ne1 : goal.returns-then-stop-start-ne1

@@ -1,5 +1,4 @@
 use Rattle.sheet_read.specs.Reading.{position}
-use borrow.Author.Rules.{rules}
 use Rattle.sheet_read.proofs.read.position.Goals as goal
 
 pub returns-in-Start : goal.returns-in-Start

@@ -6,7 +6,6 @@ use Rattle.schema.specs.Layout.{row_width}
 use Rattle.rows_format.specs.Formats.{format_width}
 use Rattle.sheet_read.proofs.Steps.{front_within, front_zeros, front_back, front_room, read_in_yes, read_in_no}
 use native.Mathlib.Omega.{arith}
-use borrow.Author.Rules.{rules}
 use Rattle.sheet_read.proofs.read.read_into.Goals as goal
 
 pub slice_bounds-read_row-end : goal.slice_bounds-read_row-end

@@ -1,13 +1,7 @@
-use Rattle.prelude.specs.Part.{splice, zeros}
-use Rattle.sheet_read.proofs.Steps.{held_few}
-use Rattle.sheet_read.proofs.Walk.{Reading, left_emptied, reading_before, reading_begun, reading_end, reading_forward, reading_on, reading_over}
-use Rattle.sheet_read.proofs.Walk.{reading_stop}
-use mathlib.Core.Bool.{true, false}
-use mathlib.Core.Path.{◌≡◌, refl, ap, ◌∙◌}
+use Rattle.sheet_read.proofs.Walk.{Reading}
+use mathlib.Core.Path.{◌≡◌}
 use lib.ListN.{length}
 use Prim.Native.Nat.{◌-◌}
-use native.Mathlib.Omega.{arith}
-use borrow.Author.Rules.{rules}
 use Rattle.sheet_read.proofs.read.read_sheet.Given as goal
 
 abbrev pub invariant-loop-phase : goal.invariant-loop-phase

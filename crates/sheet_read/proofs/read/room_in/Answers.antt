@@ -1,7 +1,6 @@
 use mathlib.Core.Path.{ap, ◌∙◌}
 use Rattle.schema.specs.Store.{count_in}
 use Rattle.sheet_read.proofs.Steps.{no_row, room_none, room_left, lent_table}
-use borrow.Author.Rules.{rules}
 use Rattle.sheet_read.proofs.read.room_in.Goals as goal
 
 pub returns-in_default : goal.returns-in_default

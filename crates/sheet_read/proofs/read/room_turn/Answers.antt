@@ -1,5 +1,4 @@
 use Rattle.sheet_read.specs.Held.{room_turn}
-use borrow.Author.Rules.{rules}
 use Rattle.sheet_read.proofs.read.room_turn.Goals as goal
 
 pub returns-in-Full : goal.returns-in-Full

@@ -1,5 +1,4 @@
 use Rattle.sheet_read.specs.Reading.{rows_open}
-use borrow.Author.Rules.{rules}
 use Rattle.sheet_read.proofs.read.rows_open.Goals as goal
 
 pub returns : goal.returns

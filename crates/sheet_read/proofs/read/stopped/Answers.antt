@@ -1,5 +1,4 @@
 use Rattle.sheet_read.specs.Reading.{stopped}
-use borrow.Author.Rules.{rules}
 use Rattle.sheet_read.proofs.read.stopped.Goals as goal
 
 pub returns-in-On : goal.returns-in-On

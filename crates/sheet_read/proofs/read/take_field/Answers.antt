@@ -6,7 +6,6 @@ use Rattle.reader.specs.ReaderLaws.{step_tag, step_field, step_next}
 use Rattle.sheet_read.specs.Reading.{step, sheet_tag, take_tagged, take_field}
 use Rattle.sheet_read.proofs.Steps.{as_step, same_step, step_full, step_whole, step_cut, free_room}
 use native.Mathlib.Omega.{arith}
-use borrow.Author.Rules.{rules}
 use Rattle.sheet_read.proofs.read.take_field.Goals as goal
 
 pub returns-in_default : goal.returns-in_default

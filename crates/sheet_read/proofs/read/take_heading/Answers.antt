@@ -1,6 +1,5 @@
 use mathlib.Core.Path.{sym, ◌∙◌}
 use Rattle.sheet_read.proofs.Steps.{heading_late, heading_yes, heading_no}
-use borrow.Author.Rules.{rules}
 use Rattle.sheet_read.proofs.read.take_heading.Goals as goal
 
 pub returns-then-is_heading : goal.returns-then-is_heading

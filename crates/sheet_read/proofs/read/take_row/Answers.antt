@@ -2,7 +2,6 @@ use mathlib.Core.Path.{refl, ap, ◌∙◌}
 use Rattle.prelude.specs.Part.{zeros}
 use Rattle.sheet_read.specs.Reading.{row_turn}
 use Rattle.sheet_read.proofs.Steps.{row_on, row_stop}
-use borrow.Author.Rules.{rules}
 use Rattle.sheet_read.proofs.read.take_row.Goals as goal
 
 pub read_into-read-requires : goal.read_into-read-requires

@@ -1,7 +1,6 @@
 use Rattle.sheet_read.proofs.Steps.{took_row, table_room, as_attributes, as_attributes_kept, as_classes, as_classes_kept}
 use mathlib.Core.Path.{◌∙◌}
 use Rattle.schema.specs.declared.number.TableId.TheVariants.{Attributes, Classes}
-use borrow.Author.Rules.{rules}
 use Rattle.sheet_read.proofs.read.take_table_row.Goals as goal
 
 pub take_row-requires : goal.take_row-requires

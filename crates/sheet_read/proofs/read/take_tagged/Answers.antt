@@ -1,7 +1,6 @@
 use mathlib.Core.Path.{sym, ap, ◌∙◌}
 use Rattle.sheet_read.specs.Reading.{step, take_table_row, take_tagged}
 use Rattle.sheet_read.proofs.Steps.{as_step, same_step, tagged_heading, tagged_row, tagged_late, tagged_unknown}
-use borrow.Author.Rules.{rules}
 use Rattle.sheet_read.proofs.read.take_tagged.Goals as goal
 
 pub take_table_row-requires : goal.take_table_row-requires
