@@ -48,6 +48,7 @@ module _ (x : List ℕ) (s : Stores) (change : Change) (r : List ℕ) (reads : R
 
   asked_few : {n : ℕ} → Among n (asked_cases change r m) → rank n ≤ rank refusal.still_needed
   unfolding rank position
+  asked_few {n = n} (Among.there (Among.there (Among.there (Among.there (Among.there (Among.there (Among.there x22))))))) = elim x22 [ ]
   asked_few (Among.here e q) = omega (arith, ap rank q)
   asked_few (Among.there (Among.here e q)) = omega (arith, ap rank q)
   asked_few (Among.there (Among.there (Among.here e q))) = omega (arith, ap rank q)
@@ -67,6 +68,7 @@ module _ (x : List ℕ) (s : Stores) (change : Change) (r : List ℕ) (reads : R
       rule b = QuickCondition.rule n (case_picked by_row (rank refusal.still_needed) rules (rising (added_by change r m.classes.count) by_row) b)
 
       last : Among n (thirty_case x s change r reads ∷ []) → QuickCondition change r s n
+      last (Among.there x4) = elim x4 [ ]
       last (Among.here e q) = subst (QuickCondition change r s) q (QuickCondition.mandatory_differs ((says_thirty change r s).holds e))
 
   condition_case : {n : ℕ} → QuickCondition change r s n → Among n cases

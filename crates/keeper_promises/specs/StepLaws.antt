@@ -162,7 +162,7 @@ module _ (x : List ℕ) (bytes : Bytes x) (s : Stores) (h : InOrder s) where
     done_closure c never = go (table_or_other (table_for change) Classes)
       where
         go : (table_for change ≡ Classes) ⊎ ¬ (table_for change ≡ Classes) → closure_row (schema_of left).classes c ≡ closure_row m.classes c
-        go (inl e) = closure_unreached (changed_same (rw e at one_row.own_val) (done_rows Classes)) c (never e)
+        go (inl e) = closure_unreached (changed_same (rw e at one_row.own) (done_rows Classes)) c (never e)
         go (inr d) = closure_row_same (done_rows Classes) c ∙ ap (λ (t : Table). closure_row t c) (one_row.rest Classes d)
 
   -- ---- either way

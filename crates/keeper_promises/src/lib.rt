@@ -1,1 +1,2 @@
 // What the keeper promises as a whole: no code, only theorems about the calls.
+#![tactic(auto)]
