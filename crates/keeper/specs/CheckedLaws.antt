@@ -1,6 +1,6 @@
 -- What a call knows once its stores were checked: the answer, or that they are in shape and the rest of its answers decides.
 use Rattle.std.specs.Prelude.{List, ◌++◌, ◌≡◌, refl}
-use Rattle.std.proofs.Common.{sym, ap, ◌∙◌}
+use Rattle.std.proofs.Common.{sym, ◌∙◌}
 use Rattle.schema.specs.declared.number.TableId.TheVariants.{Attributes, Classes}
 use Rattle.schema.specs.Store.{Stores}
 use Rattle.schema.specs.declared.answer.Answer.{Answer}

@@ -1,6 +1,6 @@
 -- A quick change answers as document 01 says on any stores in shape: the first number in the order of judging whose condition
 -- holds, without table and place.
-use Rattle.std.specs.Prelude.{Bool, List, [], ◌++◌, ◌∷◌, ◌⊎◌, ◌≡◌, refl, ℕ, ◌≤◌}
+use Rattle.std.specs.Prelude.{Bool, List, [], ◌++◌, ◌∷◌, ◌≡◌, refl, ℕ, ◌≤◌}
 use Rattle.std.proofs.Common.{⊎_elim, ◌∙◌, subst, sym, arith}
 use Rattle.std.proofs.Math.Path.{ap}
 use Rattle.prelude.specs.First.{Among, Case}

@@ -18,7 +18,7 @@ use Rattle.schema.specs.Store.{Stores, result_of, schema_of, table}
 use Rattle.rows_read.specs.declared.read.RowRead.{RowRead}
 use Rattle.rows_read.specs.Reading.{row_answer}
 use Rattle.change_read.specs.declared.read.Change.{Change}
-use Rattle.change_read.specs.declared.read.ChangeRead.TheVariants.{Read, Bad}
+use Rattle.change_read.specs.declared.read.ChangeRead.TheVariants.{Read}
 use Rattle.change_read.specs.declared.read.Tagged.{Tagged}
 use Rattle.change_read.specs.declared.read.Tagged.TheVariants.{Known}
 use Rattle.change_read.specs.Carried.{target_of}

@@ -1,7 +1,7 @@
 -- One plain change on stores in order, refused or done: the rows that it leaves are the model's, the stores stay in order, every class that was there
 -- demands what it did, and all else stays.
 use Rattle.std.specs.Prelude.{Bool, false, true, List, ◌⊎◌, ◌≡◌, refl, ◌<◌, ◌≤◌, ℕ}
-use Rattle.std.proofs.Common.{inl, inr, ◌∙◌, ap₂, sym, arith}
+use Rattle.std.proofs.Common.{inl, inr, ◌∙◌, sym, arith}
 use Rattle.std.proofs.Math.Path.{ap, subst}
 use Rattle.std.proofs.Math.Decide.{dec_lt, ℕ_discrete}
 use Rattle.prelude.specs.Part.{Bytes, same_bytes, zeros}

@@ -1,5 +1,5 @@
 -- When a quick change gives 30, and when 0, on any stores in shape: exactly where document 01 says.
-use Rattle.std.specs.Prelude.{length, ℕ, ◌+◌, ◌<◌, ◌≤◌, Bool, ◌&&◌, false, not, true, List, [], ◌++◌, ◌∷◌, ◌⊎◌, ◌↔◌, ◌≡◌, refl}
+use Rattle.std.specs.Prelude.{length, ℕ, ◌<◌, ◌≤◌, Bool, ◌&&◌, false, not, true, List, [], ◌++◌, ◌∷◌, ◌⊎◌, ◌↔◌, ◌≡◌, refl}
 use Rattle.std.proofs.Math.Decide.{dec_lt}
 use native.Mathlib.Omega.{arith}
 use Rattle.std.proofs.Common.{append_assoc, inl, inr, ◌∙◌, sym}

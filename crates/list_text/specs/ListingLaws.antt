@@ -5,7 +5,6 @@ use Rattle.std.specs.Prelude.{◌≡◌, length}
 use Rattle.std.proofs.Math.Path.{refl, ap, ap₂}
 use Rattle.std.proofs.Common.{sym, ◌∙◌, arith, eq-eqb, lt-ltb, le-ltb}
 use Prim.Native.Nat.{ℕ, zero, suc, ◌≤◌, ◌<◌}
-use borrow.Fn.PlainCycle.{is}
 use Rattle.prelude.specs.SpliceLaws.{splice_all}
 use Rattle.prelude.specs.SaysLaws.{says_eq, says_false}
 use Rattle.prelude.specs.Part.{splice, zeros, Bytes}

@@ -1,4 +1,3 @@
-use borrow.Author.Rules.{rules}
 use Rattle.change_asked.proofs.asked.base_touched.Goals as goal
 
 pub returns-in-SetRange : goal.returns-in-SetRange

@@ -1,6 +1,5 @@
 use mathlib.Core.Path.{◌∙◌, ap, sym}
 use mathlib.Core.Bool.{not}
-use borrow.Author.Rules.{rules}
 use Rattle.change_rows.specs.RowsLaws.{wide_row}
 use Rattle.change_asked.proofs.asked.entry_conflict.Goals as goal
 

@@ -1,5 +1,4 @@
 use mathlib.Core.Path.{◌∙◌, sym}
-use borrow.Author.Rules.{rules}
 use Rattle.change_asked.proofs.Asking.{addition_found, beyond_count, table_target, target_found, target_past, target_there}
 use Rattle.change_asked.specs.AskedLaws.{asked_absent}
 use Rattle.schema.specs.NumbersLaws.{number_beyond, number_is}

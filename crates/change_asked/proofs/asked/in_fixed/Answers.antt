@@ -6,7 +6,6 @@ use Rattle.change_rows.specs.Lists.{fixed_at, fixed_of}
 use Rattle.change_rows.specs.ListsLaws.{entry_absent, entry_is}
 use Rattle.change_rows.specs.RowsLaws.{fixed_inside}
 use native.Mathlib.Omega.{arith}
-use borrow.Author.Rules.{rules}
 use Rattle.change_asked.proofs.asked.in_fixed.Goals as goal
 
 pub returns-in_default : goal.returns-in_default

@@ -6,7 +6,6 @@ use Rattle.change_rows.specs.Lists.{open_at, open_of}
 use Rattle.change_rows.specs.ListsLaws.{entry_absent, entry_is}
 use Rattle.change_rows.specs.RowsLaws.{list_inside}
 use native.Mathlib.Omega.{arith}
-use borrow.Author.Rules.{rules}
 use Rattle.change_asked.proofs.asked.in_open.Goals as goal
 
 pub returns-in_default : goal.returns-in_default

@@ -1,6 +1,5 @@
 use mathlib.Core.Path.{ap}
 use mathlib.Core.Bool.{not}
-use borrow.Author.Rules.{rules}
 use Rattle.change_asked.proofs.asked.state_wrong.Goals as goal
 
 pub returns-in-SetRange : goal.returns-in-SetRange

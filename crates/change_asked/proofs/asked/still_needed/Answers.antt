@@ -1,4 +1,3 @@
-use borrow.Author.Rules.{rules}
 use Rattle.change_asked.proofs.Asking.{needed_target}
 use Rattle.schema.specs.Store.{schema_in}
 use Rattle.change_asked.proofs.asked.still_needed.Goals as goal

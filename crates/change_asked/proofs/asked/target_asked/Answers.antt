@@ -1,7 +1,6 @@
 use lib.ListN.{length}
 use native.Mathlib.Omega.{arith}
 use mathlib.Core.Path.{◌∙◌, ap, sym}
-use borrow.Author.Rules.{rules}
 use Rattle.prelude.specs.First.{first_of}
 use Rattle.schema.specs.Numbers.{number_of, table_of}
 use Rattle.schema.specs.Layout.{row_width}

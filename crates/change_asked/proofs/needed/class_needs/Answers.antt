@@ -1,6 +1,5 @@
 use native.Mathlib.Omega.{arith}
 use mathlib.Core.Path.{◌∙◌, sym}
-use borrow.Author.Rules.{rules}
 use Rattle.schema.specs.declared.number.TableId.TheVariants.{Classes}
 use Rattle.schema.specs.StoreLaws.{table_row_length}
 use Rattle.change_asked.specs.Needed.{class_needs}

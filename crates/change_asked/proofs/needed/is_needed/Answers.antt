@@ -1,6 +1,5 @@
 use native.Mathlib.Omega.{arith}
 use mathlib.Core.Path.{◌∙◌, sym}
-use borrow.Author.Rules.{rules}
 use Rattle.change_asked.proofs.Asking.{attribute_there, needed_by_class}
 use Rattle.schema.specs.declared.number.TableId.TheVariants.{Attributes}
 use Rattle.schema.specs.Numbers.{table_of, number_of}

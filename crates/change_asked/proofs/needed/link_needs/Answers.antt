@@ -1,6 +1,5 @@
 use native.Mathlib.Omega.{arith}
 use mathlib.Core.Path.{◌∙◌, sym}
-use borrow.Author.Rules.{rules}
 use borrow.Author.Tests.{eq-eqb, ne_eqb}
 use Rattle.schema.specs.declared.number.TableId.TheVariants.{Attributes}
 use Rattle.schema.specs.StoreLaws.{table_row_length}

@@ -1,10 +1,7 @@
 use mathlib.Core.Bool.{false}
-use mathlib.Core.Path.{◌≡◌, sym, ◌∙◌}
+use mathlib.Core.Path.{◌≡◌}
 use Prim.Native.Nat.{◌≤◌, ◌-◌}
-use native.Mathlib.Omega.{arith}
 use Rattle.prelude.specs.Below.{any_below}
-use Rattle.prelude.specs.BelowLaws.{any_zero, any_more, any_here, any_end}
-use borrow.Author.Rules.{rules}
 use Rattle.schema.specs.declared.number.TableId.TheVariants.{Classes}
 use Rattle.schema.specs.Numbers.{number_of, table_of}
 use Rattle.schema.specs.Store.{table_in}

@@ -1,8 +1,5 @@
-use mathlib.Core.Bool.{false}
-use mathlib.Core.Path.{◌≡◌, sym, ◌∙◌}
-use Prim.Native.Nat.{◌≤◌, ◌-◌}
+use mathlib.Core.Path.{sym, ◌∙◌}
 use native.Mathlib.Omega.{arith}
-use Rattle.prelude.specs.Below.{any_below}
 use Rattle.prelude.specs.BelowLaws.{any_zero, any_more, any_here, any_end}
 use borrow.Author.Rules.{rules}
 use Rattle.schema.specs.declared.number.TableId.TheVariants.{Attributes}

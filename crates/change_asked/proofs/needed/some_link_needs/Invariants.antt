@@ -1,10 +1,7 @@
 use mathlib.Core.Bool.{false}
-use mathlib.Core.Path.{◌≡◌, sym, ◌∙◌}
+use mathlib.Core.Path.{◌≡◌}
 use Prim.Native.Nat.{◌≤◌, ◌-◌}
-use native.Mathlib.Omega.{arith}
 use Rattle.prelude.specs.Below.{any_below}
-use Rattle.prelude.specs.BelowLaws.{any_zero, any_more, any_here, any_end}
-use borrow.Author.Rules.{rules}
 use Rattle.schema.specs.declared.number.TableId.TheVariants.{Attributes}
 use Rattle.schema.specs.Store.{table_in}
 use Rattle.change_asked.specs.Needed.{link_needs}

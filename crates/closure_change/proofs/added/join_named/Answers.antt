@@ -4,7 +4,6 @@ use Rattle.schema.specs.Store.{table_in}
 use Rattle.schema.specs.declared.number.TableId.TheVariants.{Classes}
 use Rattle.closure_change.specs.KeptLaws.{kept_length}
 use Rattle.closure_change.proofs.Joining.{one_named, not_named}
-use borrow.Author.Rules.{rules}
 use Rattle.closure_change.proofs.added.join_named.Goals as goal
 
 pub join-requires : goal.join-requires

@@ -1,10 +1,8 @@
-use mathlib.Core.Path.{◌∙◌, ◌≡◌, ap, sym}
-use Prim.Native.Nat.{◌≤◌, ◌-◌}
+use mathlib.Core.Path.{◌∙◌, ap}
 use lib.ListN.{length}
-use Rattle.schema.specs.Numbers.{class_limit}
 use Rattle.schema.specs.Store.{table_in}
 use Rattle.schema.specs.declared.number.TableId.TheVariants.{Classes}
-use Rattle.closure_change.proofs.Joining.{Named, named_none, named_more, named_end}
+use Rattle.closure_change.proofs.Joining.{named_none, named_more, named_end}
 use Rattle.schema.specs.Layout.{closure_width}
 use Rattle.prelude.specs.Part.{zeros}
 use Rattle.prelude.specs.PartLaws.{zeros_length}

@@ -1,15 +1,11 @@
-use mathlib.Core.Path.{◌∙◌, ◌≡◌, ap, sym}
+use mathlib.Core.Path.{◌≡◌}
 use Prim.Native.Nat.{◌≤◌, ◌-◌}
 use lib.ListN.{length}
 use Rattle.schema.specs.Numbers.{class_limit}
 use Rattle.schema.specs.Store.{table_in}
 use Rattle.schema.specs.declared.number.TableId.TheVariants.{Classes}
-use Rattle.closure_change.proofs.Joining.{Named, named_none, named_more, named_end}
+use Rattle.closure_change.proofs.Joining.{Named}
 use Rattle.schema.specs.Layout.{closure_width}
-use Rattle.prelude.specs.Part.{zeros}
-use Rattle.prelude.specs.PartLaws.{zeros_length}
-use Rattle.sets.specs.SetsLaws.{set_length}
-use borrow.Author.Rules.{rules}
 use Rattle.closure_change.proofs.added.write_named.Given as goal
 
 abbrev pub invariant-loop-y : goal.invariant-loop-y

@@ -5,7 +5,6 @@ use Rattle.schema.specs.declared.number.TableId.TheVariants.{Classes}
 use Rattle.sets.specs.Sets.{union}
 use Rattle.prelude.specs.Part.{splice}
 use Rattle.closure_change.specs.Kept.{own_row, with_new, new_row}
-use borrow.Author.Rules.{rules}
 use Rattle.closure_change.proofs.added.write_new.Goals as goal
 
 pub write_own-requires : goal.write_own-requires

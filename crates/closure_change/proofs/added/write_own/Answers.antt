@@ -6,7 +6,6 @@ use lib.ListN.{length}
 use Rattle.prelude.specs.PartLaws.{part_length}
 use Rattle.schema.specs.Layout.{attribute_set, fixed_optional_at, open_optional_at}
 use native.Mathlib.Omega.{arith}
-use borrow.Author.Rules.{rules}
 use Rattle.closure_change.proofs.added.write_own.Goals as goal
 
 pub copy_padded-requires : goal.copy_padded-requires

@@ -7,7 +7,6 @@ use Rattle.prelude.specs.Part.{part}
 use Rattle.sets.specs.Sets.{subset}
 use Rattle.schema.specs.Layout.{attribute_set, demanded_at}
 use native.Mathlib.Omega.{arith}
-use borrow.Author.Rules.{rules}
 use Rattle.closure_change.proofs.after.auxiliary_demands.Goals as goal
 
 pub part_of-requires : goal.part_of-requires

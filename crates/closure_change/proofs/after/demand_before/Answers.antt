@@ -4,7 +4,6 @@ use Rattle.graph.specs.Graph.{demanded_set}
 use Rattle.schema.specs.Store.{table_in}
 use Rattle.schema.specs.declared.number.TableId.TheVariants.{Classes}
 use native.Mathlib.Omega.{arith}
-use borrow.Author.Rules.{rules}
 use Rattle.closure_change.proofs.after.demand_before.Goals as goal
 
 pub returns-in_default : goal.returns-in_default

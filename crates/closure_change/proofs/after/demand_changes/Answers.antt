@@ -10,7 +10,6 @@ use Rattle.change_rows.specs.Lists.{list_table}
 use Rattle.change_rows.specs.ListsLaws.{entry_is}
 use Rattle.closure_change.proofs.Carried.{entry_same}
 use native.Mathlib.Omega.{arith}
-use borrow.Author.Rules.{rules}
 use Rattle.closure_change.proofs.after.demand_changes.Goals as goal
 
 pub returns-in_default : goal.returns-in_default

@@ -1,7 +1,6 @@
 use mathlib.Core.Path.{◌∙◌, ap}
 use mathlib.Core.Bool.{not}
 use Rattle.prelude.specs.Part.{same_bytes}
-use borrow.Author.Rules.{rules}
 use Rattle.closure_change.proofs.after.demand_differs.Goals as goal
 
 pub returns : goal.returns

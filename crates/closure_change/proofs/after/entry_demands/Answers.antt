@@ -3,7 +3,6 @@ use Prim.Native.Nat.{◌<◌}
 use Rattle.schema.specs.Numbers.{limit, number_of, table_of}
 use Rattle.change_rows.specs.Lists.{list_table}
 use Rattle.closure_change.proofs.Carried.{not_same}
-use borrow.Author.Rules.{rules}
 use Rattle.closure_change.proofs.after.entry_demands.Goals as goal
 
 pub returns-in_default : goal.returns-in_default

@@ -4,7 +4,6 @@ use mathlib.Core.Path.{◌∙◌, ap}
 use lib.ListN.{length}
 use Rattle.closure_change.specs.KeptLaws.{kept_length}
 use native.Mathlib.Omega.{arith}
-use borrow.Author.Rules.{rules}
 use Rattle.closure_change.proofs.after.join_auxiliary.Goals as goal
 
 pub copy_padded-requires : goal.copy_padded-requires

@@ -1,6 +1,5 @@
 use mathlib.Core.Path.{◌∙◌, ap}
 use Rattle.closure_change.specs.Kept.{joined_into}
-use borrow.Author.Rules.{rules}
 use Rattle.closure_change.proofs.after.join_option.Goals as goal
 
 pub returns : goal.returns

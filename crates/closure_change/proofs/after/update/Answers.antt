@@ -9,7 +9,6 @@ use Rattle.change_rows.specs.ListsLaws.{entry_is}
 use Rattle.closure_change.proofs.Carried.{joined_same}
 use Rattle.closure_change.specs.Kept.{refreshed_at, with_new}
 use native.Mathlib.Omega.{arith}
-use borrow.Author.Rules.{rules}
 use Rattle.closure_change.proofs.after.update.Goals as goal
 
 pub returns-in_default : goal.returns-in_default

@@ -1,7 +1,6 @@
 use mathlib.Core.Path.{◌∙◌, ap, refl}
 use Rattle.closure_change.proofs.Joining.{option_written}
 use Rattle.prelude.specs.Part.{zeros}
-use borrow.Author.Rules.{rules}
 use Rattle.closure_change.proofs.after.write_option.Goals as goal
 
 pub returns : goal.returns

@@ -5,7 +5,6 @@ use Rattle.prelude.specs.Part.{part}
 use Rattle.sets.specs.Sets.{member}
 use Rattle.schema.specs.Layout.{reached_at, class_set}
 use native.Mathlib.Omega.{arith}
-use borrow.Author.Rules.{rules}
 use Rattle.closure_change.proofs.each.holds.Goals as goal
 
 pub returns-then-n-c : goal.returns-then-n-c

@@ -1,8 +1,5 @@
-use mathlib.Core.Path.{◌≡◌, refl}
-use Prim.Native.Nat.{◌≤◌, ◌-◌}
-use lib.ListN.{length}
-use Rattle.schema.specs.Numbers.{class_limit}
-use Rattle.closure_change.proofs.Holding.{Done, done_none, done_more, done_length, done_end}
+use mathlib.Core.Path.{refl}
+use Rattle.closure_change.proofs.Holding.{done_none, done_more, done_length, done_end}
 use Rattle.sets.specs.Sets.{union}
 use Rattle.closure_change.specs.KeptLaws.{joined_wide}
 use Prim.Native.Nat.{◌+◌}

@@ -4,7 +4,6 @@ use Rattle.sets.specs.Sets.{union}
 use Rattle.schema.specs.Store.{closure_at}
 use Rattle.sets.specs.SetsLaws.{union_length}
 use Rattle.schema.specs.StoreLaws.{closure_lent, closure_lent_back}
-use borrow.Author.Rules.{rules}
 use Rattle.closure_change.proofs.each.join_at.Goals as goal
 
 pub returns : goal.returns

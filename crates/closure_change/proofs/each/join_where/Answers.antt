@@ -1,7 +1,6 @@
 use Rattle.closure_change.proofs.Holding.{where_changed, where_kept}
 use mathlib.Core.Path.{◌∙◌, sym}
 use Rattle.sets.specs.Sets.{union}
-use borrow.Author.Rules.{rules}
 use Rattle.closure_change.proofs.each.join_where.Goals as goal
 
 pub returns-then-holds : goal.returns-then-holds

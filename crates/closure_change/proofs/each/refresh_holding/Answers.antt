@@ -3,7 +3,6 @@ use native.Mathlib.Omega.{arith}
 use Rattle.schema.specs.Store.{table_in}
 use Rattle.schema.specs.declared.number.TableId.TheVariants.{Classes}
 use Rattle.closure_change.proofs.Holding.{taken_fresh}
-use borrow.Author.Rules.{rules}
 use Rattle.closure_change.proofs.each.refresh_holding.Goals as goal
 
 pub returns : goal.returns

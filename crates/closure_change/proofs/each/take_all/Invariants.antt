@@ -1,14 +1,9 @@
-use mathlib.Core.Path.{◌≡◌, refl}
+use mathlib.Core.Path.{◌≡◌}
 use Prim.Native.Nat.{◌≤◌, ◌-◌}
 use lib.ListN.{length}
 use Rattle.schema.specs.Numbers.{class_limit}
-use Rattle.closure_change.proofs.Holding.{Done, done_none, done_more, done_length, done_end}
+use Rattle.closure_change.proofs.Holding.{Done}
 use Rattle.schema.specs.Store.{closure_at}
-use Rattle.closure_change.specs.KeptLaws.{kept_length}
-use Prim.Native.Nat.{◌+◌}
-use Rattle.closure_change.specs.Kept.{taken_from}
-use native.Mathlib.Omega.{arith}
-use borrow.Author.Rules.{rules}
 use Rattle.closure_change.proofs.each.take_all.Given as goal
 
 abbrev pub invariant-loop-c : goal.invariant-loop-c

@@ -5,7 +5,6 @@ use lib.ListN.{length}
 use Rattle.prelude.specs.Part.{splice}
 use Rattle.schema.specs.Store.{closure_at}
 use native.Mathlib.Omega.{arith}
-use borrow.Author.Rules.{rules}
 use Rattle.closure_change.proofs.each.take_where.Goals as goal
 
 pub put_bytes-requires : goal.put_bytes-requires

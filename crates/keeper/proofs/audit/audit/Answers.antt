@@ -1,7 +1,6 @@
 use mathlib.Core.Bool.{not}
 use mathlib.Core.Path.{ap, sym, ◌∙◌}
 use native.Mathlib.Omega.{arith}
-use borrow.Author.Rules.{rules}
 use Rattle.schema.specs.Store.{stores}
 use Rattle.keeper.specs.Audit.{audit}
 use Rattle.schema.specs.AnsweringLaws.{first_last, found_passed, found_refused, tested_fails, tested_holds}

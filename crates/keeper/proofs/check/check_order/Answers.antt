@@ -2,7 +2,6 @@ use Rattle.rules.specs.declared.row.Added.TheVariants.{Nothing}
 use native.Mathlib.Omega.{arith}
 use mathlib.Core.Bool.{◌&&◌, not}
 use mathlib.Core.Path.{◌∙◌, ap, ap₂, sym}
-use borrow.Author.Rules.{rules}
 use Rattle.schema.specs.AnsweringLaws.{first_last, tested_fails, tested_holds}
 use Rattle.keeper.specs.CheckedLaws.{in_shape, readable_classes, shape_onward, shape_refused, shaped_stores}
 use Rattle.keeper.specs.Order.{in_order}

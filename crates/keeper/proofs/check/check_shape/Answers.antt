@@ -1,5 +1,4 @@
 use mathlib.Core.Path.{sym, ◌∙◌}
-use borrow.Author.Rules.{rules}
 use Rattle.schema.specs.Store.{stores}
 use Rattle.schema.specs.StoreLaws.{long_enough}
 use Rattle.keeper.specs.InShapeLaws.{short_stores, formed_stores, broken_stores}

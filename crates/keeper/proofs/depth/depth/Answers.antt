@@ -6,7 +6,6 @@ use Rattle.graph.specs.Depth.{depth_of, depth_answer}
 use Rattle.keeper.specs.CheckedLaws.{in_shape, readable_classes}
 use Rattle.keeper.specs.EndLaws.{depth_refused, depth_absent, depth_present}
 use native.Mathlib.Omega.{arith}
-use borrow.Author.Rules.{rules}
 use Rattle.keeper.proofs.depth.depth.Goals as goal
 
 pub returns-then-shape-ne-DONE : goal.returns-then-shape-ne-DONE

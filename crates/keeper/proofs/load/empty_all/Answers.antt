@@ -1,6 +1,5 @@
 use mathlib.Core.Path.{ap, ◌∙◌}
 use Prim.Native.Nat.{ℕ}
-use borrow.Author.Rules.{rules}
 use Rattle.prelude.specs.Part.{splice, zeros}
 use Rattle.schema.specs.Store.{stores}
 use Rattle.keeper.specs.Load.{emptied}

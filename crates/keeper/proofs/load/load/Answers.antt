@@ -1,5 +1,4 @@
 use mathlib.Core.Path.{sym, ◌∙◌}
-use borrow.Author.Rules.{rules}
 use Rattle.schema.specs.Store.{stores}
 use Rattle.schema.specs.StoreLaws.{long_enough}
 use Rattle.keeper.proofs.Loading.{stores_lent, short_ends, found_readable, found_long, filled_ends, emptied_ends}

@@ -1,5 +1,4 @@
 use mathlib.Core.Path.{◌∙◌}
-use borrow.Author.Rules.{rules}
 use Rattle.sheet_read.specs.Reading.{read_sheet}
 use Rattle.keeper.specs.LoadLaws.{read_bad, read_full}
 use Rattle.keeper.proofs.Loading.{read_shaped, read_ends, judge_ends}

@@ -1,6 +1,5 @@
 use mathlib.Core.Path.{ap, ◌∙◌}
 use native.Mathlib.Omega.{arith}
-use borrow.Author.Rules.{rules}
 use Rattle.schema.specs.Store.{stores}
 use Rattle.schema.specs.declared.answer.Answer.{Answer}
 use Rattle.keeper.specs.Write.{written}

@@ -5,7 +5,6 @@ use Rattle.change_read.specs.declared.read.Change.TheVariants.{Add}
 use Rattle.change_rows.specs.Lists.{list_table}
 use Prim.Native.Nat.{ℕ}
 use native.Mathlib.Omega.{arith}
-use borrow.Author.Rules.{rules}
 use Rattle.keeper_change.proofs.judge.added_by.Goals as goal
 
 pub returns-in_default : goal.returns-in_default

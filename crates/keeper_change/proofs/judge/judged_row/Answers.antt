@@ -7,7 +7,6 @@ use mathlib.Core.Path.{◌∙◌, sym}
 use Rattle.prelude.specs.FirstLaws.{append_first}
 use Rattle.keeper_change.specs.Judged.{judged_row}
 use native.Mathlib.Omega.{arith}
-use borrow.Author.Rules.{rules}
 use Rattle.keeper_change.proofs.judge.judged_row.Goals as goal
 
 pub returns-then-broken-ne-DONE : goal.returns-then-broken-ne-DONE

@@ -1,6 +1,5 @@
 use mathlib.Core.List.{[]}
 use mathlib.Core.Path.{◌∙◌, ap, sym}
-use borrow.Author.Rules.{rules}
 use Rattle.prelude.specs.FirstLaws.{append_first, append_second, first_hit, first_miss, first_none}
 use Rattle.rules.specs.Judge.{broken, broken_cases}
 use Rattle.rules.specs.JudgeLaws.{judged_number}

@@ -1,5 +1,4 @@
 use mathlib.Core.Path.{◌∙◌, refl}
-use borrow.Author.Rules.{rules}
 use Rattle.keeper_change.proofs.Whole.{change_read, change_bad, change_in_order, change_order}
 use Rattle.schema.specs.Store.{stores}
 use Rattle.prelude.specs.Part.{zeros}

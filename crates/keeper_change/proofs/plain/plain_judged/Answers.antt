@@ -1,7 +1,6 @@
 use native.Mathlib.Omega.{arith}
 use mathlib.Core.Path.{◌∙◌, ap, ap₂, subst, sym, subst₂}
 use Rattle.schema.specs.declared.number.TableId.TheVariants.{Classes}
-use borrow.Author.Rules.{rules}
 use Rattle.keeper_change.proofs.Making.{addable, applicable, back, closure_long_lem, few_rows, made_readable, made_shaped, restorable, store_bytes}
 use Rattle.keeper_change.proofs.Whole.{judged_at, judged_done, judged_refused, number_found, refreshed_made}
 use Rattle.graph.specs.Graph.{Readable}

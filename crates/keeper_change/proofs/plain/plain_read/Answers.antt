@@ -1,5 +1,4 @@
 use mathlib.Core.Path.{◌∙◌, sym}
-use borrow.Author.Rules.{rules}
 use Rattle.keeper_change.proofs.Whole.{asked_refused, plain_asked, to_judged}
 use Rattle.schema.specs.Store.{stores}
 use Rattle.keeper_change.proofs.plain.plain_read.Goals as goal

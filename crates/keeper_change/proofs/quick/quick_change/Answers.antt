@@ -2,7 +2,6 @@ use Rattle.keeper_change.proofs.Alone.{change_shape, change_in_shape, change_bad
 use mathlib.Core.Path.{◌∙◌, refl}
 use Rattle.schema.specs.Store.{stores}
 use Rattle.prelude.specs.Part.{zeros}
-use borrow.Author.Rules.{rules}
 use Rattle.keeper_change.proofs.quick.quick_change.Goals as goal
 
 pub returns-then-shape-ne-DONE : goal.returns-then-shape-ne-DONE

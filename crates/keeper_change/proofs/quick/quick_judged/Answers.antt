@@ -8,7 +8,6 @@ use Rattle.prelude.specs.Part.{zeros}
 use Rattle.change_rows.specs.Rows.{table_for}
 use Rattle.change_read.specs.declared.read.Change.TheVariants.{RemoveEntry}
 use Rattle.tables_shape.specs.ShapeLaws.{formed_readable}
-use borrow.Author.Rules.{rules}
 use Rattle.keeper_change.proofs.quick.quick_judged.Goals as goal
 
 pub save-before-requires : goal.save-before-requires

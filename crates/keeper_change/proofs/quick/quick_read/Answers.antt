@@ -1,7 +1,6 @@
 use Rattle.keeper_change.proofs.Alone.{quick_asked, asked_refused, to_allowed}
 use mathlib.Core.Path.{◌∙◌, sym}
 use Rattle.schema.specs.Store.{stores}
-use borrow.Author.Rules.{rules}
 use Rattle.keeper_change.proofs.quick.quick_read.Goals as goal
 
 pub first_asked-asked-requires : goal.first_asked-asked-requires

@@ -1,5 +1,4 @@
 use mathlib.Core.Path.{◌∙◌, ◌≡◌, ap, sym, subst}
-use borrow.Author.Rules.{rules}
 use Rattle.change_rows.specs.Stores.{Applicable, row_changed}
 use Rattle.schema.specs.declared.number.TableId.TheVariants.{Attributes, Classes}
 use Rattle.schema.specs.Store.{store_of, stores}

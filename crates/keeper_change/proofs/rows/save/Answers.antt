@@ -1,5 +1,4 @@
 use mathlib.Core.Path.{◌∙◌, ap, ap₂, refl}
-use borrow.Author.Rules.{rules}
 use Rattle.keeper_change.proofs.Saving.{save_asked, saved_is}
 use Rattle.schema.specs.Layout.{class_width}
 use Rattle.schema.specs.Numbers.{number_of, table_of}

@@ -1,7 +1,6 @@
 use lib.ListN.{length}
 use Prim.Native.Nat.{◌≤◌}
 use mathlib.Core.Path.{◌∙◌, ap, subst, sym}
-use borrow.Author.Rules.{rules}
 use Rattle.schema.specs.declared.number.TableId.TheVariants.{Attributes, Classes}
 use Rattle.schema.specs.Numbers.{number_of, table_of}
 use Rattle.schema.specs.Layout.{row_width, store_length}

@@ -3,7 +3,6 @@ use mathlib.Core.Path.{ap, ◌∙◌}
 use Prim.Native.Nat.{ℕ}
 use native.Mathlib.Omega.{arith}
 use lib.ListN.{length}
-use borrow.Author.Rules.{rules}
 use Rattle.prelude.specs.Part.{part}
 use Rattle.prelude.specs.PartLaws.{part_short}
 use Rattle.sets.specs.Sets.{member_count}

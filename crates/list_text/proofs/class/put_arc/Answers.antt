@@ -2,7 +2,6 @@ use mathlib.Core.List.{[], ◌∷◌}
 use mathlib.Core.Path.{ap, ◌∙◌}
 use native.Mathlib.Omega.{arith}
 use lib.ListN.{length, length-append}
-use borrow.Author.Rules.{rules}
 use Rattle.prelude.specs.WrittenLaws.{written_as, written_then}
 use Rattle.list_text.specs.Text.{decimal}
 use Rattle.list_text.proofs.Lines.{first_arc, later_arc}

@@ -3,7 +3,6 @@ use mathlib.Core.Path.{ap, ◌∙◌}
 use Prim.Native.Nat.{ℕ}
 use native.Mathlib.Omega.{arith}
 use lib.ListN.{length}
-use borrow.Author.Rules.{rules}
 use Rattle.prelude.specs.WrittenLaws.{written_as}
 use Rattle.schema.specs.Row.{name_of}
 use Rattle.schema.specs.declared.number.TableId.TheVariants.{Classes}

@@ -1,10 +1,10 @@
 use mathlib.Core.List.{List}
 use mathlib.Core.Path.{◌≡◌}
-use Prim.Native.Nat.{ℕ, ◌+◌, ◌-◌, ◌≤◌}
+use Prim.Native.Nat.{ℕ, ◌+◌, ◌≤◌}
 use native.Mathlib.Omega.{arith}
 use lib.ListN.{length}
 use Rattle.prelude.specs.Concat.{concat_below}
-use Rattle.prelude.specs.WrittenLaws.{written_as, Writing, writing_none, writing_room, writing_more, writing_length, writing_done}
+use Rattle.prelude.specs.WrittenLaws.{written_as, writing_none, writing_room, writing_more, writing_done}
 use Rattle.schema.specs.declared.number.TableId.TheVariants.{Classes}
 use Rattle.schema.specs.Store.{table_in}
 use Rattle.list_text.specs.Listing.{kept_counts, class_line, class_lines}

@@ -1,4 +1,3 @@
-use borrow.Author.Rules.{rules}
 use Rattle.prelude.specs.WrittenLaws.{written_as}
 use Rattle.list_text.specs.Text.{ascii}
 use Rattle.list_text.specs.Listing.{too_long}

@@ -1,4 +1,3 @@
-use borrow.Author.Rules.{rules}
 use Rattle.prelude.specs.Part.{zeros}
 use Rattle.prelude.specs.WrittenLaws.{written_as}
 use Rattle.list_text.proofs.Loaded.{loaded_listing, loaded_refused, loaded_shaped}

@@ -1,6 +1,5 @@
 use mathlib.Core.Path.{refl}
 use native.Mathlib.Omega.{arith}
-use borrow.Author.Rules.{rules}
 use Rattle.list_text.specs.Text.{ascii, decimal}
 use Rattle.list_text.specs.TextLaws.{word_length}
 use Rattle.list_text.proofs.Lines.{refused_length, refused_written}

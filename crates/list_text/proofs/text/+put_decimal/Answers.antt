@@ -1,6 +1,4 @@
-use Prim.Native.Nat.{ℕ, ◌<◌}
 use native.Mathlib.Omega.{arith}
-use borrow.Author.Rules.{rules}
 use Rattle.prelude.specs.WrittenLaws.{written_as, written_then}
 use Rattle.list_text.specs.TextLaws.{decimal_one, decimal_more, one_length, more_length}
 use Rattle.list_text.proofs.text.+put_decimal.Goals as goal
@@ -34,4 +32,3 @@ returns t c =
     let n = c.args.n in
     written_as (decimal_more n c.if-n-lt10.false)
     (written_then (omega (arith, c.requires, more_length n c.if-n-lt10.false)) c.put_decimal-next.ensures c.put_byte-2.ensures)
-

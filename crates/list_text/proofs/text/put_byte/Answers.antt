@@ -1,5 +1,4 @@
 use mathlib.Core.Path.{refl}
-use borrow.Author.Rules.{rules}
 use Rattle.prelude.specs.SpliceLaws.{set_splice}
 use Rattle.list_text.proofs.text.put_byte.Goals as goal
 

@@ -1,5 +1,4 @@
 use native.Mathlib.Omega.{arith}
-use borrow.Author.Rules.{rules}
 use Rattle.prelude.specs.WrittenLaws.{written_then}
 use Rattle.list_text.specs.Text.{word}
 use Rattle.list_text.specs.TextLaws.{word_length}
