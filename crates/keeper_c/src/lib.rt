@@ -1,5 +1,7 @@
 // The keeper's calls for C (include/keeper.h). Each returns the answer's number and writes its table and place into `detail`. A `detail` that is too
 // short for both counts as a store that is too short: number 1, and nothing is altered.
+#![tactic(auto)]
+
 ghost use Rattle.std.specs.Prelude.{◌≡◌, ◌≤◌, length};
 ghost use Rattle.schema.specs.Store.{stores};
 ghost use Rattle.keeper_c.specs.Calls.{told, answered, detail_length, audit_call, depth_call, outcome, load_call, wrote, write_call};

@@ -1,0 +1,7 @@
+use Rattle.replay.specs.Hash.{mixed}
+use Rattle.replay.proofs.hash.mix.Goals as goal
+
+pub returns : goal.returns
+unfolding mixed
+returns c =
+    c.times_prime.ensures
