@@ -18,9 +18,9 @@ use Rattle.prelude.specs.SpliceLaws.{splice_front}
 use Rattle.rules.specs.Rules.{schema_rules}
 use Rattle.rules.specs.Judge.{broken_cases}
 use Rattle.graph.specs.Graph.{closure_rows, demanded_set, is_fresh, mandatory_differs}
-use Rattle.graph.specs.FreshLaws.{closure_rows_length, fresh_bytes, says_fresh}
+use Rattle.graph.proofs.FreshLaws.{closure_rows_length, fresh_bytes, says_fresh}
 use Rattle.closure_change.specs.After.{closure_after, demand_changes}
-use Rattle.closure_change.specs.KeptLaws.{after_past}
+use Rattle.closure_change.proofs.KeptLaws.{after_past}
 use Rattle.change_model.specs.Model.{added_by, change_number, changed_cases}
 use Rattle.change_model.specs.ModelLaws.{number_asked, number_judged}
 use Rattle.change_model.specs.Sound.{Passed, Sound, row_number}

@@ -4,7 +4,7 @@ use Rattle.schema.specs.declared.number.TableId.TheVariants.{Attributes, Classes
 use Rattle.schema.specs.AttributeRow.{link_of}
 use Rattle.schema.specs.StoreLaws.{plus_count, with_same, with_count}
 use Rattle.tables.specs.ChangedLaws.{plus_changed, with_changed}
-use Rattle.rules_attribute.specs.LinksLaws.{says_forward}
+use Rattle.rules_attribute.proofs.LinksLaws.{says_forward}
 use Rattle.change_read.specs.declared.read.Change.TheVariants.{Add, SetRange, Rename, Deactivate, Reactivate, AddEntry, RemoveEntry}
 use Rattle.rules.specs.Rules.{schema_rules, row_cases}
 use Rattle.change_asked.specs.AskedLaws.{asked_there, asked_none, asked_room}
@@ -12,7 +12,7 @@ use Rattle.change_model.specs.Model.{added_by}
 use Rattle.std.proofs.Common.{arith, true≢false, sym, ◌∙◌}
 use Rattle.std.specs.Prelude.{◌⊎◌, false, true, ◌≡◌, length, List, [], ℕ, ◌≤◌, ◌<◌, ◌%◌}
 use Rattle.std.proofs.Math.Logic.{inl, inr, ⊎_elim}
-use Rattle.tables.specs.NamedLaws.{says_names}
+use Rattle.tables.proofs.NamedLaws.{says_names}
 use Rattle.rules.specs.declared.row.Added.TheVariants.{Nothing}
 use Rattle.rules.specs.RowChangeLaws.{AddedAt, changed_alone}
 use Rattle.change_read.specs.Carried.{target_of}

@@ -30,12 +30,12 @@ use Rattle.change_asked.specs.Needed.{class_needs, link_needs, needed}
 use Rattle.change_rows.specs.Lists.{fixed_of, open_of}
 use Rattle.change_rows.specs.Rows.{is_addition, table_for, schema_after}
 use Rattle.rules_attribute.specs.Links.{is_back_link}
-use Rattle.rules_attribute.specs.LinksLaws.{says_forward}
-use Rattle.rules.specs.MeetsLaws.{among_unmet, unmet_among}
+use Rattle.rules_attribute.proofs.LinksLaws.{says_forward}
+use Rattle.rules.proofs.MeetsLaws.{among_unmet, unmet_among}
 use Rattle.rules.specs.Judge.{broken_cases}
 use Rattle.rules.specs.Rules.{schema_rules}
 use Rattle.sets.specs.SetsLaws.{says_member, says_same_sets}
-use Rattle.tables.specs.NamedLaws.{says_names}
+use Rattle.tables.proofs.NamedLaws.{says_names}
 use Rattle.change_asked.specs.Asked.{entry_conflict, still_needed}
 use Rattle.graph.specs.Graph.{mandatory_differs, demanded_set, demands}
 use Rattle.schema.specs.Refusals as refusal

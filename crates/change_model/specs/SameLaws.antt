@@ -35,9 +35,9 @@ use Rattle.graph.specs.SameLaws.{differs_same}
 use Rattle.change_rows.specs.Rows.{edited_row, is_addition, number_for, schema_after, table_after, table_for}
 use Rattle.rules_attribute.specs.Links.{is_back_link, is_forward_of}
 use Rattle.rules.specs.Judge.{judged, broken, broken_cases}
-use Rattle.rules.specs.JudgeLaws.{judged_number}
+use Rattle.rules.proofs.JudgeLaws.{judged_number}
 use Rattle.rules.specs.RulesLaws.{nonzero}
-use Rattle.rules.specs.SameLaws.{judged_same}
+use Rattle.rules.proofs.SameLaws.{judged_same}
 use Rattle.rules.specs.Rules.{schema_rules}
 use Rattle.schema.specs.Refusals as refusal
 

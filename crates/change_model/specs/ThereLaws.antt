@@ -29,9 +29,9 @@ use Rattle.rules.specs.RulesLaws.{class_nothing, each_numbered}
 use Rattle.rules.specs.Judge.{AllKept, Kept}
 use Rattle.rules_class.specs.Live.{NotLive, SuperclassEarly, class_wrong, not_live}
 use Rattle.rules_class.specs.LiveLaws.{says_class_wrong, says_not_live}
-use Rattle.rules_class.specs.StayLaws.{named_there}
+use Rattle.rules_class.proofs.StayLaws.{named_there}
 use Rattle.tables.specs.LiveLaws.{says_live}
-use Rattle.tables.specs.NamedLaws.{says_lists}
+use Rattle.tables.proofs.NamedLaws.{says_lists}
 use Rattle.tables.specs.Named.{Lists}
 use Rattle.tables.specs.declared.named.ClassList.TheVariants.{Auxiliaries}
 use Rattle.graph.specs.Graph.{inherits}

@@ -16,9 +16,9 @@ use Rattle.schema.specs.AttributeRow.{syntax_of, object_class_length}
 use Rattle.rows_format.specs.declared.column.Column.{Column}
 use Rattle.rows_format.specs.declared.format.Format.TheVariants.{Row, NewRow}
 use Rattle.rows_format.specs.Columns.{column_width, cell_at, well_formed_by, laid}
-use Rattle.rows_format.specs.ColumnsLaws.{laid_cons, laid_le}
+use Rattle.rows_format.proofs.ColumnsLaws.{laid_cons, laid_le}
 use Rattle.rows_format.specs.Formats.{own_columns, columns_of, format_width}
-use Rattle.rows_format.specs.FormatsLaws.{format_laid}
+use Rattle.rows_format.proofs.FormatsLaws.{format_laid}
 use Rattle.rows_read.specs.ObjectClass.{object_class_width, is_object, object_class_cell, settled, is_settled, finished, finished_row}
 use Rattle.rows_read.specs.ObjectClassLaws.{cell_long}
 use Rattle.rows_read.specs.WellFormed.{well_formed, is_finished}

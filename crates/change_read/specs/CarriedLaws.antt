@@ -21,10 +21,10 @@ use Rattle.rows_format.specs.declared.column.Column.{Column}
 use Rattle.rows_format.specs.declared.format.Format.{Format}
 use Rattle.rows_format.specs.declared.format.Format.TheVariants.{Row, NewRow, Range, Name, Target, Entry}
 use Rattle.rows_format.specs.Columns.{cell_at, cell_of, column_width, has_value, laid, mark, well_formed_by, well_formed_cell, write_by}
-use Rattle.rows_format.specs.ColumnsLaws.{Laid, cell_length, formed_both, formed_cons, laid_cons, laid_le, takes_accepts}
+use Rattle.rows_format.proofs.ColumnsLaws.{Laid, cell_length, formed_both, formed_cons, laid_cons, laid_le, takes_accepts}
 use Rattle.rows_format.specs.Encodings.{room}
 use Rattle.rows_format.specs.Formats.{columns_of, common_columns, format_width, may_be_defunct, never_defunct, own_columns}
-use Rattle.rows_format.specs.FormatsLaws.{format_laid}
+use Rattle.rows_format.proofs.FormatsLaws.{format_laid}
 use Rattle.rows_read.specs.declared.field.Turn.{Turn}
 use Rattle.rows_read.specs.declared.field.Turn.TheVariants.{Taken, Passed, Refused}
 use Rattle.rows_read.specs.Reading.{onward, read_by, row_of, took_of, turn_of}

@@ -21,7 +21,7 @@ use Rattle.rows_format.specs.declared.format.Format.{Format}
 use Rattle.rows_format.specs.declared.format.Format.TheVariants.{Row, NewRow, Range, Name, Target, Entry}
 use Rattle.rows_format.specs.Encodings.{passes, room, holds}
 use Rattle.rows_format.specs.Columns.{mark, column_width, cell_at, has_value, well_formed_cell, well_formed_by, write_by}
-use Rattle.rows_format.specs.ColumnsLaws.{formed_at}
+use Rattle.rows_format.proofs.ColumnsLaws.{formed_at}
 use Rattle.rows_format.specs.Formats.{list_at, new_lower_at, new_upper_at, own_columns, common_columns, attribute_columns, range_columns, name_columns}
 use Rattle.rows_format.specs.Formats.{entry_columns, columns_of, format_width, no_column}
 use Rattle.rows_read.specs.declared.read.RowRead.{RowRead}

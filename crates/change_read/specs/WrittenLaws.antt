@@ -14,7 +14,7 @@ use Rattle.schema.specs.Layout.{class_width}
 use Rattle.rows_format.specs.declared.format.Format.{Format}
 use Rattle.rows_format.specs.Columns.{write_by}
 use Rattle.rows_format.specs.Formats.{columns_of, format_width}
-use Rattle.rows_format.specs.ShortLaws.{written_short}
+use Rattle.rows_format.proofs.ShortLaws.{written_short}
 use Rattle.rows_read.specs.Reading.{out}
 use Rattle.rows_read.specs.ObjectClass.{read_row}
 use Rattle.rows_read.specs.RoundTripLaws.{written_value_read}

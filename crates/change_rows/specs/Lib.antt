@@ -4,7 +4,6 @@ pub mod ListsLaws
 pub mod Rows
 pub mod RowsLaws
 pub mod Stores
-pub mod StoresLaws
 pub mod FormedLaws
 pub mod FrontLaws
 pub mod BytesLaws

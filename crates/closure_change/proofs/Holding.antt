@@ -16,8 +16,8 @@ use Rattle.schema.specs.Layout.{attribute_set, closure_length, closure_width, de
 use Rattle.schema.specs.Numbers.{class_limit}
 use Rattle.schema.specs.Store.{Table, closure_at}
 use Rattle.graph.specs.Graph.{closure_row, closure_rows}
-use Rattle.graph.specs.FreshLaws.{bytes_fresh, says_fresh}
-use Rattle.closure_change.specs.KeptLaws.{kept_length, where_length}
+use Rattle.graph.proofs.FreshLaws.{bytes_fresh, says_fresh}
+use Rattle.closure_change.proofs.KeptLaws.{kept_length, where_length}
 use Rattle.closure_change.specs.Kept.{holds, row_where, each_holding, refreshed_at, taken_from}
 
 -- ---- the test

@@ -2,3 +2,5 @@
 pub mod Holding
 pub mod Joining
 pub mod Carried
+pub mod KeptLaws
+pub mod FreshLaws

@@ -1,7 +1,5 @@
 -- The closure store after a change, and rule 30 of a quick change.
 pub mod Kept
 pub mod After
-pub mod KeptLaws
 pub mod JoinedLaws
-pub mod FreshLaws
 pub mod SameLaws

@@ -7,3 +7,4 @@ pub mod Rows
 pub mod Chain
 pub mod Warshall
 pub mod Firsts
+pub mod FreshLaws

@@ -18,7 +18,7 @@ use Rattle.sets.specs.SetsLaws.{set_length, union_length}
 use Rattle.schema.specs.Numbers.{class_limit}
 use Rattle.schema.specs.Layout.{class_set, attribute_set, closure_length, closure_width, reached_at, demanded_at, allowed_at}
 use Rattle.schema.specs.Store.{Table, closure_at}
-use Rattle.graph.specs.FreshLaws.{closure_row_length, closure_rows_at, closure_rows_length, fresh_bytes, says_fresh}
+use Rattle.graph.proofs.FreshLaws.{closure_row_length, closure_rows_at, closure_rows_length, fresh_bytes, says_fresh}
 use Rattle.graph.specs.FrontLaws.{fresh_front}
 use Rattle.graph.specs.Graph.{lists_mandatory, lists_optional, closure_row, closure_rows, is_fresh}
 use Rattle.graph.specs.Stages.{comes_to, passed_row, stage_row, stage_rows}

@@ -15,7 +15,6 @@ pub mod Changes
 pub mod ThreeLaws
 pub mod ClosureLaws
 pub mod UnreachedLaws
-pub mod FreshLaws
 pub mod SameLaws
 pub mod FrontLaws
 pub mod PiecesLaws

@@ -23,7 +23,7 @@ use Rattle.sheet_read.specs.Reading.{Rows, rows_in, schema_from, sheet_out, read
 use Rattle.sheet_read.specs.ReadingLaws.{Sound, sheet_sound}
 use Rattle.rules.specs.declared.row.Added.TheVariants.{Nothing}
 use Rattle.rules.specs.Judge.{judged}
-use Rattle.rules.specs.SameLaws.{judged_same}
+use Rattle.rules.proofs.SameLaws.{judged_same}
 use Rattle.keeper.specs.LoadLaws.{held_length, held_emptied, both_shaped, both_readable, both_same, read_judged, load_short, load_accepted}
 use Rattle.keeper.specs.LoadLaws.{load_rejected}
 use Rattle.keeper.specs.Load.{emptied, filled, read_answer, load, ReadAndJudged}

@@ -8,7 +8,7 @@ use Rattle.schema.specs.Answers.{passed}
 use Rattle.tables.specs.Shaped.{Shaped}
 use Rattle.graph.specs.Graph.{Readable}
 use Rattle.sheet_write.specs.Writing.{Writable}
-use Rattle.tables_shape.specs.ShapeLaws.{says_formed, formed_shaped, formed_readable}
+use Rattle.tables_shape.proofs.ShapeLaws.{says_formed, formed_shaped, formed_readable}
 use Rattle.schema.specs.Answering.{first_answer, NoneRefuses}
 use Rattle.keeper.specs.InShape.{shape_answers, InShape}
 use Rattle.schema.specs.AnsweringLaws.{append_passed, append_refused, number_is, zero_iff_pass}

@@ -26,9 +26,9 @@ use Rattle.sheet_read.specs.Reading.{Rows, SheetOut, rows_in, schema_from, sheet
 use Rattle.sheet_read.specs.ReadingLaws.{Sound, all_at}
 use Rattle.rules.specs.declared.row.Added.TheVariants.{Nothing}
 use Rattle.rules.specs.Judge.{judged}
-use Rattle.tables_shape.specs.FilledShapeLaws.{filled_formed}
+use Rattle.tables_shape.proofs.FilledShapeLaws.{filled_formed}
 use Rattle.tables_shape.specs.Shape.{stores_formed, table_formed}
-use Rattle.tables_shape.specs.ShapeLaws.{formed_readable, formed_shaped}
+use Rattle.tables_shape.proofs.ShapeLaws.{formed_readable, formed_shaped}
 use Rattle.schema.specs.AnsweringLaws.{first_last, first_passed, first_refused}
 use Rattle.keeper.specs.Load.{emptied, filled, load, loaded, read_answer}
 use Rattle.schema.specs.Refusals as refusal

@@ -21,10 +21,10 @@ use Rattle.schema.specs.Numbers.{class_limit, number_of, table_of}
 use Rattle.schema.specs.Store.{Schema, Stores, Table, plus_row, result_of, schema_in, schema_of, stores, table, table_in, table_store, with_row, with_table}
 use Rattle.tables.specs.Same.{SameRows}
 use Rattle.tables.specs.Shaped.{Shaped}
-use Rattle.tables_shape.specs.ShapeLaws.{formed_shaped}
+use Rattle.tables_shape.proofs.ShapeLaws.{formed_shaped}
 use Rattle.rules.specs.declared.row.Added.{Added}
 use Rattle.rules.specs.Rules.{row_cases, schema_rules}
-use Rattle.rules.specs.SameLaws.{row_cases_same}
+use Rattle.rules.proofs.SameLaws.{row_cases_same}
 use Rattle.change_rows.specs.Lists.{list_table}
 use Rattle.change_read.specs.declared.read.Change.{Change}
 use Rattle.change_read.specs.declared.read.Change.TheVariants.{Add, AddEntry, RemoveEntry}

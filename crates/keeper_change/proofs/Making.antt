@@ -28,7 +28,7 @@ use Rattle.keeper.specs.InShape.{InShape}
 use Rattle.graph.specs.Graph.{Readable}
 use Rattle.tables.specs.Shaped.{Shaped}
 use Rattle.tables_shape.specs.Shape.{StoresFormed}
-use Rattle.tables_shape.specs.ShapeLaws.{formed_readable, says_formed, formed_shaped}
+use Rattle.tables_shape.proofs.ShapeLaws.{formed_readable, says_formed, formed_shaped}
 
 module _ (change : Change) (r : List ℕ) (s : Stores) (j : Allowed change r s) where
   abbrev m : Schema

@@ -33,7 +33,7 @@ use Rattle.tables.specs.Shaped.{Shaped}
 use Rattle.change_model.specs.Model.{added_by, change_number, answer_to}
 use Rattle.change_model.specs.ModelLaws.{answer_done, answer_refused, number_asked, number_judged}
 use Rattle.change_asked.specs.Asked.{first_asked}
-use Rattle.tables_shape.specs.ShapeLaws.{formed_shaped}
+use Rattle.tables_shape.proofs.ShapeLaws.{formed_shaped}
 use Rattle.rules.specs.declared.row.Added.{Added}
 use Rattle.keeper_change.proofs.Making.{number_is}
 

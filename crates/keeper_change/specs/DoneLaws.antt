@@ -10,8 +10,8 @@ use Rattle.change_read.specs.declared.read.Change.{Change}
 use Rattle.change_read.specs.ChangeLaws.{Reads}
 use Rattle.rules.specs.declared.row.Added.TheVariants.{Nothing}
 use Rattle.rules.specs.Meets.{Meets, rule_number}
-use Rattle.rules.specs.SameLaws.{kept_same}
-use Rattle.rules.specs.MeetsLaws.{meets_nothing, met_of, meets}
+use Rattle.rules.proofs.SameLaws.{kept_same}
+use Rattle.rules.proofs.MeetsLaws.{meets_nothing, met_of, meets}
 use Rattle.prelude.specs.Part.{Bytes, splice}
 use Rattle.prelude.specs.SpliceLaws.{splice_length}
 use Rattle.change_model.specs.Conditions.{Condition}
@@ -21,7 +21,7 @@ use Rattle.change_model.specs.ConditionsLaws.{change_zero}
 use Rattle.keeper.specs.InShape.{InShape}
 use Rattle.tables.specs.Same.{SameRows}
 use Rattle.tables.specs.SameLaws.{same_symmetric}
-use Rattle.graph.specs.FreshLaws.{bytes_fresh, closure_rows_length}
+use Rattle.graph.proofs.FreshLaws.{bytes_fresh, closure_rows_length}
 use Rattle.graph.specs.Graph.{closure_rows, is_fresh}
 use Rattle.change_asked.specs.Asked.{first_asked}
 use Rattle.keeper_change.specs.MadeLaws.{made_same, made_shape}

@@ -22,7 +22,7 @@ use Rattle.keeper.specs.InShape.{InShape}
 use Rattle.tables.specs.Same.{Same, SameRows}
 use Rattle.tables_shape.specs.Shape.{StoresFormed, TableFormed}
 use Rattle.tables_shape.specs.PutShapeLaws.{plus_formed, put_formed}
-use Rattle.tables_shape.specs.ShapeLaws.{says_formed}
+use Rattle.tables_shape.proofs.ShapeLaws.{says_formed}
 use Rattle.tables.specs.PutLaws.{plus_length, plus_same, put_length, put_same}
 use Rattle.tables.specs.SameLaws.{same_reflexive}
 use Rattle.change_asked.specs.AskedLaws.{asked_room, asked_there}

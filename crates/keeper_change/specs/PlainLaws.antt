@@ -15,9 +15,9 @@ use Rattle.schema.specs.declared.number.TableId.{TableId}
 use Rattle.schema.specs.Layout.{class_width, row_width}
 use Rattle.schema.specs.StoreLaws.{table_row_length}
 use Rattle.rules.specs.Judge.{broken, broken_cases}
-use Rattle.rules.specs.JudgeLaws.{judged_number}
+use Rattle.rules.proofs.JudgeLaws.{judged_number}
 use Rattle.rules.specs.RulesLaws.{nonzero}
-use Rattle.rules.specs.SameLaws.{judged_same}
+use Rattle.rules.proofs.SameLaws.{judged_same}
 use Rattle.rules.specs.Rules.{schema_rules}
 use Rattle.prelude.specs.Part.{Bytes, part, zeros, padded}
 use Rattle.prelude.specs.First.{◌when◌, first_of}
@@ -30,7 +30,7 @@ use Rattle.change_model.specs.Model.{added_by, answer_to, result_cases}
 use Rattle.change_asked.specs.Asked.{first_asked}
 use Rattle.graph.specs.Graph.{demands_differ, is_fresh, mandatory_differs}
 use Rattle.graph.specs.SameLaws.{differs_same}
-use Rattle.graph.specs.FreshLaws.{differs_kept}
+use Rattle.graph.proofs.FreshLaws.{differs_kept}
 use Rattle.keeper_change.specs.Judged.{judged_whole}
 use Rattle.keeper_change.specs.MadeLaws.{made_same, back_in, made_applicable, made_in, row_table, row_within}
 use Rattle.keeper_change.specs.Plain.{plain_answer, plain_made, plain_read}
@@ -38,10 +38,10 @@ use Rattle.keeper_change.specs.Made.{rows_back, rows_made, before}
 use Rattle.keeper.specs.OrderLaws.{order_onward, order_refused}
 use Rattle.keeper.specs.Order.{order_answers}
 use Rattle.change_rows.specs.Rows.{schema_after, table_for}
-use Rattle.change_rows.specs.StoresLaws.{change_restored}
+use Rattle.change_rows.proofs.StoresLaws.{change_restored}
 use Rattle.change_rows.specs.Stores.{row_changed, store_after, restored}
 use Rattle.tables.specs.SameLaws.{same_reflexive}
-use Rattle.tables_shape.specs.ShapeLaws.{says_formed}
+use Rattle.tables_shape.proofs.ShapeLaws.{says_formed}
 use Rattle.schema.specs.Refusals as refusal
 
 -- ---- what a plain change comes to once its stores are in order

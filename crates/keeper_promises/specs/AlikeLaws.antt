@@ -19,11 +19,11 @@ use Rattle.graph.specs.Depth.{depth_answer, depth_of}
 use Rattle.graph.specs.FrontLaws.{fresh_front}
 use Rattle.graph.specs.Graph.{is_fresh}
 use Rattle.graph.specs.SameLaws.{depth_same, fresh_same}
-use Rattle.rules.specs.SameLaws.{judged_same}
+use Rattle.rules.proofs.SameLaws.{judged_same}
 use Rattle.rules.specs.declared.row.Added.TheVariants.{Nothing}
-use Rattle.tables_shape.specs.FrontLaws.{formed_front}
+use Rattle.tables_shape.proofs.FrontLaws.{formed_front}
 use Rattle.tables_shape.specs.Shape.{StoresFormed, stores_formed}
-use Rattle.tables_shape.specs.ShapeLaws.{says_formed}
+use Rattle.tables_shape.proofs.ShapeLaws.{says_formed}
 use Rattle.sheet_write.specs.SameLaws.{sheet_same}
 use Rattle.schema.specs.Answering.{answer_if, first_answer, refused_if}
 use Rattle.keeper.specs.InShape.{InShape, shape_answers}

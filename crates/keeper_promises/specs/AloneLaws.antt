@@ -19,9 +19,9 @@ use Rattle.schema.specs.declared.number.TableId.TheVariants.{Classes}
 use Rattle.tables.specs.Same.{SameRows}
 use Rattle.graph.specs.SameLaws.{demanded_same}
 use Rattle.rules.specs.Rules.{row_cases, schema_rules}
-use Rattle.rules.specs.SameLaws.{row_cases_same}
+use Rattle.rules.proofs.SameLaws.{row_cases_same}
 use Rattle.tables_shape.specs.Shape.{stores_formed}
-use Rattle.tables_shape.specs.ShapeLaws.{says_formed}
+use Rattle.tables_shape.proofs.ShapeLaws.{says_formed}
 use Rattle.change_read.specs.Carried.{entry_of, list_of, target_of}
 use Rattle.change_read.specs.Reading.{change_out, read_change}
 use Rattle.change_read.specs.declared.carried.OpenList.{OpenList}

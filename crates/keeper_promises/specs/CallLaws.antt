@@ -17,7 +17,7 @@ use Rattle.rules_class.specs.ChainLaws.{superclass_chain}
 use Rattle.rules.specs.declared.row.Added.{Added}
 use Rattle.rules.specs.declared.row.Added.TheVariants.{Nothing}
 use Rattle.rules.specs.Meets.{Met, class_not_live}
-use Rattle.tables_shape.specs.ShapeLaws.{says_formed}
+use Rattle.tables_shape.proofs.ShapeLaws.{says_formed}
 use Rattle.schema.specs.Answering.{first_answer}
 use Rattle.keeper.specs.InShape.{shape_answers}
 use Rattle.keeper.specs.InShapeLaws.{broken_stores, formed_stores, not_short, short_stores}

@@ -18,7 +18,7 @@ use Rattle.schema.specs.Store.{LongEnough, Stores, Result, stores, result_of}
 use Rattle.tables.specs.Filled.{empty_stores, filled_store, table_from}
 use Rattle.tables.specs.FilledLaws.{store_length_lem}
 use Rattle.graph.specs.Graph.{closure_rows}
-use Rattle.graph.specs.FreshLaws.{closure_rows_length}
+use Rattle.graph.proofs.FreshLaws.{closure_rows_length}
 use Rattle.sheet_read.specs.Reading.{read_sheet, rows_in}
 use Rattle.sheet_read.specs.ReadingLaws.{sheet_sound}
 use Rattle.keeper.specs.InShapeLaws.{not_short}

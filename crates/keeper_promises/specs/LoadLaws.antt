@@ -17,7 +17,7 @@ use Rattle.schema.specs.StoreLaws.{long_enough, says_short}
 use Rattle.tables.specs.Filled.{table_from}
 use Rattle.tables.specs.SameLaws.{same_symmetric}
 use Rattle.graph.specs.Graph.{closure_rows}
-use Rattle.graph.specs.FreshLaws.{bytes_fresh, closure_rows_length, says_fresh}
+use Rattle.graph.proofs.FreshLaws.{bytes_fresh, closure_rows_length, says_fresh}
 use Rattle.graph.specs.SameLaws.{fresh_same}
 use Rattle.sheet_read.specs.declared.read.SheetRead.{SheetRead}
 use Rattle.sheet_read.specs.declared.read.SheetRead.TheVariants.{Bad, Full, Read}
@@ -27,11 +27,11 @@ use Rattle.sheet_read.specs.ReadingLaws.{sheet_sound}
 use Rattle.rules.specs.declared.row.Added.TheVariants.{Nothing}
 use Rattle.rules.specs.Rules.{schema_rules}
 use Rattle.rules.specs.Judge.{FirstBroken, judged}
-use Rattle.rules.specs.JudgeLaws.{judged_first, judged_passed, judged_zero}
+use Rattle.rules.proofs.JudgeLaws.{judged_first, judged_passed, judged_zero}
 use Rattle.rules.specs.Meets.{Meets, Met, RuleName, rule_number}
-use Rattle.rules.specs.MeetsLaws.{meets, judged_before}
-use Rattle.rules.specs.SameLaws.{kept_same}
-use Rattle.tables_shape.specs.ShapeLaws.{says_formed}
+use Rattle.rules.proofs.MeetsLaws.{meets, judged_before}
+use Rattle.rules.proofs.SameLaws.{kept_same}
+use Rattle.tables_shape.proofs.ShapeLaws.{says_formed}
 use Rattle.keeper.specs.InShapeLaws.{not_short}
 use Rattle.keeper.specs.Audit.{audit}
 use Rattle.keeper.specs.Load.{emptied, filled, load, read_answer}

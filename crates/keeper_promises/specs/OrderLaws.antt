@@ -10,14 +10,14 @@ use Rattle.schema.specs.Store.{LongEnough, Stores, schema_of}
 use Rattle.schema.specs.Order.{rank}
 use Rattle.schema.specs.StoreLaws.{says_short}
 use Rattle.graph.specs.Graph.{is_fresh}
-use Rattle.graph.specs.FreshLaws.{says_fresh}
+use Rattle.graph.proofs.FreshLaws.{says_fresh}
 use Rattle.rules.specs.declared.row.Added.TheVariants.{Nothing}
 use Rattle.rules.specs.Rules.{schema_rules}
 use Rattle.rules.specs.Judge.{FirstBroken, judged}
-use Rattle.rules.specs.JudgeLaws.{judged_first, judged_zero}
+use Rattle.rules.proofs.JudgeLaws.{judged_first, judged_zero}
 use Rattle.rules.specs.Meets.{Meets, Met, RuleName, rule_number}
-use Rattle.rules.specs.MeetsLaws.{meets, judged_before}
-use Rattle.tables_shape.specs.ShapeLaws.{says_formed}
+use Rattle.rules.proofs.MeetsLaws.{meets, judged_before}
+use Rattle.tables_shape.proofs.ShapeLaws.{says_formed}
 use Rattle.schema.specs.Answering.{NoneRefuses, first_answer, refused_if}
 use Rattle.keeper.specs.InShape.{InShape, shape_answers}
 use Rattle.schema.specs.AnsweringLaws.{append_passed, append_refused, first_passed, first_refused, if_fails, if_holds, if_passed, passed_last, zero_iff_pass}

@@ -33,8 +33,8 @@ use Rattle.rules_attribute.specs.Syntax.{syntax_fits, syntax_wrong, object_class
 use Rattle.rules_class.specs.Category.{category_wrong, inheritance, inheritance_of, inheritance_wrong, other_category, root_inheritance, wrongly_listed}
 use Rattle.rules_class.specs.Live.{class_wrong, names_dead, naming_wrong, not_live, superclass_late}
 use Rattle.rules.specs.Judge.{judge_rule, judge_rules, judge_table, judged}
-use Rattle.rules.specs.JudgeLaws.{judged_zero}
-use Rattle.rules.specs.MeetsLaws.{meets}
+use Rattle.rules.proofs.JudgeLaws.{judged_zero}
+use Rattle.rules.proofs.MeetsLaws.{meets}
 use Rattle.rules.specs.Rules.{barred, entry_dead, attribute_not_live, class_not_live}
 use Rattle.rules.specs.declared.row.Added.TheVariants.{Nothing}
 use Rattle.rows_read.specs.Stopping.{FieldStands}

@@ -20,13 +20,13 @@ use Rattle.schema.specs.declared.attribute.Bound.TheVariants.{Absent, Given}
 use Rattle.rules_names.specs.Name.{folded, same_name, between, valid_name, is_letter, is_name_byte}
 use Rattle.rules_names.specs.NameLaws.{folded_upper, says_same_name, folded_other, says_between}
 use Rattle.rules_attribute.specs.Links.{link_syntax_fits, link_syntax_wrong, LinkSyntaxFits}
-use Rattle.rules_attribute.specs.LinksLaws.{says_link_syntax_fits, says_link_syntax_wrong}
+use Rattle.rules_attribute.proofs.LinksLaws.{says_link_syntax_fits, says_link_syntax_wrong}
 use Rattle.rules_attribute.specs.Range.{biased, ends_crossed, range_wrong}
-use Rattle.rules_attribute.specs.RangeLaws.{biased_high, biased_low, less_biased}
+use Rattle.rules_attribute.proofs.RangeLaws.{biased_high, biased_low, less_biased}
 use Rattle.rules_attribute.specs.Syntax.{syntax_fits, syntax_pairs, pair_count}
-use Rattle.rules_attribute.specs.SyntaxLaws.{says_syntax_fits}
+use Rattle.rules_attribute.proofs.SyntaxLaws.{says_syntax_fits}
 use Rattle.rules_class.specs.Category.{Illegal, RootIllegal, inheritance_number, inheritance_wrong}
-use Rattle.rules_class.specs.CategoryLaws.{says_inheritance_wrong}
+use Rattle.rules_class.proofs.CategoryLaws.{says_inheritance_wrong}
 use Rattle.rules_class.specs.declared.category.Inheritance.{Inheritance}
 use Rattle.rules_class.specs.declared.category.Inheritance.TheVariants.{AbstractUnderOther, AuxiliaryUnderStructural, RootNotAbstract}
 use Rattle.rules_class.specs.declared.category.Inheritance.TheVariants.{StructuralUnderAuxiliary}

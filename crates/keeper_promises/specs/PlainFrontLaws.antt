@@ -2,7 +2,7 @@
 -- loaded again is the same schema.
 use Rattle.change_model.specs.SameLaws.{answer_same}
 use Rattle.rules.specs.declared.row.Added.TheVariants.{Nothing}
-use Rattle.rules.specs.SameLaws.{judged_same}
+use Rattle.rules.proofs.SameLaws.{judged_same}
 use Rattle.std.proofs.Math.Dec.{eqb}
 use Rattle.keeper_promises.specs.RoundTripLaws.{write_load}
 use Rattle.schema.specs.Answers.{passed}
@@ -18,7 +18,7 @@ use Rattle.change_rows.specs.BytesLaws.{after_bytes}
 use Rattle.change_rows.specs.FrontLaws.{after_past, after_front}
 use Rattle.keeper_promises.specs.PlainLaws.{zero_order, plain_kept, plain_zero, number_is, left_made, plain_ordered}
 use Rattle.graph.specs.SameLaws.{closure_rows_same}
-use Rattle.graph.specs.FreshLaws.{closure_rows_length}
+use Rattle.graph.proofs.FreshLaws.{closure_rows_length}
 use Rattle.keeper_change.specs.MadeLaws.{made_applicable, made_length, made_shape}
 use Rattle.keeper.specs.Write.{sheet_of, write}
 use Rattle.schema.specs.declared.answer.Answer.{Answer}

@@ -11,7 +11,7 @@ use Rattle.change_read.specs.declared.read.Change.{Change}
 use Rattle.rules.specs.declared.row.Added.TheVariants.{Nothing}
 use Rattle.rules.specs.Meets.{Meets, rule_number}
 use Rattle.rules.specs.Judge.{judged}
-use Rattle.rules.specs.MeetsLaws.{met_of}
+use Rattle.rules.proofs.MeetsLaws.{met_of}
 use Rattle.schema.specs.declared.answer.Answer.{Answer}
 use Rattle.schema.specs.Store.{LongEnough, Schema, Stores, result_of, schema_of, Result}
 use Rattle.schema.specs.AnswersLaws.{told_changed}
@@ -35,9 +35,9 @@ use Rattle.keeper_change.specs.DoneLaws.{done_fresh, done_meets, done_same, done
 use Rattle.keeper_change.specs.Made.{rows_made, refreshed}
 use Rattle.prelude.specs.SaysLaws.{says_eq, says_false, says_test, says_true}
 use Rattle.prelude.specs.Part.{Bytes}
-use Rattle.tables_shape.specs.ShapeLaws.{says_formed}
+use Rattle.tables_shape.proofs.ShapeLaws.{says_formed}
 use Rattle.tables.specs.Same.{SameRows}
-use Rattle.graph.specs.FreshLaws.{says_fresh}
+use Rattle.graph.proofs.FreshLaws.{says_fresh}
 use Rattle.change_rows.specs.Rows.{number_for, schema_after, table_for}
 use Rattle.schema.specs.Refusals as refusal
 use Rattle.keeper.specs.OrderLaws as orders

@@ -1,8 +1,8 @@
 -- The promises, kept: each demand, with no assumption left.
 use Rattle.schema.specs.AnswersLaws.{same_told}
 use Rattle.schema.specs.OrderLaws.{rank_apart}
-use Rattle.sheet_read.specs.StoppingLaws.{sheet_stops}
-use Rattle.rules.specs.MeetsLaws.{kept_met}
+use Rattle.sheet_read.proofs.StoppingLaws.{sheet_stops}
+use Rattle.rules.proofs.MeetsLaws.{kept_met}
 use Rattle.change_read.specs.StoppingLaws.{change_stops}
 use Rattle.keeper_promises.specs.Demand3.{Demand3}
 use Rattle.keeper_promises.specs.Demand3Laws.{agreement}

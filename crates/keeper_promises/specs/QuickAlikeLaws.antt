@@ -5,7 +5,7 @@ use mathlib.Core.List.{List}
 use Rattle.std.proofs.Common.{◌∙◌, subst₂, arith}
 use Rattle.std.proofs.Math.Path.{ap, ap₂, sym}
 use Rattle.std.proofs.Math.Decide.{ℕ_discrete}
-use Rattle.closure_change.specs.KeptLaws.{after_length, joined_wide, new_length, rows_length}
+use Rattle.closure_change.proofs.KeptLaws.{after_length, joined_wide, new_length, rows_length}
 use Rattle.prelude.specs.BelowLaws.{any_cong}
 use Rattle.prelude.specs.Concat.{concat_below}
 use Rattle.prelude.specs.ConcatLaws.{concat_same}
@@ -23,11 +23,11 @@ use Rattle.schema.specs.declared.answer.Answer.{Answer}
 use Rattle.schema.specs.declared.number.TableId.TheVariants.{Attributes, Classes}
 use Rattle.tables.specs.Named.{lists}
 use Rattle.tables.specs.Same.{Same, SameRows}
-use Rattle.graph.specs.FreshLaws.{closure_row_length}
+use Rattle.graph.proofs.FreshLaws.{closure_row_length}
 use Rattle.graph.specs.FrontLaws.{kept_front}
 use Rattle.graph.specs.Graph.{closure_row, inherits}
 use Rattle.graph.specs.SameLaws.{closure_row_same}
-use Rattle.tables_shape.specs.ShapeLaws.{says_formed}
+use Rattle.tables_shape.proofs.ShapeLaws.{says_formed}
 use Rattle.change_read.specs.Carried.{entry_of, list_of, target_of}
 use Rattle.change_read.specs.Reading.{read_change}
 use Rattle.change_read.specs.declared.carried.OpenList.{OpenList}

@@ -3,7 +3,7 @@ use Rattle.std.specs.Prelude.{List, [], ◌++◌, ◌∷◌, ◌≡◌, ◌<◌,
 use Rattle.std.proofs.Common.{◌∙◌, ap, subst, sym, arith}
 use Rattle.std.proofs.Math.Path.{refl}
 use Rattle.std.proofs.Math.Decide.{ℕ_discrete}
-use Rattle.closure_change.specs.KeptLaws.{after_past}
+use Rattle.closure_change.proofs.KeptLaws.{after_past}
 use Rattle.prelude.specs.First.{Case, ◌when◌, first_of}
 use Rattle.prelude.specs.FirstLaws.{append_first, append_second}
 use Rattle.prelude.specs.Part.{Bytes}

@@ -7,7 +7,7 @@ use Rattle.schema.specs.Answers.{passed, refused, unreadable}
 use Rattle.schema.specs.Store.{LongEnough, Stores, result_of}
 use Rattle.schema.specs.StoreLaws.{says_short}
 use Rattle.schema.specs.declared.answer.Answer.{Answer}
-use Rattle.tables_shape.specs.ShapeLaws.{says_formed}
+use Rattle.tables_shape.proofs.ShapeLaws.{says_formed}
 use Rattle.change_read.specs.Reading.{read_change}
 use Rattle.change_read.specs.declared.read.ChangeRead.{ChangeRead}
 use Rattle.change_read.specs.declared.read.ChangeRead.TheVariants.{Bad}

@@ -15,12 +15,12 @@ use Rattle.schema.specs.Store.{Schema, Stores, Table, closure_at, schema_of}
 use Rattle.schema.specs.StoreLaws.{plus_count, table_row_length}
 use Rattle.schema.specs.declared.number.TableId.TheVariants.{Attributes, Classes}
 use Rattle.tables.specs.Same.{SameRows}
-use Rattle.tables_shape.specs.ShapeLaws.{says_formed}
+use Rattle.tables_shape.proofs.ShapeLaws.{says_formed}
 use Rattle.graph.specs.Graph.{closure_row}
 use Rattle.graph.specs.SameLaws.{closure_row_same}
 use Rattle.closure_change.specs.After.{closure_after, entry_joined}
 use Rattle.closure_change.specs.Kept.{each_holding, holds, joined_into, option_row, refreshed_at, row_where, with_new}
-use Rattle.closure_change.specs.KeptLaws.{each_at, fresh_wide, joined_wide, kept_length, with_new_other, with_new_same}
+use Rattle.closure_change.proofs.KeptLaws.{each_at, fresh_wide, joined_wide, kept_length, with_new_other, with_new_same}
 use Rattle.change_read.specs.Carried.{entry_of, list_of, target_of}
 use Rattle.change_read.specs.ChangeLaws.{Reads}
 use Rattle.change_read.specs.Reading.{ChangeOut, read_change}

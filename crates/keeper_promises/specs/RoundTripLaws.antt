@@ -11,13 +11,13 @@ use Rattle.schema.specs.Answers.{done, passed}
 use Rattle.schema.specs.Layout.{closure_length}
 use Rattle.schema.specs.Store.{LongEnough, Result, Stores, result_of, schema_of, stores}
 use Rattle.tables.specs.Same.{SameRows}
-use Rattle.graph.specs.FreshLaws.{fresh_bytes}
+use Rattle.graph.proofs.FreshLaws.{fresh_bytes}
 use Rattle.graph.specs.Graph.{closure_rows}
 use Rattle.graph.specs.SameLaws.{closure_rows_same}
 use Rattle.rules.specs.declared.row.Added.TheVariants.{Nothing}
 use Rattle.rules.specs.Meets.{Meets}
-use Rattle.rules.specs.MeetsLaws.{meets}
-use Rattle.rules.specs.SameLaws.{kept_same}
+use Rattle.rules.proofs.MeetsLaws.{meets}
+use Rattle.rules.proofs.SameLaws.{kept_same}
 use Rattle.sheet_read.specs.Held.{Lent}
 use Rattle.sheet_read.specs.Reading.{Rows, SheetOut, read_sheet, schema_from, sheet_out}
 use Rattle.sheet_read.specs.ReadingLaws.{sheet_sound}
@@ -25,7 +25,7 @@ use Rattle.sheet_read.specs.declared.read.SheetRead.TheVariants.{Read}
 use Rattle.sheet_round_trip.specs.Exact.{ExactSheet}
 use Rattle.sheet_round_trip.specs.Longest.{longest_sheet}
 use Rattle.sheet_round_trip.specs.LongestLaws.{written_longest}
-use Rattle.sheet_round_trip.specs.SheetLaws.{both_held, both_same, read_written, stores_held, written_read}
+use Rattle.sheet_round_trip.proofs.SheetLaws.{both_held, both_same, read_written, stores_held, written_read}
 use Rattle.sheet_write.specs.SameLaws.{sheet_same}
 use Rattle.keeper.specs.Load.{filled, load}
 use Rattle.keeper.specs.LoadLaws as loading

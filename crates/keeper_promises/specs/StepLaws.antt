@@ -19,7 +19,7 @@ use Rattle.tables.specs.Changed.{ChangedAt, ChangedRow}
 use Rattle.tables.specs.ChangedLaws.{row_old, row_other, row_stays, table_or_other}
 use Rattle.tables.specs.Same.{Same, SameRows}
 use Rattle.tables.specs.SameLaws.{same_reflexive, same_transitive}
-use Rattle.graph.specs.FreshLaws.{kept_demand}
+use Rattle.graph.proofs.FreshLaws.{kept_demand}
 use Rattle.graph.specs.Graph.{closure_row, demanded_set, demands}
 use Rattle.graph.specs.SameLaws.{closure_row_same, demands_same}
 use Rattle.graph.specs.UnreachedLaws.{closure_unreached}

@@ -16,7 +16,7 @@ use Rattle.sheet_read.specs.declared.read.SheetRead.{SheetRead}
 use Rattle.sheet_read.specs.declared.read.SheetRead.TheVariants.{Bad, Full, Read}
 use Rattle.sheet_read.specs.Reading.{read_sheet, schema_from, sheet_answer}
 use Rattle.sheet_read.specs.Stopping.{SheetStops}
-use Rattle.sheet_read.specs.StoppingLaws.{sheet_stops}
+use Rattle.sheet_read.proofs.StoppingLaws.{sheet_stops}
 use Rattle.change_read.specs.declared.read.Change.{Change}
 use Rattle.change_read.specs.declared.read.ChangeRead.{ChangeRead}
 use Rattle.change_read.specs.Reading.{change_answer, change_out, read_change}
@@ -25,9 +25,9 @@ use Rattle.change_read.specs.StoppingLaws.{change_stops}
 use Rattle.rules.specs.declared.row.Added.TheVariants.{Nothing}
 use Rattle.rules.specs.Rules.{schema_rules}
 use Rattle.rules.specs.Judge.{broken, broken_cases}
-use Rattle.rules.specs.JudgeLaws.{judged_number}
+use Rattle.rules.proofs.JudgeLaws.{judged_number}
 use Rattle.rules.specs.RulesLaws.{rising}
-use Rattle.tables_shape.specs.ShapeLaws.{says_formed}
+use Rattle.tables_shape.proofs.ShapeLaws.{says_formed}
 use Rattle.change_model.specs.ConditionsLaws.{cases_rise}
 use Rattle.change_model.specs.Model.{change_cases, change_number}
 use Rattle.schema.specs.Answering.{first_answer}

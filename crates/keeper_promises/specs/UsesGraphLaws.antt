@@ -9,9 +9,9 @@ use Rattle.sets.specs.SetsLaws.{member_within, says_member}
 use Rattle.schema.specs.ClassRow.{fixed_optional_of, mandatory_of, open_optional_of, superclass_of}
 use Rattle.schema.specs.Layout.{allowed_at, attribute_set, class_set, demanded_at, reached_at}
 use Rattle.schema.specs.Store.{Stores, Table, allowed_in, closure_at, demanded_in, reached_in, schema_of}
-use Rattle.tables.specs.NamedLaws.{says_lists}
+use Rattle.tables.proofs.NamedLaws.{says_lists}
 use Rattle.tables.specs.declared.named.ClassList.TheVariants.{Auxiliaries}
-use Rattle.graph.specs.FreshLaws.{allowed_part, demanded_part, reached_part}
+use Rattle.graph.proofs.FreshLaws.{allowed_part, demanded_part, reached_part}
 use Rattle.graph.specs.Graph.{Collects, Edge, Reaches, allows, closure_row, demands, inherits, lists_mandatory, lists_optional, reaches}
 use Rattle.graph.specs.GraphLaws.{says_collects, says_reaches}
 use Rattle.graph.specs.Walk.{Reach, here, step}

@@ -32,8 +32,8 @@ use Rattle.rows_read.specs.ObjectClass.{is_object, is_settled}
 use Rattle.rows_read.specs.WellFormed.{is_finished, well_formed}
 use Rattle.rows_read.specs.WellFormedLaws.{formed_parts}
 use Rattle.rules_names.specs.Name.{SameName, folded}
-use Rattle.rules_unique.specs.IdentifierLaws.{row_arcs}
-use Rattle.rules_attribute.specs.SyntaxLaws.{says_syntax_fits}
+use Rattle.rules_unique.proofs.IdentifierLaws.{row_arcs}
+use Rattle.rules_attribute.proofs.SyntaxLaws.{says_syntax_fits}
 use Rattle.rules_class.specs.Category.{list_category}
 use Rattle.rules_class.specs.Live.{SuperclassEarly}
 use Rattle.rules.specs.Meets.{Meets, Fitting, name_invalid, name_taken, identifier_invalid, identifier_taken, guid_taken, attribute_not_live, class_not_live}
@@ -41,8 +41,8 @@ use Rattle.rules.specs.Meets.{not_an_auxiliary, not_a_superior, root_not_abstrac
 use Rattle.rules.specs.Meets.{naming_unfit, mapi_taken, range_crossed, syntax_misfit, object_class_wrong}
 use Rattle.rules.specs.Meets.{link_taken, link_alone, link_syntax_unfit}
 use Rattle.rules.specs.declared.row.Added.TheVariants.{Nothing}
-use Rattle.rules.specs.MeetsLaws.{kept_met}
-use Rattle.tables_shape.specs.ShapeLaws.{table_shaped}
+use Rattle.rules.proofs.MeetsLaws.{kept_met}
+use Rattle.tables_shape.proofs.ShapeLaws.{table_shaped}
 use Rattle.keeper_promises.specs.PaperTablesLaws.{paper_tables, small_folds}
 use Rattle.keeper_promises.specs.Promises.{InOrder, OfBytes}
 use Rattle.keeper_promises.specs.Uses.{AttributeSound, ClassSound, OneName, ReachSound, Reached, RowSound, RowsApart}

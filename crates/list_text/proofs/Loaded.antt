@@ -11,7 +11,7 @@ use Rattle.schema.specs.Store.{table_in, stores, Result, result_of}
 use Rattle.schema.specs.declared.number.TableId.TheVariants.{Classes}
 use Rattle.tables.specs.Shaped.{TableShaped}
 use Rattle.tables.specs.Filled.{empty_stores}
-use Rattle.graph.specs.FreshLaws.{closure_rows_length}
+use Rattle.graph.proofs.FreshLaws.{closure_rows_length}
 use Rattle.keeper.specs.Load.{load}
 use Rattle.list_text.specs.Listing.{kept_counts, listing, refused_line, loaded_text}
 use Rattle.list_text.specs.ListingLaws.{text_accepted, text_refused, classes_read, accepted_shaped, accepted_closure}

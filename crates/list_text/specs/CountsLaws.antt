@@ -14,7 +14,7 @@ use Rattle.schema.specs.Layout.{attribute_set, demanded_at, allowed_at}
 use Rattle.schema.specs.Store.{Table, closure_at}
 use Rattle.graph.specs.Graph.{Collects, lists_mandatory, lists_optional, demands, allows, closure_row, inherits}
 use Rattle.graph.specs.GraphLaws.{says_collects}
-use Rattle.graph.specs.FreshLaws.{allowed_part, demanded_part}
+use Rattle.graph.proofs.FreshLaws.{allowed_part, demanded_part}
 use Rattle.list_text.specs.Listing.{kept_count, kept_counts, defined_counts, CountOf}
 
 -- ---- the counts of a class whose kept sets are those of the definitions

@@ -21,7 +21,7 @@ use Rattle.tables.specs.Shaped.{TableShaped}
 use Rattle.tables.specs.Filled.{empty_stores}
 use Rattle.tables.specs.Same.{Same}
 use Rattle.graph.specs.Graph.{closure_row, closure_rows}
-use Rattle.graph.specs.FreshLaws.{closure_rows_length, closure_rows_at}
+use Rattle.graph.proofs.FreshLaws.{closure_rows_length, closure_rows_at}
 use Rattle.sheet_read.specs.Held.{Lent}
 use Rattle.sheet_read.specs.Reading.{read_sheet, schema_from}
 use Rattle.sheet_read.specs.ReadingLaws.{sheet_sound}

@@ -1,2 +1,6 @@
 -- Laws that the proofs of the tables cite.
 pub mod Arms
+pub mod ColumnsLaws
+pub mod FormatsLaws
+pub mod ShortLaws
+pub mod BytesLaws

@@ -4,8 +4,4 @@ pub mod EntriesLaws
 pub mod Encodings
 pub mod EncodingsLaws
 pub mod Columns
-pub mod ColumnsLaws
 pub mod Formats
-pub mod FormatsLaws
-pub mod ShortLaws
-pub mod BytesLaws

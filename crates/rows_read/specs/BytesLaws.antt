@@ -25,10 +25,10 @@ use Rattle.rows_format.specs.declared.format.Format.{Format}
 use Rattle.rows_format.specs.declared.format.Format.TheVariants.{Range, Name, Target, Entry, NewRow, Row}
 use Rattle.rows_format.specs.Encodings.{image}
 use Rattle.rows_format.specs.Columns.{column_width, cell_of, Sound, laid}
-use Rattle.rows_format.specs.ColumnsLaws.{laid_cons}
+use Rattle.rows_format.proofs.ColumnsLaws.{laid_cons}
 use Rattle.rows_format.specs.Formats.{columns_of, format_width}
-use Rattle.rows_format.specs.FormatsLaws.{format_laid}
-use Rattle.rows_format.specs.BytesLaws.{cell_bytes}
+use Rattle.rows_format.proofs.FormatsLaws.{format_laid}
+use Rattle.rows_format.proofs.BytesLaws.{cell_bytes}
 use Rattle.rows_read.specs.declared.field.Turn.{Turn}
 use Rattle.rows_read.specs.declared.field.Turn.TheVariants.{Taken, Passed, Refused}
 use Rattle.rows_read.specs.declared.read.RowRead.{RowRead}

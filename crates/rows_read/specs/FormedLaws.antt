@@ -16,7 +16,7 @@ use Rattle.rows_format.specs.declared.column.Presence.TheVariants.{Optional}
 use Rattle.rows_format.specs.Encodings.{room}
 use Rattle.rows_format.specs.EncodingsLaws.{says_holds}
 use Rattle.rows_format.specs.Columns.{mark, column_width, cell_at, has_value, well_formed_cell, well_formed_by}
-use Rattle.rows_format.specs.ColumnsLaws.{formed_cons, formed_both, formed_at}
+use Rattle.rows_format.proofs.ColumnsLaws.{formed_cons, formed_both, formed_at}
 use Rattle.rows_format.specs.Formats.{column, may_be_defunct, never_defunct, common_columns, attribute_columns, columns_of, no_column, own_columns}
 use Rattle.rows_format.specs.declared.format.Format.TheVariants.{NewRow, Row}
 use Rattle.rows_read.specs.ObjectClass.{object_class_width}

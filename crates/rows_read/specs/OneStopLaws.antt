@@ -6,7 +6,7 @@ use Rattle.std.proofs.Common.{⊎_elim, sym, ap, ap₂, ◌∙◌, arith}
 use Rattle.std.proofs.Math.Decide.{dec_lt}
 use Rattle.prelude.specs.BelowLaws.{last_or_less}
 use Rattle.rows_format.specs.declared.column.Column.{Column}
-use Rattle.rows_format.specs.FormatsLaws.{distinct, without}
+use Rattle.rows_format.proofs.FormatsLaws.{distinct, without}
 use Rattle.rows_read.specs.WriteReadLaws.{without_cons, distinct_cons}
 use Rattle.rows_read.specs.Unfit.{UnfitField}
 use Rattle.rows_read.specs.Stopping.{FieldCut, column_at, value_at, ColumnStands, After, AcceptedTo, Unacceptable, Needed, ValueStops}

@@ -17,8 +17,8 @@ use Rattle.wire.specs.Wire.{field_at}
 use Rattle.wire.specs.WireLaws.{field_back}
 use Rattle.rows_format.specs.declared.column.Column.{Column}
 use Rattle.rows_format.specs.Columns.{required, column_width, cell_of, cell_at, has_value, value_of, well_formed_cell, well_formed_by, write_by, laid}
-use Rattle.rows_format.specs.ColumnsLaws.{Laid, laid_cons, laid_le, takes_accepts, cell_length, taken_cell, absent_value, absent_formed}
-use Rattle.rows_format.specs.ColumnsLaws.{formed_both, field_none, field_some}
+use Rattle.rows_format.proofs.ColumnsLaws.{Laid, laid_cons, laid_le, takes_accepts, cell_length, taken_cell, absent_value, absent_formed}
+use Rattle.rows_format.proofs.ColumnsLaws.{formed_both, field_none, field_some}
 use Rattle.rows_read.specs.declared.field.Turn.{Turn}
 use Rattle.rows_read.specs.declared.field.Turn.TheVariants.{Taken, Passed, Refused}
 use Rattle.rows_read.specs.declared.read.RowRead.TheVariants.{Read, Bad}

@@ -12,7 +12,7 @@ use Rattle.schema.specs.Layout.{row_width}
 use Rattle.rows_format.specs.declared.format.Format.{Format}
 use Rattle.rows_format.specs.Columns.{well_formed_by, write_by}
 use Rattle.rows_format.specs.Formats.{columns_of, format_width}
-use Rattle.rows_format.specs.FormatsLaws.{format_laid, format_distinct}
+use Rattle.rows_format.proofs.FormatsLaws.{format_laid, format_distinct}
 use Rattle.rows_format.specs.declared.format.Format.TheVariants.{NewRow, Row}
 use Rattle.rows_read.specs.declared.read.RowRead.{RowRead}
 use Rattle.rows_read.specs.declared.read.RowRead.TheVariants.{Read, Bad}

@@ -19,7 +19,7 @@ use Rattle.rows_format.specs.declared.format.Format.{Format}
 use Rattle.rows_format.specs.Columns.{required, takes}
 use Rattle.rows_format.specs.declared.format.Format.TheVariants.{Row, NewRow}
 use Rattle.rows_format.specs.Formats.{no_column, common_columns, attribute_columns, class_columns, own_columns, columns_of}
-use Rattle.rows_format.specs.FormatsLaws.{distinct, format_distinct}
+use Rattle.rows_format.proofs.FormatsLaws.{distinct, format_distinct}
 use Rattle.rows_read.specs.Unfit.{UnfitField}
 use Rattle.rows_read.specs.UnfitLaws.{unfit_field}
 use Rattle.rows_read.specs.Reading.{Out, read_by, turn_of}

@@ -25,9 +25,9 @@ use Rattle.rows_format.specs.Encodings.{image, room, sound, skippable}
 use Rattle.rows_format.specs.EncodingsLaws.{says_accepts, says_holds}
 use Rattle.rows_format.specs.Columns.{lead, mark, required, possible, column_width, takes}
 use Rattle.rows_format.specs.Columns.{cell_of, cell_at, has_value, well_formed_cell, well_formed_by, sound_column, clear}
-use Rattle.rows_format.specs.ColumnsLaws.{formed_at, cell_replaced, absent_formed, taken_formed, sound_column_lem}
+use Rattle.rows_format.proofs.ColumnsLaws.{formed_at, cell_replaced, absent_formed, taken_formed, sound_column_lem}
 use Rattle.rows_format.specs.Formats.{column, common_columns, attribute_columns, own_columns, columns_of, format_width, no_column}
-use Rattle.rows_format.specs.FormatsLaws.{format_laid}
+use Rattle.rows_format.proofs.FormatsLaws.{format_laid}
 use Rattle.rows_read.specs.ObjectClass.{object_class_width, object_class_cell, settled, is_settled, finished_row}
 use Rattle.rows_read.specs.ObjectClassLaws.{settled_none, settled_first, settled_given, settled_length, cell_long, no_cell}
 use Rattle.rows_read.specs.Stopping.{column_at}

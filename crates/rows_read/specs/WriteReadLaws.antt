@@ -16,8 +16,8 @@ use Rattle.wire.specs.Wire.{field_at, field_bytes}
 use Rattle.wire.specs.WireLaws.{field_end, field_length, field_read, value_read_lem}
 use Rattle.rows_format.specs.declared.column.Column.{Column}
 use Rattle.rows_format.specs.Columns.{column_width, cell_at, has_value, value_of, well_formed_cell, well_formed_by, field_of, write_by, laid}
-use Rattle.rows_format.specs.ColumnsLaws.{Laid, laid_cons, laid_end, laid_le, value_cell, blank_cell, formed_cons, field_none, field_some}
-use Rattle.rows_format.specs.FormatsLaws.{without, distinct}
+use Rattle.rows_format.proofs.ColumnsLaws.{Laid, laid_cons, laid_end, laid_le, value_cell, blank_cell, formed_cons, field_none, field_some}
+use Rattle.rows_format.proofs.FormatsLaws.{without, distinct}
 use Rattle.rows_read.specs.declared.field.Turn.TheVariants.{Taken, Passed}
 use Rattle.rows_read.specs.declared.read.RowRead.TheVariants.{Read}
 use Rattle.rows_read.specs.Reading.{turn_of, took_of, row_of, out, onward, read_by}

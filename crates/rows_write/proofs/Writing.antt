@@ -14,7 +14,7 @@ use Rattle.sets.specs.Sets.{members_from, member_count}
 use Rattle.wire.specs.Wire.{header_bytes, field_bytes}
 use Rattle.wire.specs.WireLaws.{header_length}
 use Rattle.schema.specs.declared.number.TableId.{TableId}
-use Rattle.rows_format.specs.ShortLaws.{field_bound}
+use Rattle.rows_format.proofs.ShortLaws.{field_bound}
 use Rattle.rows_format.specs.declared.column.Test.{Test}
 use Rattle.rows_format.specs.declared.column.Encoding.{Encoding}
 use Rattle.rows_format.specs.declared.column.Encoding.TheVariants.{Plain, Number, Counted, Arcs, Entries}
@@ -24,7 +24,7 @@ use Rattle.rows_format.specs.EntriesLaws.{entry_length, members_count}
 use Rattle.rows_format.specs.Encodings.{stored, room, holds, sound}
 use Rattle.rows_format.specs.EncodingsLaws.{room_small, Holds, says_holds, stored_short}
 use Rattle.rows_format.specs.Columns.{mark, column_width, cell_at, has_value, value_of, well_formed_cell, well_formed_by, field_of, Sound, Fits}
-use Rattle.rows_format.specs.ColumnsLaws.{formed_at, field_none, field_some, width_small}
+use Rattle.rows_format.proofs.ColumnsLaws.{formed_at, field_none, field_some, width_small}
 use Rattle.rows_read.proofs.Checking.{rest_of, cell_cut}
 
 -- ---- a cell that holds a value of a encoding

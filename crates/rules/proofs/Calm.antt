@@ -10,7 +10,7 @@ use Rattle.schema.specs.declared.number.TableId.TheVariants.{Attributes, Classes
 use Rattle.rules.specs.declared.row.Added.{Added}
 use Rattle.rules.specs.Rules.{numbered, schema_rules}
 use Rattle.rules.specs.Judge.{breaks_in, broken, judge_rule}
-use Rattle.rules.specs.JudgeLaws.{judge_neither}
+use Rattle.rules.proofs.JudgeLaws.{judge_neither}
 use Rattle.rules.specs.Clear.{is_clear, key_numbers}
 
 pub clear_passed : (added : Added) (m : Schema) (n : ℕ) → is_clear added m n ≡ true → judge_rule (numbered (schema_rules added) n) m passed ≡ passed

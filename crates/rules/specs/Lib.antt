@@ -2,11 +2,8 @@
 pub mod Rules
 pub mod RulesLaws
 pub mod Judge
-pub mod JudgeLaws
 pub mod Clear
 pub mod Meets
-pub mod MeetsLaws
-pub mod SameLaws
 pub mod RowChange
 pub mod RowChangeLaws
 pub mod ReadLaws

@@ -10,7 +10,7 @@ use Rattle.schema.specs.ObjectClassesLaws.{has_object_class}
 use Rattle.rows_read.specs.ObjectClass.{settled}
 use Rattle.rows_read.specs.WellFormedLaws.{settled_syntaxes, settled_value}
 use Rattle.rules_attribute.specs.Syntax.{syntax_wrong, object_class_wrong}
-use Rattle.rules_attribute.specs.SyntaxLaws.{says_object_class_wrong, kept_has, first_right}
+use Rattle.rules_attribute.proofs.SyntaxLaws.{says_object_class_wrong, kept_has, first_right}
 
 -- the fields of an attribute row without 08
 module _ (row : List ℕ) (long : attribute_width ≤ length row) (absent : object_class_length row ≡ 0) where

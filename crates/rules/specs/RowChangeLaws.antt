@@ -17,21 +17,21 @@ use Rattle.schema.specs.ClassRow.{naming_of}
 use Rattle.schema.specs.Store.{Table, Schema, table}
 use Rattle.tables.specs.ChangedLaws.{row_old, row_other, table_or_other}
 use Rattle.tables.specs.Named.{names}
-use Rattle.tables.specs.NamedLaws.{says_names}
+use Rattle.tables.proofs.NamedLaws.{says_names}
 use Rattle.tables.specs.declared.named.ClassList.{ClassList}
 use Rattle.tables.specs.declared.named.ClassList.TheVariants.{Auxiliaries, Superiors}
 use Rattle.tables.specs.Live.{live}
 use Rattle.rules_names.specs.Name.{name_invalid, identifier_invalid}
 use Rattle.rules_unique.specs.declared.Key.TheVariants.{Name, Identifier, Guid, Mapi, Link}
 use Rattle.rules_unique.specs.Unique.{every_row}
-use Rattle.rules_unique.specs.RivalLaws.{taken_here}
+use Rattle.rules_unique.proofs.RivalLaws.{taken_here}
 use Rattle.rules_attribute.specs.Range.{range_wrong}
 use Rattle.rules_attribute.specs.Syntax.{syntax_wrong, object_class_wrong}
 use Rattle.rules_attribute.specs.Links.{is_back_link, is_forward_of, forward_missing, link_syntax_wrong}
-use Rattle.rules_attribute.specs.LinksLaws.{forward_stays, no_back_link}
+use Rattle.rules_attribute.proofs.LinksLaws.{forward_stays, no_back_link}
 use Rattle.rules_class.specs.Live.{not_live, class_wrong, naming_wrong, lists_itself, superclass_late}
 use Rattle.rules_class.specs.Category.{category_wrong, inheritance_number, inheritance_wrong}
-use Rattle.rules_class.specs.StayLaws.{named_there, not_live_stays, naming_stays, category_stays, inheritance_stays}
+use Rattle.rules_class.proofs.StayLaws.{named_there, not_live_stays, naming_stays, category_stays, inheritance_stays}
 use Rattle.rules.specs.declared.row.Added.{Added}
 use Rattle.rules.specs.declared.row.Added.TheVariants.{Nothing, Class, Entry}
 use Rattle.rules.specs.Rules.{of_rows, of_attributes, of_classes, barred, entry_dead, attribute_not_live}

@@ -1,8 +1,5 @@
 -- Rules of an attribute row: its range, its syntax, the forward link that a back link needs, and the syntax that a link needs.
 pub mod Range
-pub mod RangeLaws
 pub mod Syntax
-pub mod SyntaxLaws
 pub mod Links
-pub mod LinksLaws
 pub mod SameLaws

@@ -3,8 +3,6 @@ pub mod Blank
 pub mod Live
 pub mod LiveLaws
 pub mod Category
-pub mod CategoryLaws
 pub mod Chain
 pub mod ChainLaws
-pub mod StayLaws
 pub mod SameLaws

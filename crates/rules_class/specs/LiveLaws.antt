@@ -16,7 +16,7 @@ use Rattle.schema.specs.Numbers.{limit}
 use Rattle.tables.specs.LiveLaws.{says_live}
 use Rattle.tables.specs.declared.named.ClassList.TheVariants.{Auxiliaries, Superiors}
 use Rattle.tables.specs.Named.{Lists}
-use Rattle.tables.specs.NamedLaws.{says_lists, says_names}
+use Rattle.tables.proofs.NamedLaws.{says_lists, says_names}
 use Rattle.rules_class.specs.Live.{superclass_late, class_wrong, lists_itself, naming_wrong, SuperclassEarly, NamingWrong, CanName, NamesDead}
 use Rattle.rules_class.specs.Live.{NotLive, names_dead, not_live}
 

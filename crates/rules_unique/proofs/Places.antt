@@ -28,7 +28,7 @@ use Rattle.rules_names.specs.Name.{folded, between}
 use Rattle.rules_unique.specs.declared.Key.{Key}
 use Rattle.rules_unique.specs.declared.Key.TheVariants.{Name, Identifier, Guid, Mapi, Link}
 use Rattle.rules_unique.specs.Unique.{every_row, has_key, taken, SameKey, Rival}
-use Rattle.rules_unique.specs.UniqueLaws.{says_taken, clash_turned}
+use Rattle.rules_unique.proofs.UniqueLaws.{says_taken, clash_turned}
 use Rattle.rules_unique.specs.Marks.{absent, any_taken, caseless, key_mark, mark_count, mark_of, marks_width, met, place_count, whole}
 
 -- ---- marks

@@ -23,7 +23,7 @@ use Rattle.sheet_read.specs.declared.read.SheetRead.{SheetRead}
 use Rattle.sheet_read.specs.declared.read.SheetRead.TheVariants.{Read, Bad}
 use Rattle.sheet_read.specs.Reading.{stopped, Rows, SheetOut, no_rows, read_sheet, sheet_out, take_field}
 use Rattle.sheet_read.specs.Held.{Stepped, Held, Left, Lent, Steps, Fitting}
-use Rattle.sheet_read.specs.TurnLaws.{Stands, stands_start, stands_end, stands_stop, stands_forward, stands_on}
+use Rattle.sheet_read.proofs.TurnLaws.{Stands, stands_start, stands_end, stands_stop, stands_forward, stands_on}
 use Rattle.sheet_read.specs.ReadingLaws.{no_rows_sound, sheet_sound}
 
 -- where the loop stands: the stores hold the rows read so far

@@ -3,6 +3,3 @@ pub mod Reading
 pub mod Stopping
 pub mod Held
 pub mod ReadingLaws
-pub mod TurnLaws
-pub mod AcceptedLaws
-pub mod StoppingLaws

@@ -20,7 +20,7 @@ use Rattle.rows_format.specs.declared.format.Format.TheVariants.{Row}
 use Rattle.rows_format.specs.Encodings.{room, stored}
 use Rattle.rows_format.specs.EncodingsLaws.{says_holds}
 use Rattle.rows_format.specs.Columns.{mark, column_width, cell_at, has_value, value_of, well_formed_cell, well_formed_by, write_by}
-use Rattle.rows_format.specs.ColumnsLaws.{formed_at}
+use Rattle.rows_format.proofs.ColumnsLaws.{formed_at}
 use Rattle.rows_format.specs.Formats.{column, common_columns, attribute_columns, own_columns, columns_of, format_width, no_column}
 use Rattle.rows_read.specs.declared.read.RowRead.TheVariants.{Read}
 use Rattle.rows_read.specs.Reading.{out, read_by}

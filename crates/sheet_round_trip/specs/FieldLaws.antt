@@ -14,11 +14,11 @@ use Rattle.wire.specs.Wire.{field_at, field_bytes}
 use Rattle.wire.specs.WireLaws.{field_is, field_length, field_read, value_read_lem}
 use Rattle.rows_format.specs.declared.column.Column.{Column}
 use Rattle.rows_format.specs.Columns.{column_width, cell_at, has_value, value_of, field_of, write_by, laid, Sound}
-use Rattle.rows_format.specs.ColumnsLaws.{laid_cons, field_none, field_some, width_small}
+use Rattle.rows_format.proofs.ColumnsLaws.{laid_cons, field_none, field_some, width_small}
 use Rattle.rows_format.specs.declared.format.Format.{Format}
 use Rattle.rows_format.specs.Formats.{columns_of, format_width}
-use Rattle.rows_format.specs.FormatsLaws.{distinct, format_distinct, format_laid}
-use Rattle.rows_format.specs.ShortLaws.{field_bound}
+use Rattle.rows_format.proofs.FormatsLaws.{distinct, format_distinct, format_laid}
+use Rattle.rows_format.proofs.ShortLaws.{field_bound}
 use Rattle.rows_read.specs.Stopping.{FieldStands, column_at, value_at}
 use Rattle.rows_read.specs.OneStopLaws.{one_column}
 use Rattle.rows_read.specs.PlaceLaws.{field_stands}

@@ -25,7 +25,7 @@ use Rattle.tables.specs.Same.{Same}
 use Rattle.rows_read.specs.WellFormed.{well_formed}
 use Rattle.sheet_read.specs.ReadingLaws.{AllRows, all_append, Sound}
 use Rattle.tables_shape.specs.Shape.{unused_rows, rows_formed, beside_zero, table_formed, TableFormed}
-use Rattle.tables_shape.specs.ShapeLaws.{rows_split, says_table_formed}
+use Rattle.tables_shape.proofs.ShapeLaws.{rows_split, says_table_formed}
 
 -- ---- the first rows of a table
 

@@ -5,8 +5,6 @@ pub mod ExactLaws
 pub mod RowLaws
 pub mod WalkLaws
 pub mod WrittenLaws
-pub mod AcceptedLaws
 pub mod HeldLaws
-pub mod SheetLaws
 pub mod Longest
 pub mod LongestLaws

@@ -27,7 +27,7 @@ use Rattle.rows_format.specs.declared.format.Format.{Format}
 use Rattle.rows_format.specs.Encodings.{room, stored}
 use Rattle.rows_format.specs.EntriesLaws.{entry_length, members_few}
 use Rattle.rows_format.specs.Columns.{mark, column_width, cell_at, has_value, value_of, field_of, write_by}
-use Rattle.rows_format.specs.ColumnsLaws.{field_none, field_some}
+use Rattle.rows_format.proofs.ColumnsLaws.{field_none, field_some}
 use Rattle.rows_format.specs.Formats.{attribute_columns, class_columns, columns_of, common_columns, format_width, own_columns}
 use Rattle.rows_read.specs.Reading.{out, read_by}
 use Rattle.rows_read.specs.RoundTripLaws.{fields_back, row_read_lem}

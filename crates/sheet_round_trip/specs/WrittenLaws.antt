@@ -18,18 +18,18 @@ use Rattle.tables.specs.Filled.{AllWide}
 use Rattle.rows_format.specs.declared.format.Format.{Format}
 use Rattle.rows_format.specs.Columns.{write_by}
 use Rattle.rows_format.specs.Formats.{columns_of}
-use Rattle.rows_format.specs.ShortLaws.{written_short}
+use Rattle.rows_format.proofs.ShortLaws.{written_short}
 use Rattle.rows_read.specs.Reading.{out}
 use Rattle.rows_read.specs.WellFormed.{well_formed}
 use Rattle.rows_read.specs.RoundTripLaws.{written_row_read}
-use Rattle.sheet_read.specs.AcceptedLaws.{row_tag_lem}
+use Rattle.sheet_read.proofs.AcceptedLaws.{row_tag_lem}
 use Rattle.sheet_read.specs.declared.read.Phase.{Phase}
 use Rattle.sheet_read.specs.declared.read.Phase.TheVariants.{Start, InRows}
 use Rattle.sheet_read.specs.declared.read.SheetRead.TheVariants.{Read}
 use Rattle.sheet_read.specs.Reading.{Rows, rows, no_rows, rows_in, plus, schema_from, sheet_tag, position, heading_open, rows_open, is_heading, row_out}
 use Rattle.sheet_read.specs.Reading.{sheet_out, read_sheet}
 use Rattle.sheet_read.specs.ReadingLaws.{AllRows, Sound}
-use Rattle.sheet_read.specs.TurnLaws.{Stands, stands_start, stands_end, stands_on, heading_turn, row_turn_lem}
+use Rattle.sheet_read.proofs.TurnLaws.{Stands, stands_start, stands_end, stands_on, heading_turn, row_turn_lem}
 use Rattle.sheet_read.specs.Stopping.{row_tag}
 use Rattle.sheet_write.specs.Writing.{heading, row_field, sheet_bytes}
 use Rattle.sheet_round_trip.specs.RowLaws.{written, sheet_of_lem, plus_all, all_attributes, all_classes}

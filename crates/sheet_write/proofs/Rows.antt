@@ -21,7 +21,7 @@ use Rattle.schema.specs.StoreLaws.{table_row_length}
 use Rattle.rows_format.specs.declared.format.Format.TheVariants.{Row}
 use Rattle.rows_format.specs.Columns.{well_formed_by, write_by}
 use Rattle.rows_format.specs.Formats.{columns_of, format_width}
-use Rattle.rows_format.specs.ShortLaws.{written_short}
+use Rattle.rows_format.proofs.ShortLaws.{written_short}
 use Rattle.rows_read.specs.WellFormedLaws.{formed_parts}
 use Rattle.rows_write.proofs.Writing.{field_put}
 use Rattle.sheet_read.specs.Stopping.{row_tag}

@@ -1,3 +1,4 @@
 -- Laws that belong to no one function.
 pub mod Written
 pub mod Widths
+pub mod NamedLaws

@@ -12,6 +12,5 @@ pub mod ChangedLaws
 pub mod Live
 pub mod LiveLaws
 pub mod Named
-pub mod NamedLaws
 pub mod Shaped
 pub mod ShapedLaws

@@ -15,7 +15,7 @@ use Rattle.schema.specs.Numbers.{limit, row_id, table_of, number_of}
 use Rattle.schema.specs.NumbersLaws.{id_table, id_number}
 use Rattle.schema.specs.Layout.{rows_at, row_width, store_length}
 use Rattle.tables_shape.specs.Shape.{beside_zero, rows_formed, table_formed, unused_rows}
-use Rattle.tables_shape.specs.ShapeLaws.{rows_split}
+use Rattle.tables_shape.proofs.ShapeLaws.{rows_split}
 
 module _ (t : TableId) (s : List ℕ) where
   pub beside_broken : beside_zero t s ≡ false → table_formed t s ≡ false

@@ -1,6 +1,3 @@
 -- The shape of the two tables' stores, what it says, and the stores of well-formed rows.
 pub mod Shape
-pub mod ShapeLaws
-pub mod FilledShapeLaws
 pub mod PutShapeLaws
-pub mod FrontLaws

@@ -1,6 +1,6 @@
 use mathlib.Core.Path.{sym, ◌∙◌}
 use Rattle.schema.specs.Numbers.{table_of, number_of}
-use Rattle.rules_unique.specs.UniqueLaws.{row_keyed}
+use Rattle.rules_unique.proofs.UniqueLaws.{row_keyed}
 use Rattle.rules_unique.proofs.is_rival.Goals as goal
 
 pub returns-then-same_row : goal.returns-then-same_row

@@ -1,5 +1,5 @@
 use Rattle.rules_unique.specs.Unique.{taken, has_key}
-use Rattle.rules_unique.specs.UniqueLaws.{schema_keyed}
+use Rattle.rules_unique.proofs.UniqueLaws.{schema_keyed}
 use Rattle.tables.specs.ShapedLaws.{shaped_within}
 use Rattle.schema.specs.Numbers.{table_of, number_of}
 use mathlib.Core.Path.{sym, ap, ◌∙◌}

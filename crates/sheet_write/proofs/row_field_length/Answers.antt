@@ -1,5 +1,5 @@
 use native.Mathlib.Omega.{arith}
-use Rattle.rows_format.specs.ShortLaws.{written_short}
+use Rattle.rows_format.proofs.ShortLaws.{written_short}
 use Rattle.rows_format.specs.declared.format.Format.TheVariants.{Row}
 use Rattle.sheet_write.proofs.Rows.{row_columns, row_field_length}
 use Rattle.sheet_write.proofs.row_field_length.Goals as goal

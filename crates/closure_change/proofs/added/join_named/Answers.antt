@@ -2,7 +2,7 @@ use mathlib.Core.Path.{◌∙◌, ap, sym}
 use lib.ListN.{length}
 use Rattle.schema.specs.Store.{table_in}
 use Rattle.schema.specs.declared.number.TableId.TheVariants.{Classes}
-use Rattle.closure_change.specs.KeptLaws.{kept_length}
+use Rattle.closure_change.proofs.KeptLaws.{kept_length}
 use Rattle.closure_change.proofs.Joining.{one_named, not_named}
 use Rattle.closure_change.proofs.added.join_named.Goals as goal
 

@@ -1,7 +1,7 @@
 use mathlib.Core.Path.{◌∙◌, ap, ap₂}
 use lib.ListN.{length}
 use Rattle.closure_change.proofs.Holding.{demanded_long}
-use Rattle.closure_change.specs.KeptLaws.{kept_length}
+use Rattle.closure_change.proofs.KeptLaws.{kept_length}
 use mathlib.Core.Bool.{not}
 use Rattle.prelude.specs.Part.{part}
 use Rattle.sets.specs.Sets.{subset}

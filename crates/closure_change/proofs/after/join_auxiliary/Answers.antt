@@ -2,7 +2,7 @@ use Rattle.closure_change.specs.Kept.{joined_into}
 use Rattle.prelude.specs.PartLaws.{padded_full}
 use mathlib.Core.Path.{◌∙◌, ap}
 use lib.ListN.{length}
-use Rattle.closure_change.specs.KeptLaws.{kept_length}
+use Rattle.closure_change.proofs.KeptLaws.{kept_length}
 use native.Mathlib.Omega.{arith}
 use Rattle.closure_change.proofs.after.join_auxiliary.Goals as goal
 

@@ -1,5 +1,5 @@
 use Rattle.closure_change.proofs.Holding.{held_beyond, held_there}
-use Rattle.closure_change.specs.KeptLaws.{kept_length}
+use Rattle.closure_change.proofs.KeptLaws.{kept_length}
 use mathlib.Core.Path.{◌∙◌, ap}
 use Rattle.prelude.specs.Part.{part}
 use Rattle.sets.specs.Sets.{member}

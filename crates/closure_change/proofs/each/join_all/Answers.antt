@@ -1,7 +1,7 @@
 use mathlib.Core.Path.{refl}
 use Rattle.closure_change.proofs.Holding.{done_none, done_more, done_length, done_end}
 use Rattle.sets.specs.Sets.{union}
-use Rattle.closure_change.specs.KeptLaws.{joined_wide}
+use Rattle.closure_change.proofs.KeptLaws.{joined_wide}
 use Prim.Native.Nat.{◌+◌}
 use Rattle.closure_change.specs.Kept.{joined_into}
 use native.Mathlib.Omega.{arith}

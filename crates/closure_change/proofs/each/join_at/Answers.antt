@@ -1,4 +1,4 @@
-use Rattle.closure_change.specs.KeptLaws.{kept_length}
+use Rattle.closure_change.proofs.KeptLaws.{kept_length}
 use mathlib.Core.Path.{◌∙◌, ap, refl}
 use Rattle.sets.specs.Sets.{union}
 use Rattle.schema.specs.Store.{closure_at}

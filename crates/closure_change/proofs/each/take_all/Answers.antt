@@ -1,7 +1,7 @@
 use mathlib.Core.Path.{refl}
 use Rattle.closure_change.proofs.Holding.{done_none, done_more, done_length, done_end}
 use Rattle.schema.specs.Store.{closure_at}
-use Rattle.closure_change.specs.KeptLaws.{kept_length}
+use Rattle.closure_change.proofs.KeptLaws.{kept_length}
 use Prim.Native.Nat.{◌+◌}
 use Rattle.closure_change.specs.Kept.{taken_from}
 use native.Mathlib.Omega.{arith}

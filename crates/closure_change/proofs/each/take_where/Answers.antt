@@ -1,5 +1,5 @@
 use Rattle.closure_change.proofs.Holding.{row_there, where_changed, where_kept}
-use Rattle.closure_change.specs.KeptLaws.{kept_length}
+use Rattle.closure_change.proofs.KeptLaws.{kept_length}
 use mathlib.Core.Path.{◌∙◌, ap, ap₂, sym}
 use lib.ListN.{length}
 use Rattle.prelude.specs.Part.{splice}

@@ -1,5 +1,5 @@
 use Rattle.graph.proofs.Rows.{fresh_same_bytes}
-use Rattle.graph.specs.FreshLaws.{closure_rows_length}
+use Rattle.graph.proofs.FreshLaws.{closure_rows_length}
 use Rattle.graph.specs.Graph.{closure_rows}
 use Rattle.prelude.specs.SpliceLaws.{splice_all}
 use Rattle.prelude.specs.Part.{same_bytes}

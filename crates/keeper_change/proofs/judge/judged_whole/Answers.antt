@@ -2,7 +2,7 @@ use mathlib.Core.List.{[]}
 use mathlib.Core.Path.{◌∙◌, ap, sym}
 use Rattle.prelude.specs.FirstLaws.{append_first, append_second, first_hit, first_miss, first_none}
 use Rattle.rules.specs.Judge.{broken, broken_cases}
-use Rattle.rules.specs.JudgeLaws.{judged_number}
+use Rattle.rules.proofs.JudgeLaws.{judged_number}
 use Rattle.rules.specs.RulesLaws.{nonzero}
 use Rattle.rules.specs.Rules.{schema_rules}
 use Rattle.keeper_change.specs.Judged.{judged_whole}

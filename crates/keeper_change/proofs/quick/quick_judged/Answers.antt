@@ -7,7 +7,7 @@ use Rattle.schema.specs.Layout.{attribute_set}
 use Rattle.prelude.specs.Part.{zeros}
 use Rattle.change_rows.specs.Rows.{table_for}
 use Rattle.change_read.specs.declared.read.Change.TheVariants.{RemoveEntry}
-use Rattle.tables_shape.specs.ShapeLaws.{formed_readable}
+use Rattle.tables_shape.proofs.ShapeLaws.{formed_readable}
 use Rattle.keeper_change.proofs.quick.quick_judged.Goals as goal
 
 pub save-before-requires : goal.save-before-requires

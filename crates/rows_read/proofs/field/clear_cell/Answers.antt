@@ -1,4 +1,4 @@
-use Rattle.rows_format.specs.ColumnsLaws.{width_small}
+use Rattle.rows_format.proofs.ColumnsLaws.{width_small}
 use Rattle.rows_read.proofs.Storing.{cell_cleared}
 use Rattle.rows_read.proofs.field.clear_cell.Goals as goal
 

@@ -1,5 +1,5 @@
 use mathlib.Core.Path.{sym, ◌∙◌}
-use Rattle.rows_format.specs.ColumnsLaws.{width_small, cell_length, takes_accepts}
+use Rattle.rows_format.proofs.ColumnsLaws.{width_small, cell_length, takes_accepts}
 use Rattle.rows_read.proofs.Storing.{cell_stored}
 use Rattle.rows_read.proofs.field.put_cell.Goals as goal
 

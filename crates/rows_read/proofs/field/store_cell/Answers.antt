@@ -3,7 +3,7 @@ use Prim.Native.Nat.{◌≤◌}
 use native.Mathlib.Omega.{arith}
 use lib.ListN.{length, length-set}
 use Rattle.rows_format.specs.Columns.{column_width}
-use Rattle.rows_format.specs.ColumnsLaws.{takes_bool}
+use Rattle.rows_format.proofs.ColumnsLaws.{takes_bool}
 use Rattle.rows_read.proofs.Storing.{rest_long, marked_cell, bare_cell, marked_stored}
 use Rattle.rows_read.proofs.field.store_cell.Goals as goal
 

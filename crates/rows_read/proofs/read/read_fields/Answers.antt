@@ -3,7 +3,7 @@ use Prim.Native.Nat.{◌<◌}
 use native.Mathlib.Omega.{arith}
 use lib.ListN.{length}
 use Rattle.rows_format.specs.Formats.{columns_of, no_column}
-use Rattle.rows_format.specs.FormatsLaws.{fits_in}
+use Rattle.rows_format.proofs.FormatsLaws.{fits_in}
 use Rattle.rows_read.specs.Reading.{Out}
 use Rattle.rows_read.specs.ReadingLaws.{took_within, read_next, read_stop, read_leftover, read_missing, read_whole}
 use Rattle.rows_read.proofs.read.read_fields.Goals as goal

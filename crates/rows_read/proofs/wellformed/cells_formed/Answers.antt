@@ -5,8 +5,8 @@ use lib.ListN.{length}
 use Rattle.prelude.specs.PartLaws.{part_length}
 use Rattle.rows_format.specs.Formats.{columns_of, no_column}
 use Rattle.rows_format.specs.Columns.{well_formed_cell}
-use Rattle.rows_format.specs.ColumnsLaws.{width_small}
-use Rattle.rows_format.specs.FormatsLaws.{fits_in}
+use Rattle.rows_format.proofs.ColumnsLaws.{width_small}
+use Rattle.rows_format.proofs.FormatsLaws.{fits_in}
 use Rattle.rows_read.proofs.Checking.{formed_next, formed_not, formed_done, cell_cut}
 use Rattle.rows_read.proofs.wellformed.cells_formed.Goals as goal
 

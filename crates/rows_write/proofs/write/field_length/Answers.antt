@@ -4,7 +4,7 @@ use native.Mathlib.Omega.{arith}
 use lib.ListN.{length}
 use Rattle.wire.specs.WireLaws.{field_length}
 use Rattle.rows_format.specs.Columns.{field_of}
-use Rattle.rows_format.specs.ColumnsLaws.{width_small}
+use Rattle.rows_format.proofs.ColumnsLaws.{width_small}
 use Rattle.rows_write.proofs.Writing.{cell_of_lem, mark_within, field_has, field_hasnt, field_short}
 use Rattle.rows_write.proofs.write.field_length.Goals as goal
 

@@ -4,7 +4,7 @@ use native.Mathlib.Nat.{zero-add}
 use native.Mathlib.Omega.{arith}
 use lib.ListN.{length}
 use Rattle.rows_format.specs.Formats.{columns_of, no_column}
-use Rattle.rows_format.specs.FormatsLaws.{fits_in, format_few}
+use Rattle.rows_format.proofs.FormatsLaws.{fits_in, format_few}
 use Rattle.rows_write.specs.WritingLaws.{length_next, write_done}
 use Rattle.rows_write.proofs.Writing.{field_short, formed_column}
 use Rattle.rows_write.proofs.write.row_length.Goals as goal

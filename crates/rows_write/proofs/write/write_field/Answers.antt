@@ -6,7 +6,7 @@ use native.Mathlib.Omega.{arith}
 use lib.ListN.{length}
 use Rattle.prelude.specs.SpliceLaws.{splice_none}
 use Rattle.prelude.specs.Part.{splice}
-use Rattle.rows_format.specs.ColumnsLaws.{width_small}
+use Rattle.rows_format.proofs.ColumnsLaws.{width_small}
 use Rattle.rows_write.proofs.Writing.{cell_of_lem, mark_within, field_has, field_hasnt}
 use Rattle.rows_write.proofs.write.write_field.Goals as goal
 

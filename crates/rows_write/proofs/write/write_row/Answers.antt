@@ -7,7 +7,7 @@ use lib.ListN.{length, drop}
 use Rattle.prelude.specs.SpliceLaws.{splice_none, write_turn}
 use Rattle.prelude.specs.Part.{splice}
 use Rattle.rows_format.specs.Formats.{columns_of, no_column}
-use Rattle.rows_format.specs.FormatsLaws.{fits_in, format_few}
+use Rattle.rows_format.proofs.FormatsLaws.{fits_in, format_few}
 use Rattle.rows_format.specs.Columns.{field_of, write_by}
 use Rattle.rows_write.specs.WritingLaws.{write_next, length_next, write_done}
 use Rattle.rows_write.proofs.Writing.{formed_column}

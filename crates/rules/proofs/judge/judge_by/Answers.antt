@@ -5,7 +5,7 @@ use Rattle.schema.specs.declared.answer.Answer.{Answer}
 use Rattle.schema.specs.Store.{schema_in}
 use Rattle.rules.specs.Rules.{schema_rules, numbered}
 use Rattle.rules.specs.Judge.{judge_rule}
-use Rattle.rules.specs.JudgeLaws.{judge_found, judge_next, judge_over}
+use Rattle.rules.proofs.JudgeLaws.{judge_found, judge_next, judge_over}
 use native.Mathlib.Omega.{arith}
 use Rattle.rules.proofs.judge.judge_by.Goals as goal
 

@@ -2,7 +2,7 @@ use Rattle.rules.proofs.Calm.{clear_passed}
 use Rattle.rules.proofs.Asked.{broken_at}
 use Rattle.schema.specs.declared.number.TableId.TheVariants.{Attributes, Classes}
 use Rattle.schema.specs.Store.{schema_in}
-use Rattle.rules.specs.JudgeLaws.{answer_attribute, answer_class, answer_none}
+use Rattle.rules.proofs.JudgeLaws.{answer_attribute, answer_class, answer_none}
 use Rattle.rules.specs.Rules.{schema_rules}
 use mathlib.Core.Path.{sym, ◌∙◌}
 use native.Mathlib.Omega.{arith}

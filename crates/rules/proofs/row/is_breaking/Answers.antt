@@ -1,6 +1,6 @@
 use Rattle.rules.specs.Rules.{numbered}
 use Rattle.tables.specs.ShapedLaws.{shaped_within}
-use Rattle.rules_unique.specs.UniqueLaws.{schema_keyed}
+use Rattle.rules_unique.proofs.UniqueLaws.{schema_keyed}
 use Rattle.schema.specs.Numbers.{table_of, number_of}
 use native.Mathlib.Omega.{arith}
 use Rattle.rules.proofs.row.is_breaking.Goals as goal

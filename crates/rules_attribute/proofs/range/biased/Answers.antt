@@ -1,5 +1,5 @@
 use mathlib.Core.Path.{sym}
-use Rattle.rules_attribute.specs.RangeLaws.{biased_low, biased_high}
+use Rattle.rules_attribute.proofs.RangeLaws.{biased_low, biased_high}
 use Rattle.rules_attribute.proofs.range.biased.Goals as goal
 
 pub returns-then-x-lt-HALF : goal.returns-then-x-lt-HALF

@@ -1,5 +1,5 @@
 use borrow.Author.Rules.{rules}
-use Rattle.rules_attribute.specs.RangeLaws.{less_biased}
+use Rattle.rules_attribute.proofs.RangeLaws.{less_biased}
 use Rattle.rules_attribute.proofs.range.less_signed.Goals as goal
 
 pub returns : goal.returns

@@ -9,7 +9,7 @@ use Rattle.schema.specs.ClassRow.{superclass_of}
 use Rattle.schema.specs.declared.number.TableId.TheVariants.{Classes}
 use Rattle.schema.specs.StoreLaws.{table_row_length}
 use Rattle.schema.specs.Store.{table_in}
-use Rattle.rules_class.specs.CategoryLaws.{inheritance_root, inheritance_lost, inheritance_at}
+use Rattle.rules_class.proofs.CategoryLaws.{inheritance_root, inheritance_lost, inheritance_at}
 use Rattle.rules_class.proofs.category.inheritance_of.Goals as goal
 
 pub category-requires : goal.category-requires

@@ -1,7 +1,7 @@
 use Rattle.rules_unique.proofs.Places.{apart_more, marked_more, none_taken, one_taken, place_there, places_few}
 use Rattle.rules_unique.specs.Marks.{key_mark, marks_width, met, place_count}
 use Rattle.rules_unique.specs.Unique.{every_row, taken}
-use Rattle.rules_unique.specs.UniqueLaws.{schema_keyed}
+use Rattle.rules_unique.proofs.UniqueLaws.{schema_keyed}
 use Rattle.tables.specs.ShapedLaws.{shaped_within}
 use Rattle.schema.specs.Store.{schema_in, table}
 use Rattle.schema.specs.Numbers.{number_of, place_id, table_of}

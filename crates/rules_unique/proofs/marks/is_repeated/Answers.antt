@@ -1,5 +1,5 @@
 use mathlib.Core.Path.{sym, ◌∙◌}
-use Rattle.rules_unique.specs.UniqueLaws.{schema_keyed}
+use Rattle.rules_unique.proofs.UniqueLaws.{schema_keyed}
 use Rattle.schema.specs.Numbers.{table_of, number_of}
 use Rattle.tables.specs.ShapedLaws.{shaped_within}
 use Rattle.rules_unique.proofs.marks.is_repeated.Goals as goal

@@ -15,7 +15,7 @@ use Rattle.schema.specs.Layout.{row_width, rows_at, store_length}
 use Rattle.tables.specs.SameLaws.{front_count}
 use Rattle.rows_read.specs.WellFormed.{well_formed}
 use Rattle.tables_shape.specs.Shape.{beside_zero, rows_formed, stores_formed, table_formed, unused_rows}
-use Rattle.tables_shape.specs.ShapeLaws.{rows_split}
+use Rattle.tables_shape.proofs.ShapeLaws.{rows_split}
 
 module _ (t : TableId) (a b : List ℕ) (front : part 0 (store_length t) a ≡ part 0 (store_length t) b) where
   used_front : (n : ℕ) → n ≤ limit t → rows_formed t a n ≡ rows_formed t b n

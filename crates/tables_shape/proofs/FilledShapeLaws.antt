@@ -11,7 +11,7 @@ use Rattle.schema.specs.Store.{table_in}
 use Rattle.tables.specs.Filled.{AllWide, header, filled_store}
 use Rattle.tables.specs.FilledLaws.{store_count, store_flat, store_length_lem, store_row, store_spare}
 use Rattle.rows_read.specs.WellFormed.{well_formed}
-use Rattle.tables_shape.specs.ShapeLaws.{says_table_formed}
+use Rattle.tables_shape.proofs.ShapeLaws.{says_table_formed}
 use Rattle.tables_shape.specs.Shape.{table_formed}
 
 -- a store whose front was written over is as long as it was

@@ -3,7 +3,7 @@ use Rattle.std.specs.Prelude.{◌≡◌, refl, Bool, true, not, ◌&&◌, List, 
 use Rattle.std.proofs.Common.{arith}
 use Rattle.rows_format.specs.Encodings.{room, sound, skippable}
 use Rattle.rows_format.specs.Columns.{mark, column_width, clear, sound_column, laid, Fits}
-use Rattle.rows_format.specs.ColumnsLaws.{laid_at}
+use Rattle.rows_format.proofs.ColumnsLaws.{laid_at}
 use Rattle.rows_format.specs.Formats.{common_columns, attribute_columns, class_columns, range_columns, name_columns, target_columns, entry_columns}
 use Rattle.rows_format.specs.Formats.{own_columns, columns_of, format_width, no_column}
 use Rattle.rows_format.specs.declared.column.Column.{Column}

@@ -19,11 +19,11 @@ use Rattle.tables.specs.ChangedLaws.{live_stays}
 use Rattle.tables.specs.declared.named.ClassList.{ClassList}
 use Rattle.tables.specs.declared.named.ClassList.TheVariants.{Auxiliaries, Superiors}
 use Rattle.tables.specs.Named.{names, Lists, Names}
-use Rattle.tables.specs.NamedLaws.{says_names}
+use Rattle.tables.proofs.NamedLaws.{says_names}
 use Rattle.rules_class.specs.Live.{class_wrong, naming_wrong, SuperclassEarly, CanName, not_live}
 use Rattle.rules_class.specs.LiveLaws.{says_class_wrong, says_naming_wrong, says_not_live}
 use Rattle.rules_class.specs.Category.{category_wrong, inheritance, inheritance_of, root_inheritance, CategoryWrong}
-use Rattle.rules_class.specs.CategoryLaws.{says_category_wrong, inheritance_root, inheritance_at}
+use Rattle.rules_class.proofs.CategoryLaws.{says_category_wrong, inheritance_root, inheritance_at}
 
 -- ---- what a row names, where the table of it was changed
 

@@ -11,7 +11,7 @@ use Rattle.schema.specs.Numbers.{class_limit}
 use Rattle.schema.specs.ClassRow.{category_of, superclass_of}
 use Rattle.schema.specs.Store.{Table}
 use Rattle.tables.specs.declared.named.ClassList.{ClassList}
-use Rattle.tables.specs.NamedLaws.{says_lists}
+use Rattle.tables.proofs.NamedLaws.{says_lists}
 use Rattle.rules_class.specs.declared.category.Inheritance.{Inheritance}
 use Rattle.rules_class.specs.declared.category.Inheritance.TheVariants.{Sound, RootNotAbstract, AbstractUnderOther, AuxiliaryUnderStructural}
 use Rattle.rules_class.specs.declared.category.Inheritance.TheVariants.{StructuralUnderAuxiliary}

@@ -13,7 +13,7 @@ use Rattle.rows_format.specs.Entries.{entries}
 use Rattle.rows_format.specs.Encodings.{image, sound}
 use Rattle.rows_format.specs.EncodingsLaws.{Accepts}
 use Rattle.rows_format.specs.Columns.{lead, takes, cell_of, Sound}
-use Rattle.rows_format.specs.ColumnsLaws.{takes_accepts}
+use Rattle.rows_format.proofs.ColumnsLaws.{takes_accepts}
 use Rattle.rows_format.specs.declared.column.Encoding.{Encoding}
 use Rattle.rows_format.specs.declared.column.Encoding.TheVariants.{Plain, Number, Counted, Arcs, Entries}
 use Rattle.rows_format.specs.declared.column.Presence.{Presence}

@@ -27,9 +27,9 @@ use Rattle.sheet_read.specs.Reading.{Rows, SheetOut, Step, field_step, heading_o
 use Rattle.sheet_read.specs.Reading.{row_turn, rows_in, rows_open, sheet_tag, take_field, take_heading, take_table_row, take_tagged}
 use Rattle.sheet_read.specs.Stopping.{AcceptedTo, HeadingValue, NoRoom, RowStands, RowStops, SheetStops, Stands, Unacceptable, row_tag}
 use Rattle.sheet_read.specs.Stopping.{rows_given, rows_of}
-use Rattle.sheet_read.specs.TurnLaws.{stands_end, stands_stop, tagged_is}
-use Rattle.sheet_read.specs.AcceptedLaws.{Comes, Kind, a_heading, a_row, classes_open, comes, heading_tag, kind, neither}
-use Rattle.sheet_read.specs.AcceptedLaws.{row_stops, row_tag_lem, says_heading, unknown_tag}
+use Rattle.sheet_read.proofs.TurnLaws.{stands_end, stands_stop, tagged_is}
+use Rattle.sheet_read.proofs.AcceptedLaws.{Comes, Kind, a_heading, a_row, classes_open, comes, heading_tag, kind, neither}
+use Rattle.sheet_read.proofs.AcceptedLaws.{row_stops, row_tag_lem, says_heading, unknown_tag}
 use Rattle.rows_read.specs.declared.read.RowRead.TheVariants as row
 use Rattle.sheet_read.specs.declared.read.Room.{Room}
 use Rattle.sheet_read.specs.declared.read.Room.TheVariants as room

@@ -11,9 +11,9 @@ use Rattle.schema.specs.declared.number.TableId.TheVariants.{Attributes, Classes
 use Rattle.rows_format.specs.declared.format.Format.{Format}
 use Rattle.rows_format.specs.declared.format.Format.TheVariants.{Row, NewRow, Range, Name, Target, Entry}
 use Rattle.rows_format.specs.Columns.{mark, column_width, cell_at, has_value, value_of, field_of, write_by, laid}
-use Rattle.rows_format.specs.ColumnsLaws.{field_none, field_some, laid_cons, laid_le}
+use Rattle.rows_format.proofs.ColumnsLaws.{field_none, field_some, laid_cons, laid_le}
 use Rattle.rows_format.specs.Formats.{columns_of, format_width}
-use Rattle.rows_format.specs.FormatsLaws.{format_laid, format_few}
+use Rattle.rows_format.proofs.FormatsLaws.{format_laid, format_few}
 
 value_bound : (r : Column) (row : List ℕ) → length (value_of r (cell_at r row)) ≤ 2 + 16 * column_width r
 unfolding value_of cell_at

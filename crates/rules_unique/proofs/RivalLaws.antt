@@ -13,7 +13,7 @@ use Rattle.tables.specs.Changed.{ChangedRow}
 use Rattle.tables.specs.ChangedLaws.{row_old, row_other}
 use Rattle.rules_unique.specs.declared.Key.{Key}
 use Rattle.rules_unique.specs.Unique.{Counting, taken, Clash, Rival}
-use Rattle.rules_unique.specs.UniqueLaws.{says_taken, clash_turned}
+use Rattle.rules_unique.proofs.UniqueLaws.{says_taken, clash_turned}
 
 module _ (counts : Counting) (key : Key) {t : TableId} {k : ℕ} {m n : Schema} (h : ChangedRow t k m n)
     (calm : (u : TableId) (j : ℕ) → j < (table u m).count → ¬ (Rival counts key m u j)) where

@@ -30,10 +30,10 @@ use Rattle.rules_names.specs.NameLaws.{says_valid, says_name_invalid, says_ident
 use Rattle.rules_unique.specs.declared.Key.{Key}
 use Rattle.rules_unique.specs.declared.Key.TheVariants.{Name, Identifier, Guid, Mapi, Link}
 use Rattle.rules_unique.specs.Unique.{has_key, every_row, taken, SameKey, Clash}
-use Rattle.rules_unique.specs.UniqueLaws.{says_taken}
-use Rattle.rules_attribute.specs.RangeLaws.{says_range_wrong}
-use Rattle.rules_attribute.specs.SyntaxLaws.{says_syntax_fits, says_syntax_wrong, says_object_class_wrong}
-use Rattle.rules_attribute.specs.LinksLaws.{says_forward, says_forward_missing, says_link_syntax_fits, says_link_syntax_wrong}
+use Rattle.rules_unique.proofs.UniqueLaws.{says_taken}
+use Rattle.rules_attribute.proofs.RangeLaws.{says_range_wrong}
+use Rattle.rules_attribute.proofs.SyntaxLaws.{says_syntax_fits, says_syntax_wrong, says_object_class_wrong}
+use Rattle.rules_attribute.proofs.LinksLaws.{says_forward, says_forward_missing, says_link_syntax_fits, says_link_syntax_wrong}
 use Rattle.rules_attribute.specs.Range.{range_wrong}
 use Rattle.rules_attribute.specs.Syntax.{syntax_wrong, object_class_wrong}
 use Rattle.rules_attribute.specs.Links.{link_syntax_wrong}
@@ -44,7 +44,7 @@ use Rattle.rules_class.specs.Category.{class88, abstract, list_category, categor
 use Rattle.rules_class.specs.declared.category.Inheritance.{Inheritance}
 use Rattle.rules_class.specs.declared.category.Inheritance.TheVariants.{RootNotAbstract, AbstractUnderOther, AuxiliaryUnderStructural}
 use Rattle.rules_class.specs.declared.category.Inheritance.TheVariants.{StructuralUnderAuxiliary}
-use Rattle.rules_class.specs.CategoryLaws.{says_category_wrong, says_inheritance_wrong}
+use Rattle.rules_class.proofs.CategoryLaws.{says_category_wrong, says_inheritance_wrong}
 use Rattle.rules.specs.declared.row.Added.TheVariants.{Nothing}
 use Rattle.rules.specs.Rules.{of_attributes, of_classes, inheritance_rule, schema_rules, numbered, ◌&◌, attribute_not_live, class_not_live}
 use Rattle.rules.specs.Rules.{entry_dead, barred, Each, Rule}
@@ -54,7 +54,7 @@ use Rattle.rules.specs.Meets.{Apart, NumbersApart, NamedLive, EntryLive, NotItse
 use Rattle.rules.specs.declared.row.Added.{Added}
 use Rattle.rules.specs.declared.row.Added.TheVariants.{Class, Entry}
 use Rattle.rules.specs.Rules.{cases_of}
-use Rattle.rules.specs.JudgeLaws.{judge_number, none_broken}
+use Rattle.rules.proofs.JudgeLaws.{judge_number, none_broken}
 use Rattle.schema.specs.Refusals as refusal
 
 -- what is decided by a test, and cannot fail, holds

@@ -13,7 +13,7 @@ use Rattle.schema.specs.Store.{table_in}
 use Rattle.tables.specs.Shaped.{TableShaped}
 use Rattle.rules_unique.specs.declared.Key.TheVariants.{Identifier}
 use Rattle.rules_unique.specs.Unique.{same_key}
-use Rattle.rules_unique.specs.UniqueLaws.{says_same_key, row_keyed}
+use Rattle.rules_unique.proofs.UniqueLaws.{says_same_key, row_keyed}
 
 -- two rows that have their arcs: identifiers are compared as arcs are
 pub says_same_arcs : {a b : List ℕ} → HasArcs a → HasArcs b → Says (same_key Identifier a b) (SameArcs a b)

@@ -34,7 +34,7 @@ use Rattle.rules.specs.declared.row.Added.TheVariants.{Nothing, Class, Entry}
 use Rattle.rules.specs.Rules.{Rule, of_attributes, of_classes, inheritance_rule, barred, schema_rules, row_cases, Each, ◌&◌, attribute_not_live}
 use Rattle.rules.specs.Rules.{class_not_live, entry_dead}
 use Rattle.rules.specs.Judge.{judge_table, judge_rule, judge_rules, judged, AllKept}
-use Rattle.rules.specs.JudgeLaws.{judged_zero}
+use Rattle.rules.proofs.JudgeLaws.{judged_zero}
 use Rattle.rules.specs.Rules.{breaks}
 use Rattle.schema.specs.Refusals as refusal
 

@@ -24,7 +24,7 @@ use Rattle.prelude.specs.SpliceLaws.{part_splice_after, part_splice_before, part
 use Rattle.sets.specs.Sets.{union}
 use Rattle.sets.specs.SetsLaws.{set_length, union_length}
 use Rattle.graph.specs.Graph.{closure_row}
-use Rattle.graph.specs.FreshLaws.{closure_row_length}
+use Rattle.graph.proofs.FreshLaws.{closure_row_length}
 use Rattle.closure_change.specs.Kept.{each_holding, holds, joined_into, named_sets, new_row, option_row, own_row, refreshed_at, row_where, with_new}
 use Rattle.closure_change.specs.After.{closure_after, entry_joined}
 

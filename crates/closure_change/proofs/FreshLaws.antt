@@ -23,12 +23,12 @@ use Rattle.sets.specs.SideLaws.{member_alone, member_union}
 use Rattle.sets.specs.SetsLaws.{and-false, member_within, union_length, with_length}
 use Rattle.graph.specs.Graph.{allows, closure_row, collects_by, demands, inherits, lists_mandatory, lists_optional, reaches}
 use Rattle.graph.specs.GraphLaws.{says_collects, says_reaches}
-use Rattle.graph.specs.FreshLaws.{reached_part}
+use Rattle.graph.proofs.FreshLaws.{reached_part}
 use Rattle.graph.specs.ThreeLaws.{three, three_cong, union_three}
 use Rattle.graph.specs.Changes.{AuxiliaryMore, OptionalMore}
 use Rattle.graph.specs.ClosureLaws.{closure_before, closure_joined, closure_kept, closure_listed, closure_new}
 use Rattle.closure_change.specs.Kept.{holds, joined_into, named_sets, new_row, option_row, own_row, refreshed_at, row_where, with_new}
-use Rattle.closure_change.specs.KeptLaws.{each_at, fresh_wide, joined_wide, with_new_other, with_new_same}
+use Rattle.closure_change.proofs.KeptLaws.{each_at, fresh_wide, joined_wide, with_new_other, with_new_same}
 use Rattle.closure_change.specs.JoinedLaws.{member_first, member_second, member_third, option_joined, three_split}
 
 -- either of two tests, in the other order

@@ -20,9 +20,9 @@ use Rattle.sheet_read.specs.declared.read.Phase.TheVariants.{Start, InRows}
 use Rattle.sheet_read.specs.declared.read.SheetTag.TheVariants.{Heading, Row, Unknown}
 use Rattle.sheet_read.specs.Reading.{Rows, heading_open, is_heading, no_rows, plus, position, row_out, rows_in, rows_open, sheet_tag}
 use Rattle.sheet_read.specs.Stopping.{AcceptedTo, HeadingValue, RowStands, RowStops, Stands, row_tag, rows_given, rows_of}
-use Rattle.sheet_read.specs.TurnLaws.{heading_turn, row_turn_lem, stands_on, stands_start}
+use Rattle.sheet_read.proofs.TurnLaws.{heading_turn, row_turn_lem, stands_on, stands_start}
 use Rattle.rows_read.specs.declared.read.RowRead.TheVariants as row
-use Rattle.sheet_read.specs.TurnLaws as turns
+use Rattle.sheet_read.proofs.TurnLaws as turns
 
 -- ---- tags
 

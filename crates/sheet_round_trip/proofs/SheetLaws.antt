@@ -19,7 +19,7 @@ use Rattle.tables_shape.specs.Shape.{table_formed, stores_formed}
 use Rattle.sheet_round_trip.specs.Exact.{ExactSheet}
 use Rattle.sheet_round_trip.specs.HeldLaws.{rows_held, store_held, held_sound, held_same}
 use Rattle.sheet_round_trip.specs.WrittenLaws.{rows_read_back}
-use Rattle.sheet_round_trip.specs.AcceptedLaws.{accepted_same}
+use Rattle.sheet_round_trip.proofs.AcceptedLaws.{accepted_same}
 
 -- ---- tables, sheet, tables
 
