@@ -2,11 +2,8 @@
 pub mod Model
 pub mod ModelLaws
 pub mod Conditions
-pub mod ConditionsLaws
 pub mod SameLaws
 pub mod EditedLaws
-pub mod AloneLaws
 pub mod Sound
 pub mod ThereLaws
 pub mod QuickLaws
-pub mod AgreeLaws

@@ -17,7 +17,7 @@ use Rattle.prelude.specs.SpliceLaws.{splice_length}
 use Rattle.change_model.specs.Conditions.{Condition}
 use Rattle.change_model.specs.Model.{added_by, change_number}
 use Rattle.change_model.specs.ModelLaws.{asked_zero}
-use Rattle.change_model.specs.ConditionsLaws.{change_zero}
+use Rattle.change_model.proofs.ConditionsLaws.{change_zero}
 use Rattle.keeper.specs.InShape.{InShape}
 use Rattle.tables.specs.Same.{SameRows}
 use Rattle.tables.specs.SameLaws.{same_symmetric}

@@ -25,7 +25,7 @@ use Rattle.change_rows.specs.Rows.{table_for}
 use Rattle.change_rows.specs.Stores.{store_after}
 use Rattle.change_asked.specs.Asked.{first_asked}
 use Rattle.change_model.specs.Sound.{Passed, Sound}
-use Rattle.change_model.specs.AgreeLaws.{closure_refreshed, number_agrees}
+use Rattle.change_model.proofs.AgreeLaws.{closure_refreshed, number_agrees}
 use Rattle.change_model.specs.Model.{answer_by, answer_to, change_number}
 use Rattle.change_model.specs.ModelLaws.{asked_zero}
 use Rattle.keeper_change.specs.DoneLaws.{closure_stays}

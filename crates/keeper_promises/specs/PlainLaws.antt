@@ -28,7 +28,7 @@ use Rattle.keeper.specs.Order.{in_order, order_answers}
 use Rattle.change_model.specs.Model.{answer_to, added_by, change_number, rows_after}
 use Rattle.change_model.specs.Conditions.{Condition}
 use Rattle.change_model.specs.ModelLaws.{answer_done, answer_number, answer_refused}
-use Rattle.change_model.specs.ConditionsLaws.{change_condition, change_least, change_zero}
+use Rattle.change_model.proofs.ConditionsLaws.{change_condition, change_least, change_zero}
 use Rattle.keeper_change.specs.PlainLaws.{plain_order}
 use Rattle.keeper_change.specs.Plain.{plain_answer, plain_change, plain_read, plain_made}
 use Rattle.keeper_change.specs.DoneLaws.{done_fresh, done_meets, done_same, done_shape}

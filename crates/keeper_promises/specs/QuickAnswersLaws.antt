@@ -18,7 +18,7 @@ use Rattle.change_read.specs.Reading.{ChangeOut}
 use Rattle.change_read.specs.declared.read.Change.{Change}
 use Rattle.change_rows.specs.Rows.{number_for, schema_after, table_for}
 use Rattle.change_asked.specs.Asked.{asked_cases}
-use Rattle.change_model.specs.ConditionsLaws.{among_condition, condition_among, result_rise}
+use Rattle.change_model.proofs.ConditionsLaws.{among_condition, condition_among, result_rise}
 use Rattle.change_model.specs.Model.{added_by, answer_by, changed_cases, result_cases}
 use Rattle.change_model.specs.ModelLaws.{answer_number}
 use Rattle.keeper.specs.InShape.{InShape}

@@ -28,7 +28,7 @@ use Rattle.rules.specs.Judge.{broken, broken_cases}
 use Rattle.rules.proofs.JudgeLaws.{judged_number}
 use Rattle.rules.specs.RulesLaws.{rising}
 use Rattle.tables_shape.proofs.ShapeLaws.{says_formed}
-use Rattle.change_model.specs.ConditionsLaws.{cases_rise}
+use Rattle.change_model.proofs.ConditionsLaws.{cases_rise}
 use Rattle.change_model.specs.Model.{change_cases, change_number}
 use Rattle.schema.specs.Answering.{first_answer}
 use Rattle.keeper.specs.InShape.{InShape}

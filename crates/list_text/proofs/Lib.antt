@@ -3,3 +3,4 @@ pub mod Lines
 pub mod Room
 pub mod Loaded
 pub mod Vectors
+pub mod ListingLaws

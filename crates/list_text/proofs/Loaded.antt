@@ -14,7 +14,7 @@ use Rattle.tables.specs.Filled.{empty_stores}
 use Rattle.graph.proofs.FreshLaws.{closure_rows_length}
 use Rattle.keeper.specs.Load.{load}
 use Rattle.list_text.specs.Listing.{kept_counts, listing, refused_line, loaded_text}
-use Rattle.list_text.specs.ListingLaws.{text_accepted, text_refused, classes_read, accepted_shaped, accepted_closure}
+use Rattle.list_text.proofs.ListingLaws.{text_accepted, text_refused, classes_read, accepted_shaped, accepted_closure}
 
 module _ (sheet : List ℕ) {x : Answer} {a c k : List ℕ} (e : result_of x (stores a c k) ≡ load sheet empty_stores) where
   number_is : (load sheet empty_stores).answer.number ≡ x.number

@@ -2,5 +2,4 @@
 pub mod Text
 pub mod Listing
 pub mod TextLaws
-pub mod ListingLaws
 pub mod CountsLaws

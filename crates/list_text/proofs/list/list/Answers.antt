@@ -1,7 +1,7 @@
 use Rattle.prelude.specs.WrittenLaws.{written_as}
 use Rattle.list_text.specs.Text.{ascii}
 use Rattle.list_text.specs.Listing.{too_long}
-use Rattle.list_text.specs.ListingLaws.{listed_long, listed_loaded}
+use Rattle.list_text.proofs.ListingLaws.{listed_long, listed_loaded}
 use Rattle.list_text.proofs.list.list.Goals as goal
 
 pub returns-then-sheet-gt-SHEET_LIMIT : goal.returns-then-sheet-gt-SHEET_LIMIT

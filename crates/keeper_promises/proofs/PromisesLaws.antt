@@ -5,7 +5,7 @@ use Rattle.sheet_read.proofs.StoppingLaws.{sheet_stops}
 use Rattle.rules.proofs.MeetsLaws.{kept_met}
 use Rattle.change_read.specs.StoppingLaws.{change_stops}
 use Rattle.keeper_promises.specs.Demand3.{Demand3}
-use Rattle.keeper_promises.specs.Demand3Laws.{agreement}
+use Rattle.keeper_promises.proofs.Demand3Laws.{agreement}
 use Rattle.keeper_promises.specs.Promises.{Demand1, Demand2}
 use Rattle.sheet_round_trip.specs.LongestLaws as longest
 use Rattle.keeper_promises.specs.AlikeLaws as alike

@@ -24,7 +24,7 @@ use Rattle.closure_change.proofs.KeptLaws.{after_past}
 use Rattle.change_model.specs.Model.{added_by, change_number, changed_cases}
 use Rattle.change_model.specs.ModelLaws.{number_asked, number_judged}
 use Rattle.change_model.specs.Sound.{Passed, Sound, row_number}
-use Rattle.change_model.specs.AloneLaws.{cases_agree}
+use Rattle.change_model.proofs.AloneLaws.{cases_agree}
 use Rattle.change_model.specs.QuickLaws.{closure_agrees, demand_agrees}
 use Rattle.change_model.specs.ThereLaws.{class_room}
 use Rattle.schema.specs.Refusals as refusal

@@ -20,7 +20,7 @@ use Rattle.rules.specs.Judge.{AllKept, broken_cases}
 use Rattle.change_model.specs.EditedLaws.{Deactivates, edited_fixed, edited_state}
 use Rattle.change_rows.specs.Rows.{table_for, is_addition, schema_after, number_for, table_after, edited_row}
 use Rattle.schema.specs.Row.{is_defunct}
-use Rattle.change_model.specs.ConditionsLaws.{needed_among}
+use Rattle.change_model.proofs.ConditionsLaws.{needed_among}
 use Rattle.change_model.specs.Conditions.{DeactivatedNeeded}
 use Rattle.prelude.specs.FirstLaws.{none_among}
 use Rattle.prelude.specs.SaysLaws.{says_false, says_eq, true_or_false}

@@ -21,10 +21,10 @@ use Rattle.sheet_read.specs.Reading.{ended, field_step, heading_open, is_heading
 use Rattle.sheet_read.specs.Reading.{rows_with, sheet_tag, take_field, take_heading, take_table_row, take_tagged}
 use Rattle.keeper.specs.LoadLaws.{empty_long}
 use Rattle.keeper_promises.specs.PaperSheet.{paper_sheet}
-use Rattle.keeper_promises.specs.PaperSheetLaws.{paper_sheet_lem}
+use Rattle.keeper_promises.proofs.PaperSheetLaws.{paper_sheet_lem}
 use Rattle.keeper_promises.specs.PaperTables.{hex_bytes, hex_digit, text}
 use Rattle.list_text.specs.Listing.{arc_text, class_line, class_lines, defined_counts, head_line, identifier_text, listed, listing}
-use Rattle.list_text.specs.ListingLaws.{accepted_text, classes_read}
+use Rattle.list_text.proofs.ListingLaws.{accepted_text, classes_read}
 use Rattle.list_text.specs.Text.{ascii, decimal, digits_within, text_line, word}
 use Rattle.rows_read.specs.Reading as fields
 use Rattle.sheet_read.specs.Reading as sheets

@@ -45,7 +45,7 @@ use Rattle.keeper.specs.Write.{write, written}
 use Rattle.keeper_promises.specs.PaperSheet.{PaperSheet, paper_sheet}
 use Rattle.keeper_promises.specs.PaperTables.{hex_bytes, hex_digit, text}
 use Rattle.keeper_promises.specs.Promises.{Acceptable, InOrder}
-use Rattle.keeper_promises.specs.PromisesLaws.{demand2}
+use Rattle.keeper_promises.proofs.PromisesLaws.{demand2}
 use Rattle.rows_read.specs.Reading as fields
 use Rattle.sheet_read.specs.Reading as sheets
 

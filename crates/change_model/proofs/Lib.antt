@@ -1,0 +1,4 @@
+-- Laws that belong to no one function.
+pub mod ConditionsLaws
+pub mod AloneLaws
+pub mod AgreeLaws
