@@ -1,8 +1,9 @@
 /*
  * Loads a sheet, makes one change to the schema, and saves it as a sheet.
  *
- *     rt staticlib keeper_c
- *     cc -Iinclude examples/change.c target/staticlib/libkeeper_c.a -o target/change
+ *     (cd crates/keeper_c && rt lib)
+ *     mkdir -p target
+ *     cc -Iinclude examples/change.c crates/keeper_c/out/libkeeper_c.a -o target/change
  *     target/change plain samples/forest.sheet target/renamed.sheet 43 0010 20 0002 0011 01 0008 776F6F6465644861
  *
  * The first word says which call makes the change, plain or quick: from stores just loaded both give the same. The

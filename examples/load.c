@@ -1,8 +1,9 @@
 /*
  * Loads a sheet, says what the keeper answers, and writes it back.
  *
- *     rt staticlib keeper_c
- *     cc -Iinclude examples/load.c target/staticlib/libkeeper_c.a -o target/load
+ *     (cd crates/keeper_c && rt lib)
+ *     mkdir -p target
+ *     cc -Iinclude examples/load.c crates/keeper_c/out/libkeeper_c.a -o target/load
  *     target/load samples/forest.sheet
  *
  * Exits with 0 if the sheet is accepted, 1 if it is refused, 2 if the file cannot be read or is longer than

@@ -3,8 +3,8 @@
  *
  * The keeper stands between a directory schema's tables and whoever wants to change them. It holds no state and no
  * memory of its own: every call is lent three byte strings, the stores, and judges or fills them. Link with
- * target/staticlib/libkeeper_c.a (made by `rt staticlib keeper_c`). The archive is for x86-64 Linux; it needs nothing
- * but the C library's memcpy and memset, and no heap is used.
+ * crates/keeper_c/out/libkeeper_c.a (made by `rt lib` in crates/keeper_c). The archive is for x86-64 Linux; it needs
+ * nothing but the C library's memcpy, memmove and memset, and no heap is used.
  * What each call gives and which bytes it writes is proved for every input; docs/PROOFS.md says where.
  * examples/load.c and examples/change.c are small programs that use it.
  *

@@ -46,9 +46,9 @@ pub fn scripts(top: &Path, scratch: &Scratch) -> Result<Vec<Script>, Box<dyn Err
     Ok(scripts)
 }
 
-/// The files that a program's text names, in their order: `b"places.script"`.
+/// The files that a program's text opens, in their order: `(&rt, "places.script")`.
 fn opened(text: &str) -> impl Iterator<Item = String> {
-    let behind = text.split("(b\"").skip(1);
+    let behind = text.split("(&rt, \"").skip(1);
     behind.filter_map(|rest| Some(format!("data/{}", rest.split_once('"')?.0)))
 }
 

@@ -80,7 +80,9 @@ fn target(folder: &str, text: &str) -> Option<PathBuf> {
     ];
     let is_path = folders.iter().any(|folder| path.starts_with(folder));
     let named = !path.contains("NAME") && !text[end..].starts_with('*');
-    (is_path && named).then(|| top().join(path))
+    // What `rt` makes is not there before it has run.
+    let stored = !path.contains("/out/");
+    (is_path && named && stored).then(|| top().join(path))
 }
 
 #[test]
@@ -225,7 +227,11 @@ fn noted(text: &str) -> Option<String> {
     if name.is_empty() || !folder.is_dir() {
         return None;
     }
-    let paths = [format!("specs/{file}.antt"), format!("src/{file}.rt")];
+    let paths = [
+        format!("specs/{file}.antt"),
+        format!("proofs/{file}.antt"),
+        format!("src/{file}.rt"),
+    ];
     let mut files = paths.iter().map(|path| folder.join(path));
     let file = match file {
         "" => Some(texts(&folder)),
@@ -270,14 +276,6 @@ fn refusals() -> Vec<(u64, String)> {
     constants.collect()
 }
 
-/// NAME_TAKEN as nameTaken.
-fn camel(name: &str) -> String {
-    let mut words = name.split('_');
-    let first = words.next().unwrap_or_default().to_lowercase();
-    let rest = words.map(|word| word[..1].to_owned() + &word[1..].to_lowercase());
-    first + &rest.collect::<String>()
-}
-
 #[test]
 fn every_number_has_its_section_under_its_name() {
     let page = text("docs/NUMBERS.md");
@@ -313,7 +311,7 @@ fn definitions_and_header_have_the_same_names() {
     let definitions = text("crates/schema/specs/Refusals.antt");
     let header = text("include/keeper.h");
     for (number, name) in refusals() {
-        let definition = format!("\n{} = {number}\n", camel(&name));
+        let definition = format!("\n{} = {number}\n", name.to_lowercase());
         assert!(definitions.contains(&definition), "{name}");
         let define = format!("\n#define KEEPER_{name} {number}");
         assert!(header.contains(&define), "{name}");
@@ -371,15 +369,16 @@ fn the_wrapper_declares_what_the_header_does() {
 }
 
 /// The files of definitions that a file brings in: its lines
-/// "use Rattle·CRATE.specs.FILE..", without those for types that code declares.
+/// "use Rattle.CRATE.specs.FILE..", without those of the library and those for
+/// types that code declares.
 fn brought_in(path: &str) -> Vec<String> {
     let code = text(path);
     let uses = code.lines().filter_map(|line| {
-        let (name, rest) = line.strip_prefix("use Rattle·")?.split_once(".specs.")?;
-        let name = name.trim_end_matches("·specs");
+        let (name, rest) = line.strip_prefix("use Rattle.")?.split_once(".specs.")?;
+        let is_ours = top().join("crates").join(name).is_dir();
         let end = rest.find(['.', ' ']).unwrap_or(rest.len());
         let file = &rest[..end];
-        (file != "declared").then(|| format!("crates/{name}/specs/{file}.antt"))
+        (is_ours && file != "declared").then(|| format!("crates/{name}/specs/{file}.antt"))
     });
     uses.collect()
 }

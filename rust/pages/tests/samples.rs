@@ -2,11 +2,34 @@
 //! tests of `tool`.
 
 use reference::{LISTED_LIMIT, Stores, listing, reading};
+use std::collections::BTreeMap;
 use std::fs;
+use std::path::PathBuf;
 
 fn sample(name: &str) -> Vec<u8> {
     let samples = concat!(env!("CARGO_MANIFEST_DIR"), "/../../samples/");
     fs::read(samples.to_owned() + name).unwrap_or_default()
+}
+
+/// The gate takes no links, so that the samples stand twice: here and where the
+/// gate lists them.
+#[test]
+fn the_samples_are_what_the_gate_lists() {
+    let top = concat!(env!("CARGO_MANIFEST_DIR"), "/../..");
+    let files = |folder: &str| {
+        let entries = fs::read_dir(format!("{top}/{folder}"))
+            .into_iter()
+            .flatten();
+        let paths = entries.filter_map(|entry| Some(entry.ok()?.path()));
+        let file = |path: PathBuf| Some((path.file_name()?.to_owned(), fs::read(path).ok()?));
+        paths.filter_map(file).collect::<BTreeMap<_, _>>()
+    };
+    let [samples, listed] = ["samples", "crates/list_samples/data"].map(files);
+    assert!(!samples.is_empty());
+    assert!(samples.keys().eq(listed.keys()));
+    for (name, bytes) in samples {
+        assert!(listed[&name] == bytes, "{}", name.display());
+    }
 }
 
 #[test]
