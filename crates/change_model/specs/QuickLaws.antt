@@ -23,8 +23,8 @@ use Rattle.prelude.specs.SaysLaws.{says_true}
 use Rattle.sets.specs.Sets.{subset, with_member}
 use Rattle.graph.specs.Graph.{closure_row, demanded_set, inherits, mandatory_differs}
 use Rattle.graph.proofs.FreshLaws.{demanded_part}
-use Rattle.graph.specs.ClosureLaws.{closure_untouched, rule30_class, rule30_joined, rule30_target}
-use Rattle.graph.specs.ClosureLaws.{rule30_untouched}
+use Rattle.graph.proofs.ClosureLaws.{closure_untouched, rule30_class, rule30_joined, rule30_target}
+use Rattle.graph.proofs.ClosureLaws.{rule30_untouched}
 use Rattle.closure_change.specs.After.{closure_after, demand_changes, entry_demands, entry_joined}
 use Rattle.closure_change.proofs.FreshLaws.{auxiliary_fresh, class_fresh, optional_fresh, refreshed_fresh}
 use Rattle.change_model.specs.Sound.{Passed, Sound}

@@ -31,7 +31,7 @@ use Rattle.change_model.specs.ModelLaws.{asked_zero, number_asked, number_judged
 use Rattle.change_asked.specs.Asked.{addition_asked, base_touched, entry_conflict, first_asked, state_wrong, still_needed, target_asked}
 use Rattle.change_asked.specs.AskedLaws.{asked_absent, asked_addition, asked_target, asked_there}
 use Rattle.change_asked.specs.Needed.{class_needs, link_needs, needed}
-use Rattle.graph.specs.SameLaws.{differs_same}
+use Rattle.graph.proofs.SameLaws.{differs_same}
 use Rattle.change_rows.specs.Rows.{edited_row, is_addition, number_for, schema_after, table_after, table_for}
 use Rattle.rules_attribute.specs.Links.{is_back_link, is_forward_of}
 use Rattle.rules.specs.Judge.{judged, broken, broken_cases}

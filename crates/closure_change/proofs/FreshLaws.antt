@@ -26,7 +26,7 @@ use Rattle.graph.specs.GraphLaws.{says_collects, says_reaches}
 use Rattle.graph.proofs.FreshLaws.{reached_part}
 use Rattle.graph.specs.ThreeLaws.{three, three_cong, union_three}
 use Rattle.graph.specs.Changes.{AuxiliaryMore, OptionalMore}
-use Rattle.graph.specs.ClosureLaws.{closure_before, closure_joined, closure_kept, closure_listed, closure_new}
+use Rattle.graph.proofs.ClosureLaws.{closure_before, closure_joined, closure_kept, closure_listed, closure_new}
 use Rattle.closure_change.specs.Kept.{holds, joined_into, named_sets, new_row, option_row, own_row, refreshed_at, row_where, with_new}
 use Rattle.closure_change.proofs.KeptLaws.{each_at, fresh_wide, joined_wide, with_new_other, with_new_same}
 use Rattle.closure_change.specs.JoinedLaws.{member_first, member_second, member_third, option_joined, three_split}

@@ -14,7 +14,7 @@ use Rattle.schema.specs.Store.{Table, closure_at}
 use Rattle.schema.specs.declared.number.TableId.TheVariants.{Attributes, Classes}
 use Rattle.tables.specs.Same.{Same}
 use Rattle.graph.specs.Graph.{demanded_set}
-use Rattle.graph.specs.SameLaws.{closure_row_same, demanded_same, names_same}
+use Rattle.graph.proofs.SameLaws.{closure_row_same, demanded_same, names_same}
 use Rattle.change_read.specs.declared.read.Change.{Change}
 use Rattle.change_read.specs.declared.read.Change.TheVariants.{Add, SetRange, Rename, Deactivate, Reactivate, AddEntry, RemoveEntry}
 use Rattle.change_read.specs.Carried.{target_of}

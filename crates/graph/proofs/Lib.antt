@@ -8,3 +8,6 @@ pub mod Chain
 pub mod Warshall
 pub mod Firsts
 pub mod FreshLaws
+pub mod ClosureLaws
+pub mod UnreachedLaws
+pub mod SameLaws

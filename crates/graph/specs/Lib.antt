@@ -13,8 +13,5 @@ pub mod Depth
 pub mod DepthLaws
 pub mod Changes
 pub mod ThreeLaws
-pub mod ClosureLaws
-pub mod UnreachedLaws
-pub mod SameLaws
 pub mod FrontLaws
 pub mod PiecesLaws

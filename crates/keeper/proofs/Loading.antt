@@ -15,7 +15,7 @@ use Rattle.schema.specs.Store.{Stores, stores, Result, LongEnough, result_of, an
 use Rattle.schema.specs.StoreLaws.{long_enough}
 use Rattle.tables.specs.Shaped.{Shaped}
 use Rattle.graph.specs.Graph.{Readable, closure_rows}
-use Rattle.graph.specs.SameLaws.{closure_rows_same}
+use Rattle.graph.proofs.SameLaws.{closure_rows_same}
 use Rattle.sheet_read.specs.declared.read.SheetRead.{SheetRead}
 use Rattle.sheet_read.specs.declared.read.SheetRead.TheVariants.{Read}
 use Rattle.sheet_read.specs.Held.{Lent, Left}

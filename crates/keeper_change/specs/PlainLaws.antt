@@ -29,7 +29,7 @@ use Rattle.keeper.specs.InShape.{InShape}
 use Rattle.change_model.specs.Model.{added_by, answer_to, result_cases}
 use Rattle.change_asked.specs.Asked.{first_asked}
 use Rattle.graph.specs.Graph.{demands_differ, is_fresh, mandatory_differs}
-use Rattle.graph.specs.SameLaws.{differs_same}
+use Rattle.graph.proofs.SameLaws.{differs_same}
 use Rattle.graph.proofs.FreshLaws.{differs_kept}
 use Rattle.keeper_change.specs.Judged.{judged_whole}
 use Rattle.keeper_change.specs.MadeLaws.{made_same, back_in, made_applicable, made_in, row_table, row_within}

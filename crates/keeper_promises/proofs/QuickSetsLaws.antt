@@ -17,7 +17,7 @@ use Rattle.schema.specs.declared.number.TableId.TheVariants.{Attributes, Classes
 use Rattle.tables.specs.Same.{SameRows}
 use Rattle.tables_shape.proofs.ShapeLaws.{says_formed}
 use Rattle.graph.specs.Graph.{closure_row}
-use Rattle.graph.specs.SameLaws.{closure_row_same}
+use Rattle.graph.proofs.SameLaws.{closure_row_same}
 use Rattle.closure_change.specs.After.{closure_after, entry_joined}
 use Rattle.closure_change.specs.Kept.{each_holding, holds, joined_into, option_row, refreshed_at, row_where, with_new}
 use Rattle.closure_change.proofs.KeptLaws.{each_at, fresh_wide, joined_wide, kept_length, with_new_other, with_new_same}

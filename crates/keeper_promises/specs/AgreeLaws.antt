@@ -13,7 +13,7 @@ use Rattle.schema.specs.StoreLaws.{table_row_length}
 use Rattle.schema.specs.declared.answer.Answer.{Answer}
 use Rattle.schema.specs.declared.number.TableId.{TableId}
 use Rattle.schema.specs.declared.number.TableId.TheVariants.{Attributes, Classes}
-use Rattle.graph.specs.SameLaws.{closure_rows_same}
+use Rattle.graph.proofs.SameLaws.{closure_rows_same}
 use Rattle.rules.proofs.MeetsLaws.{meets}
 use Rattle.rules.specs.declared.row.Added.TheVariants.{Nothing}
 use Rattle.change_read.specs.ChangeLaws.{Reads, change_length}

@@ -18,7 +18,7 @@ use Rattle.tables.specs.SameLaws.{store_same}
 use Rattle.graph.specs.Depth.{depth_answer, depth_of}
 use Rattle.graph.specs.FrontLaws.{fresh_front}
 use Rattle.graph.specs.Graph.{is_fresh}
-use Rattle.graph.specs.SameLaws.{depth_same, fresh_same}
+use Rattle.graph.proofs.SameLaws.{depth_same, fresh_same}
 use Rattle.rules.proofs.SameLaws.{judged_same}
 use Rattle.rules.specs.declared.row.Added.TheVariants.{Nothing}
 use Rattle.tables_shape.proofs.FrontLaws.{formed_front}

@@ -17,7 +17,7 @@ use Rattle.schema.specs.Store.{LongEnough, Result, Schema, Stores, any_short, cl
 use Rattle.schema.specs.StoreLaws.{long_enough, says_short}
 use Rattle.schema.specs.declared.number.TableId.TheVariants.{Classes}
 use Rattle.tables.specs.Same.{SameRows}
-use Rattle.graph.specs.SameLaws.{demanded_same}
+use Rattle.graph.proofs.SameLaws.{demanded_same}
 use Rattle.rules.specs.Rules.{row_cases, schema_rules}
 use Rattle.rules.proofs.SameLaws.{row_cases_same}
 use Rattle.tables_shape.specs.Shape.{stores_formed}

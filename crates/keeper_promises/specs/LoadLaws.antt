@@ -18,7 +18,7 @@ use Rattle.tables.specs.Filled.{table_from}
 use Rattle.tables.specs.SameLaws.{same_symmetric}
 use Rattle.graph.specs.Graph.{closure_rows}
 use Rattle.graph.proofs.FreshLaws.{bytes_fresh, closure_rows_length, says_fresh}
-use Rattle.graph.specs.SameLaws.{fresh_same}
+use Rattle.graph.proofs.SameLaws.{fresh_same}
 use Rattle.sheet_read.specs.declared.read.SheetRead.{SheetRead}
 use Rattle.sheet_read.specs.declared.read.SheetRead.TheVariants.{Bad, Full, Read}
 use Rattle.sheet_read.specs.Held.{Lent}

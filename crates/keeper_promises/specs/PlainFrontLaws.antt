@@ -17,7 +17,7 @@ use Rattle.std.proofs.Common.{arith, ap, sym, ◌∙◌, subst, subst₂}
 use Rattle.change_rows.specs.BytesLaws.{after_bytes}
 use Rattle.change_rows.specs.FrontLaws.{after_past, after_front}
 use Rattle.keeper_promises.specs.PlainLaws.{zero_order, plain_kept, plain_zero, number_is, left_made, plain_ordered}
-use Rattle.graph.specs.SameLaws.{closure_rows_same}
+use Rattle.graph.proofs.SameLaws.{closure_rows_same}
 use Rattle.graph.proofs.FreshLaws.{closure_rows_length}
 use Rattle.keeper_change.specs.MadeLaws.{made_applicable, made_length, made_shape}
 use Rattle.keeper.specs.Write.{sheet_of, write}

@@ -26,7 +26,7 @@ use Rattle.tables.specs.Same.{Same, SameRows}
 use Rattle.graph.proofs.FreshLaws.{closure_row_length}
 use Rattle.graph.specs.FrontLaws.{kept_front}
 use Rattle.graph.specs.Graph.{closure_row, inherits}
-use Rattle.graph.specs.SameLaws.{closure_row_same}
+use Rattle.graph.proofs.SameLaws.{closure_row_same}
 use Rattle.tables_shape.proofs.ShapeLaws.{says_formed}
 use Rattle.change_read.specs.Carried.{entry_of, list_of, target_of}
 use Rattle.change_read.specs.Reading.{read_change}

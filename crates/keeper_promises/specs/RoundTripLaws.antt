@@ -13,7 +13,7 @@ use Rattle.schema.specs.Store.{LongEnough, Result, Stores, result_of, schema_of,
 use Rattle.tables.specs.Same.{SameRows}
 use Rattle.graph.proofs.FreshLaws.{fresh_bytes}
 use Rattle.graph.specs.Graph.{closure_rows}
-use Rattle.graph.specs.SameLaws.{closure_rows_same}
+use Rattle.graph.proofs.SameLaws.{closure_rows_same}
 use Rattle.rules.specs.declared.row.Added.TheVariants.{Nothing}
 use Rattle.rules.specs.Meets.{Meets}
 use Rattle.rules.proofs.MeetsLaws.{meets}

@@ -21,8 +21,8 @@ use Rattle.tables.specs.Same.{Same, SameRows}
 use Rattle.tables.specs.SameLaws.{same_reflexive, same_transitive}
 use Rattle.graph.proofs.FreshLaws.{kept_demand}
 use Rattle.graph.specs.Graph.{closure_row, demanded_set, demands}
-use Rattle.graph.specs.SameLaws.{closure_row_same, demands_same}
-use Rattle.graph.specs.UnreachedLaws.{closure_unreached}
+use Rattle.graph.proofs.SameLaws.{closure_row_same, demands_same}
+use Rattle.graph.proofs.UnreachedLaws.{closure_unreached}
 use Rattle.change_read.specs.Reading.{ChangeOut, read_change}
 use Rattle.change_read.specs.declared.read.Change.{Change}
 use Rattle.change_read.specs.declared.read.ChangeRead.{ChangeRead}
