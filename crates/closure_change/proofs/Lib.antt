@@ -4,3 +4,4 @@ pub mod Joining
 pub mod Carried
 pub mod KeptLaws
 pub mod FreshLaws
+pub mod SameLaws

@@ -2,4 +2,3 @@
 pub mod Kept
 pub mod After
 pub mod JoinedLaws
-pub mod SameLaws

@@ -41,7 +41,7 @@ use Rattle.change_model.specs.Sound.{row_number}
 use Rattle.change_model.specs.Model.{added_by, answer_by, changed_cases}
 use Rattle.change_model.specs.ThereLaws.{class_room, entry_there}
 use Rattle.closure_change.specs.After.{Updatable, closure_after, demand_before, demand_changes}
-use Rattle.closure_change.specs.SameLaws.{after_same, demand_same}
+use Rattle.closure_change.proofs.SameLaws.{after_same, demand_same}
 use Rattle.schema.specs.Answering.{first_answer}
 use Rattle.keeper.specs.InShape.{InShape, shape_answers}
 use Rattle.schema.specs.AnsweringLaws.{passed_last, refused_any}
