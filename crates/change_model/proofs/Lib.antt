@@ -2,3 +2,4 @@
 pub mod ConditionsLaws
 pub mod AloneLaws
 pub mod AgreeLaws
+pub mod SameLaws

@@ -2,7 +2,6 @@
 pub mod Model
 pub mod ModelLaws
 pub mod Conditions
-pub mod SameLaws
 pub mod EditedLaws
 pub mod Sound
 pub mod ThereLaws

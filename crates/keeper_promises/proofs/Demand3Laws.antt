@@ -11,7 +11,7 @@ use Rattle.tables.specs.Same.{SameRows}
 use Rattle.sheet_read.specs.Reading.{read_sheet}
 use Rattle.sheet_read.specs.ReadingLaws.{sheet_sound}
 use Rattle.change_read.specs.Reading.{read_change}
-use Rattle.change_model.specs.SameLaws.{answer_same, rows_same}
+use Rattle.change_model.proofs.SameLaws.{answer_same, rows_same}
 use Rattle.keeper.specs.Load.{filled, load}
 use Rattle.keeper_change.specs.Quick.{quick_change}
 use Rattle.keeper_promises.specs.AgreeLaws.{quick_plain}

@@ -35,7 +35,7 @@ use Rattle.change_asked.specs.Asked.{asked_cases, first_asked}
 use Rattle.change_asked.specs.AskedLaws.{asked_there}
 use Rattle.change_model.specs.Model.{added_by, answer_by, changed_cases}
 use Rattle.change_model.specs.ThereLaws.{entry_class}
-use Rattle.change_model.specs.SameLaws.{after_same, asked_same, row_number_same}
+use Rattle.change_model.proofs.SameLaws.{after_same, asked_same, row_number_same}
 use Rattle.keeper.specs.InShape.{InShape}
 use Rattle.keeper_change.specs.Quick.{quick_change, quick_differs, quick_number, quick_to}
 use Rattle.keeper_promises.specs.AfterLaws.{after_changed}

@@ -1,6 +1,6 @@
 -- A plain change looks at the first bytes of the stores alone, touches no other, and leaves bytes. With that, a schema that was changed, written and
 -- loaded again is the same schema.
-use Rattle.change_model.specs.SameLaws.{answer_same}
+use Rattle.change_model.proofs.SameLaws.{answer_same}
 use Rattle.rules.specs.declared.row.Added.TheVariants.{Nothing}
 use Rattle.rules.proofs.SameLaws.{judged_same}
 use Rattle.std.proofs.Math.Dec.{eqb}

@@ -37,7 +37,7 @@ use Rattle.change_read.specs.declared.read.Change.TheVariants.{Add, AddEntry, De
 use Rattle.change_read.specs.declared.read.ChangeRead.TheVariants.{Read}
 use Rattle.change_rows.specs.Rows.{number_for, schema_after}
 use Rattle.change_asked.specs.Asked.{first_asked}
-use Rattle.change_model.specs.SameLaws.{after_same}
+use Rattle.change_model.proofs.SameLaws.{after_same}
 use Rattle.change_model.specs.ThereLaws.{entry_class}
 use Rattle.closure_change.specs.After.{closure_after, entry_joined}
 use Rattle.closure_change.specs.Kept.{each_holding, holds, joined_into, named_sets, new_row, own_row, refreshed_at, row_where, with_new}
