@@ -46,7 +46,7 @@ extern "C" {
 
 /*
  * No sheet that keeper_write writes or keeper_load accepts is longer: 4 + 256 * 224 + 128 * 2761, the heading and the
- * longest rows of both tables. This is proved (write-longest and load-longest in
+ * longest rows of both tables. This is proved (write_longest and load_longest in
  * crates/keeper_promises/specs/Promises.antt). A write whose output is too short says so (KEEPER_SHORT_OUTPUT).
  */
 #define KEEPER_LONGEST_SHEET 410756

@@ -7,7 +7,7 @@ mod hash;
 mod play;
 mod step;
 
-ghost use Rattle.std.specs.Prelude.{◌≡◌, ◌≤◌, length, IfOk};
+ghost use Rattle.std.specs.Prelude.{◌≡◌, ◌≤◌, length};
 ghost use Rattle.schema.specs.Store.{stores};
 ghost use Rattle.replay.specs.Steps.{longest, StepWithin};
 ghost use Rattle.replay.specs.Playing.{Fits, AtMost, first_lengths, started, lengths_after, play_step};
@@ -154,7 +154,7 @@ fn say(
     println!(rt)
 }
 
-// Plays a step and prints its line; gives how much of each store is lent from then on.
+// Plays a step and prints its line; gives how much of each store is lent from then on, and whether the line was printed.
 fn play_step(
     rt: &impl Print,
     step: Step,
@@ -164,24 +164,24 @@ fn play_step(
     closure: &mut [u8],
     output: &mut [u8],
     lengths: Lengths,
-) -> io::Result<Lengths>
+) -> (Lengths, io::Result<()>)
     requires at_most { AtMost longest lengths × StepWithin script.now step }
     requires longest_in_bounds { (longest ≤ length attributes.old) × (longest ≤ length classes.old) × (longest ≤ length closure.old)
         × (longest ≤ length output.old) }
-    ensures lengths { IfOk result (λ after. after ≡ lengths_after step lengths) }
-    ensures left { stores attributes.new classes.new closure.new
+    ensures { (result.0 ≡ lengths_after step lengths)
+        × (stores attributes.new classes.new closure.new
         ≡ (play_step step script.now lengths (stores attributes.old classes.old closure.old)
-        output.old).left }
-    ensures output { output.new
+        output.old).left)
+        × (output.new
         ≡ (play_step step script.now lengths (stores attributes.old classes.old closure.old)
-        output.old).output }
+        output.old).output) }
 {
     let answer = take_step(step, script, attributes, classes, closure, output, lengths);
     let after = lengths_after(step, lengths);
-    say(
+    let said = say(
         rt, script, step, answer, attributes, classes, closure, output, after,
-    )?;
-    Ok(after)
+    );
+    (after, said)
 }
 
 // Plays all steps, each on what the one before has left.
@@ -203,9 +203,11 @@ fn play_all(
         let Turn::On { step, next } = turn else {
             return Ok(());
         };
-        lengths = play_step(
+        let (after, said) = play_step(
             rt, step, script, attributes, classes, closure, output, lengths,
-        )?;
+        );
+        said?;
+        lengths = after;
         at = next;
     }
     Ok(())

@@ -22,8 +22,8 @@ pub const LENGTHS: [usize; c::STORES] = [48_386, 40_322, 10_240];
 /// The closure store's number among them.
 pub const CLOSURE: usize = 2;
 /// No sheet that a write writes or a load accepts is longer: 410,756 bytes, the
-/// heading and the longest rows of both tables. This is proved (`write-longest`
-/// and `load-longest` in crates/keeper_promises/specs/Promises.antt). A write
+/// heading and the longest rows of both tables. This is proved (`write_longest`
+/// and `load_longest` in crates/keeper_promises/specs/Promises.antt). A write
 /// whose output is too short says so (number 31).
 pub const LONGEST_SHEET: usize = 4 + 256 * 224 + 128 * 2761;
 /// So many bytes of stack are enough for every call. This is measured, not

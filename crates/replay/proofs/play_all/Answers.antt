@@ -18,8 +18,8 @@ loop-at-init g c = (
   record { attributes = refl; classes = refl; closure = refl; output = refl },
 )
 
-pub play_step-requires : goal.play_step-requires
-play_step-requires g c =
+pub play_step-said-requires : goal.play_step-said-requires
+play_step-said-requires g c =
     let room = c.loop-at.invariant.2 in
     record {
       at_most = (c.loop-at.invariant.1, (subst (λ (x : Turn). Within c.args.script.now c.loop-at.at x) c.in-On.is c.read_turn-turn.ensures.1).2);
@@ -37,11 +37,11 @@ loop-at-preserved g c =
     let script = c.args.script.now in
     let within : Within script c.loop-at.at c.read_turn-turn.result = c.read_turn-turn.ensures.1 in
     let on = subst (λ (x : Turn). Within script c.loop-at.at x) c.in-On.is within in
-    let kept = c.play_step.auto in
+    let kept = c.play_step-said.auto in
     let room = c.loop-at.invariant.2 in
     let same = c.loop-at.invariant.3 in (
       on.1,
-      subst (AtMost longest) (sym c.in_ok-lengths.ensures.lengths) (after_at_most script c.in-On.step c.loop-at.lengths on.2 c.loop-at.invariant.1),
+      subst (AtMost longest) (sym c.play_step-said.ensures.0) (after_at_most script c.in-On.step c.loop-at.lengths on.2 c.loop-at.invariant.1),
       record {
         attributes = omega (arith, kept.attributes, room.attributes);
         classes = omega (arith, kept.classes, room.classes);

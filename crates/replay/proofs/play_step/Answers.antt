@@ -20,8 +20,8 @@ take_step-answer-requires g c =
       longest_in_bounds = (long.0, long.1, long.2, long.3);
     }
 
-pub say-requires : goal.say-requires
-say-requires g c =
+pub say-said-requires : goal.say-said-requires
+say-said-requires g c =
     let at_most = c.requires.at_most in
     let long = c.requires.longest_in_bounds in
     let kept = c.take_step-answer.auto in
@@ -36,14 +36,6 @@ say-requires g c =
       step_within = (at_most.1, omega (arith, kept.output, long.3));
     }
 
-pub returns-in_err-say-clause-left : goal.returns-in_err-say-clause-left
-returns-in_err-say-clause-left g c = ap (λ (p : Played). p.left) c.take_step-answer.ensures
-
-pub returns-in_err-say-clause-output : goal.returns-in_err-say-clause-output
-returns-in_err-say-clause-output g c = ap (λ (p : Played). p.output) c.take_step-answer.ensures
-
-pub returns-clause-left : goal.returns-clause-left
-returns-clause-left g c = ap (λ (p : Played). p.left) c.take_step-answer.ensures
-
-pub returns-clause-output : goal.returns-clause-output
-returns-clause-output g c = ap (λ (p : Played). p.output) c.take_step-answer.ensures
+pub returns : goal.returns
+returns g c =
+    (c.lengths_after-after.ensures, ap (λ (p : Played). p.left) c.take_step-answer.ensures, ap (λ (p : Played). p.output) c.take_step-answer.ensures)
