@@ -5,7 +5,7 @@ ghost use Rattle.schema.specs.Numbers.{class_limit};
 ghost use Rattle.schema.specs.Layout.{class_width, closure_width, closure_length};
 ghost use Rattle.schema.specs.Store.{closure_at, table_in};
 ghost use Rattle.schema.specs.declared.number.TableId.TheVariants.{Classes};
-ghost use Rattle.graph.specs.Graph.{Readable, inherits as inheritsIn};
+ghost use Rattle.graph.specs.Graph.{Readable, inherits as inherits_in};
 ghost use Rattle.closure_change.specs.Kept.{named_sets, own_row, with_new};
 
 use prelude::part::{clear, copy_padded, put_bytes};
@@ -18,7 +18,7 @@ use tables::named::{ClassList, is_listed, is_superclass};
 // Whether class n names class y as its superclass or an auxiliary.
 fn inherits(classes: &[u8], n: ClassNumber, y: ClassNumber) -> bool
     requires { Readable classes.now × (n.0 < class_limit) × (y.0 < class_limit) }
-    ensures { result ≡ inheritsIn (table_in Classes classes.now) n.0 y.0 }
+    ensures { result ≡ inherits_in (table_in Classes classes.now) n.0 y.0 }
 {
     let row = class_row(classes, n);
     if is_superclass(row, y) {
@@ -33,7 +33,7 @@ fn join_named(classes: &[u8], closure: &[u8], n: ClassNumber, y: ClassNumber, ou
     requires n_lt_class_limit { (n.0 < class_limit) × (y.0 < class_limit) × (length out.old ≡ closure_width) }
     ensures { out.new
         ≡ set_of closure_width (λ b. member out.old b
-        || (inheritsIn (table_in Classes classes.now) n.0 y.0 && member (closure_at closure.now y.0) b)) }
+        || (inherits_in (table_in Classes classes.now) n.0 y.0 && member (closure_at closure.now y.0) b)) }
 {
     if inherits(classes, n, y) {
         sets::join(out, closure_row(closure, y));

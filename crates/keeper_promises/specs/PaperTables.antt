@@ -119,7 +119,7 @@ SignedAtMost l u = ((0x80000000 ≤ l) × (u < 0x80000000)) ⊎ ((l ≤ u) × ((
 abbrev pub field : ℕ → List ℕ → List ℕ
 field tag value = tag ∷ 0 ∷ length value ∷ value
 
--- the name `ab`, the identifier 2.5, a GUID, system_flags 0x01020304, defunct
+-- the name `ab`, the identifier 2.5, a GUID, systemFlags 0x01020304, defunct
 unfoldable pub common_fields : List ℕ
 common_fields =
     field 0x01 (text "ab")
@@ -215,7 +215,7 @@ pub record InheritanceRules (added : Added) (m : Schema) (k : ℕ) : Type 0 wher
   pub structural : (breaks added m 40 Classes k ≡ true) ↔ UnderClass m k (λ own above. (own ≡ 1) × (above ≡ 3))
   pub no_attribute : map (λ n. breaks added m n Attributes k) (21 ∷ 38 ∷ 39 ∷ 40 ∷ []) ≡ false ∷ false ∷ false ∷ false ∷ []
 
--- "Rule 25 shall hold only where range_lower is greater than range_upper": of any attribute k, active or defunct, and ends of 32 bits. No class breaks it
+-- "Rule 25 shall hold only where rangeLower is greater than rangeUpper": of any attribute k, active or defunct, and ends of 32 bits. No class breaks it
 pub record RangeRule (added : Added) (m : Schema) (k : ℕ) : Type 0 where
   pub ends : (l u : ℕ) → l < 0x100000000 → u < 0x100000000 → range_lower (m.attributes.row k) ≡ Given l → range_upper (m.attributes.row k) ≡ Given u
       → (breaks added m 25 Attributes k ≡ false) ↔ SignedAtMost l u
@@ -237,7 +237,7 @@ pub record DefaultTable : Type 0 where
   pub kept : stored_class 7 127 (field 0x08 (hex "2A864886F7140101010B")) ≡ hex "2A864886F7140101010B"
   pub dropped : (stored_class 7 126 (field 0x08 (hex "56060102050B1D")) ∷ stored_class 7 128 (field 0x08 (hex "56060102050B1D")) ∷ []) ≡ [] ∷ [] ∷ []
 
--- which field fills which cell: "01 name, 02 arcs (4 bytes each), 03 GUID, 04 system_flags; 05 defunct"
+-- which field fills which cell: "01 name, 02 arcs (4 bytes each), 03 GUID, 04 systemFlags; 05 defunct"
 pub record CommonCells (row : List ℕ) : Type 0 where
   pub name : name_of row ≡ text "ab"
   pub arcs : (arc_count row ∷ arc_of row 0 ∷ arc_of row 1 ∷ []) ≡ 2 ∷ 2 ∷ 5 ∷ []
@@ -293,7 +293,7 @@ pub record PaperTables : Type 0 where
   pub defaults : DefaultTable
   pub range_rule : (added : Added) (m : Schema) (k : ℕ) → RangeRule added m k
   pub link_rule : (added : Added) (m : Schema) (k : ℕ) → LinkRule added m k
-  -- "A row is a *base row* if system_flags has 0x10"
+  -- "A row is a *base row* if systemFlags has 0x10"
   pub base_bit : (row : List ℕ) (high bit low : ℕ) → low < 0x10 → bit < 2 → system_flags row ≡ high * 0x20 + bit * 0x10 + low
       → (is_base row ≡ true) ↔ (bit ≡ 1)
   pub attribute_read_lem : (row_read Attributes attribute_fields).answer ≡ Read

@@ -171,7 +171,7 @@ pub record Pieces : Type 0 where
   -- "a present even linkID needs 2.5.5.1, 2.5.5.7 or 2.5.5.14, an odd one 2.5.5.1"
   pub binary : ((judged_rows (linked_with_binary 0 2 ∷ linked 1 3 ∷ []) []).number ≡ 0)
       × (judged_rows (linked 0 2 ∷ linked_with_binary 1 3 ∷ []) [] ≡ broken_by 45 Attributes 1)
-  -- "Rule 25 shall hold only where range_lower is greater than range_upper; both negative and equal passes too."
+  -- "Rule 25 shall hold only where rangeLower is greater than rangeUpper; both negative and equal passes too."
   pub equal : ((by_range (Given 0xFFFFFFFD) (Given 0xFFFFFFFD)).number ≡ 0) × ((by_range (Given 0x80000000) (Given 0x80000000)).number ≡ 0)
   pub crossed : ((by_range (Given 6) (Given 5)).number ≡ 25) × ((by_range (Given 0) (Given 0xFFFFFFFF)).number ≡ 25)
   -- the rule before the row: class 2 is structural under auxiliary, class 3 abstract under structural: 38, class 3; a later row's 29 before an earlier one's 45

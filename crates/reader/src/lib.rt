@@ -1,7 +1,6 @@
 // A reader. Document 01: "One reader carries the lent sheet and its place."
-// It holds the lent bytes and a place in them. Its functions are thin: each takes it apart and calls a covered function on slice and number. The borrow
-// checker covers no function over such a struct, so each of these is proved by a walk by hand. `step_at` alone makes a reader: it has plain parameters and
-// serves every other caller. `ends_at` and `field_within` are parts of what it gives, and need no walk.
+// It holds the lent bytes and a place in them. Its functions are thin: each takes it apart and calls a function on slice and number. `step_at` alone
+// makes a reader: it has plain parameters and serves every other caller. `ends_at` and `field_within` are parts of what it gives.
 #![tactic(auto)]
 
 ghost use Rattle.std.specs.Prelude.{◌≡◌, ◌≤◌, eqb, get_or, length};

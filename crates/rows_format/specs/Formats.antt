@@ -30,7 +30,7 @@ nonzero = Plain 4 NotZero
 
 -- ---- rows
 
--- "Row fields: 01 name, 02 arcs (4 bytes each), 03 GUID, 04 system_flags; 05 defunct (length 0, else absent)"
+-- "Row fields: 01 name, 02 arcs (4 bytes each), 03 GUID, 04 systemFlags; 05 defunct (length 0, else absent)"
 unfoldable pub common_columns : Column → List Column
 common_columns defunct =
     column Required 1 (Counted 0 name_limit) name_at ∷

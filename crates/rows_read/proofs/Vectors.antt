@@ -36,7 +36,7 @@ stored at n format v = part at n (read_row format v 0 (length v) (zeros (format_
 abbrev field : ℕ → List ℕ → List ℕ
 field tag v = field_bytes tag v
 
--- 01 to 04: `top`, 2.5.6.0, a GUID, system_flags 0x10
+-- 01 to 04: `top`, 2.5.6.0, a GUID, systemFlags 0x10
 abbrev common : List ℕ
 common =
     field 1 (116 ∷ 111 ∷ 112 ∷ [])

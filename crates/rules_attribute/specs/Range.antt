@@ -5,7 +5,7 @@ use Rattle.schema.specs.AttributeRow.{range_lower, range_upper}
 use Rattle.schema.specs.declared.attribute.Bound.{Bound}
 use Rattle.schema.specs.declared.attribute.Bound.TheVariants.{Given, Absent}
 
--- "range_lower and range_upper (signed, 32 bits ..)": the integer that 32 bits stand for in two's complement. From half their range on a number
+-- "rangeLower and rangeUpper (signed, 32 bits ..)": the integer that 32 bits stand for in two's complement. From half their range on a number
 -- stands for itself less 2 ^ 32, and negsuc n is the integer -1 - n
 unfoldable pub signed : ℕ → ℤ
 signed x = cond (ltb x (2 ^ 31)) (pos x) (negsuc (2 ^ 32 - 1 - x))
@@ -24,7 +24,7 @@ ends_crossed (Given lower) (Given upper) = less_signed upper lower
 ends_crossed (Given lower) Absent = false
 ends_crossed Absent upper = false
 
--- "25 Both ranges present", and, as document 02 has it, "only where range_lower is greater than range_upper"
+-- "25 Both ranges present", and, as document 02 has it, "only where rangeLower is greater than rangeUpper"
 unfoldable pub range_wrong : List ℕ → Bool
 range_wrong row = ends_crossed (range_lower row) (range_upper row)
 

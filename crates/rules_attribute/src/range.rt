@@ -1,4 +1,4 @@
-// Rule 25: "Both ranges present", and, as document 02 has it, "only where range_lower is greater than range_upper".
+// Rule 25: "Both ranges present", and, as document 02 has it, "only where rangeLower is greater than rangeUpper".
 ghost use Rattle.std.specs.Prelude.{◌≡◌, ◌≤◌, length};
 ghost use Rattle.schema.specs.Layout.{attribute_width};
 ghost use Rattle.rules_attribute.specs.Range.{less_signed, biased, range_wrong};

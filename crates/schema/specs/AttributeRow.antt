@@ -1,5 +1,5 @@
 -- The rest of an attribute row. Document 01: "Attribute row also: attributeSyntax (last arc of 2.5.5.n), oMSyntax, oMObjectClass (up to 16 bytes),
--- single-valued or not, range_lower and range_upper (signed, 32 bits, each may be absent), linkID and mAPIID (0 is absent)."
+-- single-valued or not, rangeLower and rangeUpper (signed, 32 bits, each may be absent), linkID and mAPIID (0 is absent)."
 use Rattle.std.specs.Prelude.{Bool, cond, List, ℕ, ◌+◌, get_or}
 use Rattle.prelude.specs.BigEndian.{big_endian}
 use Rattle.schema.specs.Layout.{syntax_at, om_syntax_at, object_class_at, single_valued_at, range_lower_at, range_upper_at, link_at, mapi_at}

@@ -100,7 +100,7 @@ naming_unfit = 23
 abbrev pub mapi_taken : ℕ
 mapi_taken = 24
 
--- "25 Both ranges present", and, as document 02 has it, "only where range_lower is greater than range_upper"
+-- "25 Both ranges present", and, as document 02 has it, "only where rangeLower is greater than rangeUpper"
 abbrev pub range_crossed : ℕ
 range_crossed = 25
 

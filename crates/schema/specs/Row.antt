@@ -1,5 +1,5 @@
 -- What every row has. Document 01: "Every row: display name (up to 64 bytes), object identifier (up to 16 arcs, each a u32), schemaIDGUID (16
--- bytes), system_flags (u32), active or defunct."
+-- bytes), systemFlags (u32), active or defunct."
 use Rattle.std.specs.Prelude.{Bool, List, ◌≡◌, ℕ, ◌+◌, ◌*◌, ◌/◌, ◌%◌, ◌≤◌, ◌<◌, eqb, length, get_or}
 use Rattle.prelude.specs.Part.{part}
 use Rattle.prelude.specs.BigEndian.{big_endian}
@@ -48,7 +48,7 @@ guid_of row = part guid_at guid_width row
 abbrev pub system_flags : List ℕ → ℕ
 system_flags row = big_endian 4 flags_at row
 
--- "A row is a *base row* if system_flags has 0x10"
+-- "A row is a *base row* if systemFlags has 0x10"
 abbrev pub is_base : List ℕ → Bool
 is_base row = eqb (system_flags row / 16 % 2) 1
 

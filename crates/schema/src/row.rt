@@ -71,7 +71,7 @@ pub fn system_flags(row: &[u8]) -> u32
     read_u32(row, FLAGS)
 }
 
-// Whether system_flags has 0x10.
+// Whether systemFlags has 0x10.
 pub fn is_base(row: &[u8]) -> bool
     requires { common_width ≤ length row.now }
     ensures { result ≡ is_base row.now }

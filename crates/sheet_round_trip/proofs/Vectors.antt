@@ -51,7 +51,7 @@ module _ (v : List ℕ) (small : all_below (length v) (λ i. ltb (get_or v i 0) 
       (omega (arith, zeros_length (row_width Attributes)))
       (λ i. record { answer = read i; row = (read_row (Row Attributes) v 0 (length v) blank).row })) e
 
--- the value of a row with 01 to 04 (`top`, 2.5.6.0, a GUID, system_flags 0x10), a syntax and oMSyntax, and more fields behind
+-- the value of a row with 01 to 04 (`top`, 2.5.6.0, a GUID, systemFlags 0x10), a syntax and oMSyntax, and more fields behind
 abbrev attribute : ℕ → ℕ → List ℕ → List ℕ
 attribute syntax om more =
     field_bytes 1 (116 ∷ 111 ∷ 112 ∷ [])
