@@ -14,12 +14,26 @@ returns-then-store-gt2 c =
 
 pub returns-then-length-gt-LONGEST : goal.returns-then-length-gt-LONGEST
 unfolding resize_at is_cut
-returns-then-length-gt-LONGEST c =
-    (rw (le-ltb _ _ c.if-s-at-lt6.false, ← c.byte_at-store.ensures, le-ltb _ _ c.if-store-gt2.false, ← c.read_u32-length.ensures, lt-ltb _ _ c.if-length-gt-LONGEST.true), tt)
+returns-then-length-gt-LONGEST c = (
+  rw (
+    le-ltb _ _ c.if-s-at-lt6.false,
+    ← c.byte_at-store.ensures,
+    le-ltb _ _ c.if-store-gt2.false,
+    ← c.read_u32-length.ensures,
+    lt-ltb _ _ c.if-length-gt-LONGEST.true,
+  ),
+  tt,
+)
 
 pub returns : goal.returns
 unfolding resize_at is_cut
 returns c = (
-  rw (le-ltb _ _ c.if-s-at-lt6.false, ← c.byte_at-store.ensures, le-ltb _ _ c.if-store-gt2.false, ← c.read_u32-length.ensures, le-ltb _ _ c.if-length-gt-LONGEST.false),
+  rw (
+    le-ltb _ _ c.if-s-at-lt6.false,
+    ← c.byte_at-store.ensures,
+    le-ltb _ _ c.if-store-gt2.false,
+    ← c.read_u32-length.ensures,
+    le-ltb _ _ c.if-length-gt-LONGEST.false,
+  ),
   (omega arith, omega arith, omega arith),
 )
