@@ -3,6 +3,7 @@ ghost use Rattle.std.specs.Prelude.{◌≡◌, ◌≤◌, ◌<◌, length};
 ghost use Rattle.sets.specs.Sets.{member};
 ghost use Rattle.schema.specs.Layout.{common_width, class_width, row_width, store_length};
 ghost use Rattle.schema.specs.Numbers.{table_of, number_of};
+ghost use Rattle.schema.specs.Refused.{outcome_number};
 ghost use Rattle.schema.specs.Store.{schema_in, table, table_in};
 ghost use Rattle.tables.specs.Shaped.{Shaped};
 ghost use Rattle.change_read.specs.Carried.{list_of, entry_of};
@@ -16,11 +17,8 @@ use change_read::read::Change;
 use change_rows::edit::{is_addition, table_for};
 use change_rows::list::{entry_read, fixed_at, list_width, open_at};
 use prelude::part::part_of;
-use schema::number::{NumberRead, RowId, TableId, number_of, number_read, row_limit};
-use schema::refusal::{
-    ADDED_BASE_ROW, BASE_ROW, DONE, ENTRY_CONFLICT, NO_FREE_ROW, NO_SUCH_ROW, STILL_NEEDED,
-    WRONG_STATE,
-};
+use schema::number::{RowId, TableId, number_of, number_read, row_limit};
+use schema::refusal::Refusal;
 use schema::row::{is_base, is_defunct};
 use schema::store::{row_count, schema_row, store_of};
 use sets::has;
@@ -62,7 +60,7 @@ fn in_open(scratch: &[u8], row: &[u8]) -> bool
     requires { (length scratch.now ≡ class_width) × (length row.now ≡ class_width) }
     ensures { result ≡ member (open_of (list_of scratch.now) row.now) (entry_of scratch.now) }
 {
-    let NumberRead::Row(id) = entry_read(scratch) else {
+    let Some(id) = entry_read(scratch) else {
         return false;
     };
     let list = list_of(scratch);
@@ -74,7 +72,7 @@ fn in_fixed(scratch: &[u8], row: &[u8]) -> bool
     requires { (length scratch.now ≡ class_width) × (length row.now ≡ class_width) }
     ensures { result ≡ member (fixed_of (list_of scratch.now) row.now) (entry_of scratch.now) }
 {
-    let NumberRead::Row(id) = entry_read(scratch) else {
+    let Some(id) = entry_read(scratch) else {
         return false;
     };
     let list = list_of(scratch);
@@ -123,17 +121,17 @@ fn still_needed<'a>(change: Change, id: RowId, attributes: &'a [u8], classes: &'
 }
 
 // What an addition asks: a free row (6), and that the row is no base row (9).
-fn addition_asked(table: TableId, scratch: &[u8], store: &[u8]) -> u8
+fn addition_asked(table: TableId, scratch: &[u8], store: &[u8]) -> Result<(), Refusal>
     requires { (length scratch.now ≡ class_width) × (store_length table ≤ length store.now) }
-    ensures { result ≡ addition_asked table scratch.now (table_in table store.now) }
+    ensures { outcome_number result ≡ addition_asked table scratch.now (table_in table store.now) }
 {
     if row_limit(table) <= row_count(table, store) {
-        return NO_FREE_ROW;
+        return Err(Refusal::NoFreeRow);
     }
     if is_base(added_row(table, scratch)) {
-        return ADDED_BASE_ROW;
+        return Err(Refusal::AddedBaseRow);
     }
-    DONE
+    Ok(())
 }
 
 // What any other change asks of a target that is there: 7, 8, 10 and 11.
@@ -143,47 +141,47 @@ fn target_asked<'a>(
     id: RowId,
     attributes: &'a [u8],
     classes: &'a [u8],
-) -> u8
+) -> Result<(), Refusal>
     requires { Shaped attributes.now classes.now × (length scratch.now ≡ class_width) × (table_of id ≡ table_for change)
         × (number_of id < (table (table_of id) (schema_in attributes.now classes.now)).count) }
-    ensures { result ≡ target_asked change scratch.now (number_of id) (schema_in attributes.now classes.now) }
+    ensures { outcome_number result ≡ target_asked change scratch.now (number_of id) (schema_in attributes.now classes.now) }
 {
     let row = schema_row(attributes, classes, id);
     if state_wrong(change, row) {
-        return WRONG_STATE;
+        return Err(Refusal::WrongState);
     }
     if base_touched(change, row) {
-        return BASE_ROW;
+        return Err(Refusal::BaseRow);
     }
     if entry_conflict(change, scratch, row) {
-        return ENTRY_CONFLICT;
+        return Err(Refusal::EntryConflict);
     }
     if still_needed(change, id, attributes, classes) {
-        return STILL_NEEDED;
+        return Err(Refusal::StillNeeded);
     }
-    DONE
+    Ok(())
 }
 
-// The first of numbers 5 to 11 whose condition holds, or 0.
+// Refused by the first of numbers 5 to 11 whose condition holds.
 pub fn first_asked<'a>(
     change: Change,
     scratch: &[u8],
     attributes: &'a [u8],
     classes: &'a [u8],
-) -> u8
+) -> Result<(), Refusal>
     requires { Shaped attributes.now classes.now × (length scratch.now ≡ class_width) }
-    ensures { result ≡ first_asked change scratch.now (schema_in attributes.now classes.now) }
+    ensures { outcome_number result ≡ first_asked change scratch.now (schema_in attributes.now classes.now) }
 {
     let table = table_for(change);
     let store = store_of(table, attributes, classes);
     if is_addition(change) {
         return addition_asked(table, scratch, store);
     }
-    let NumberRead::Row(id) = number_read(table, target_of(scratch) as usize) else {
-        return NO_SUCH_ROW;
+    let Some(id) = number_read(table, target_of(scratch) as usize) else {
+        return Err(Refusal::NoSuchRow);
     };
     if row_count(table, store) <= number_of(id) {
-        return NO_SUCH_ROW;
+        return Err(Refusal::NoSuchRow);
     }
     target_asked(change, scratch, id, attributes, classes)
 }

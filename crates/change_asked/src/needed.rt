@@ -18,18 +18,13 @@ use schema::store::{attribute_row, class_row, row_count};
 use tables::named::is_naming;
 
 // Whether a class is active, is another row than the given one, and names it.
+#[tactic(auto, unfolding(crate::specs::Needed::class_needs))]
 fn class_needs(id: RowId, classes: &[u8], j: ClassNumber) -> bool
     requires { TableShaped Classes classes.now × (j.0 < (table_in Classes classes.now).count) × (number_of id < limit (table_of id)) }
     ensures { result ≡ class_needs (table_of id) (number_of id) (table_in Classes classes.now) j.0 }
 {
-    if same_row(id, RowId::Class(j)) {
-        return false;
-    }
     let row = class_row(classes, j);
-    if is_defunct(row) {
-        return false;
-    }
-    is_naming(row, id)
+    !same_row(id, RowId::Class(j)) && !is_defunct(row) && is_naming(row, id)
 }
 
 // Whether some class is.
@@ -38,30 +33,17 @@ fn some_class_needs(id: RowId, classes: &[u8]) -> bool
     ensures { result ≡ any_below (table_in Classes classes.now).count
         (class_needs (table_of id) (number_of id) (table_in Classes classes.now)) }
 {
-    let count = row_count(TableId::Classes, classes);
-    let mut j = 0;
-    while j < count {
-        if class_needs(id, classes, class_at(j)) {
-            return true;
-        }
-        j += 1;
-    }
-    false
+    (0..row_count(TableId::Classes, classes)).any(|j| class_needs(id, classes, class_at(j)))
 }
 
 // Whether an attribute is active, and a back link whose forward link is the given row.
+#[tactic(auto, unfolding(crate::specs::Needed::link_needs, rules_attribute::specs::Links::is_back_link))]
 fn link_needs(row: &[u8], attributes: &[u8], j: AttributeNumber) -> bool
     requires { TableShaped Attributes attributes.now × (j.0 < (table_in Attributes attributes.now).count) × (attribute_width ≤ length row.now) }
     ensures { result ≡ link_needs row.now (table_in Attributes attributes.now) j.0 }
 {
     let back = attribute_row(attributes, j);
-    if is_defunct(back) {
-        return false;
-    }
-    if link(back) % 2 == 1 {
-        return is_forward_of(back, row);
-    }
-    false
+    !is_defunct(back) && link(back) % 2 == 1 && is_forward_of(back, row)
 }
 
 // Whether some attribute is.
@@ -71,14 +53,7 @@ fn some_link_needs(row: &[u8], attributes: &[u8]) -> bool
         (link_needs row.now (table_in Attributes attributes.now)) }
 {
     let count = row_count(TableId::Attributes, attributes);
-    let mut j = 0;
-    while j < count {
-        if link_needs(row, attributes, attribute_at(j)) {
-            return true;
-        }
-        j += 1;
-    }
-    false
+    (0..count).any(|j| link_needs(row, attributes, attribute_at(j)))
 }
 
 // Whether some row needs the given one.
@@ -86,11 +61,9 @@ pub fn is_needed<'a>(id: RowId, attributes: &'a [u8], classes: &'a [u8]) -> bool
     requires { Shaped attributes.now classes.now × (number_of id < (table (table_of id) (schema_in attributes.now classes.now)).count) }
     ensures { result ≡ needed (schema_in attributes.now classes.now) (table_of id) (number_of id) }
 {
-    if some_class_needs(id, classes) {
-        return true;
-    }
-    match id {
-        RowId::Attribute(a) => some_link_needs(attribute_row(attributes, a), attributes),
-        RowId::Class(_) => false,
-    }
+    some_class_needs(id, classes)
+        || match id {
+            RowId::Attribute(a) => some_link_needs(attribute_row(attributes, a), attributes),
+            RowId::Class(_) => false,
+        }
 }

@@ -1,6 +1,6 @@
 -- What a change comes to depends on the rows that the tables hold alone.
 use Rattle.std.proofs.Math.Dec.{leb}
-use Rattle.std.specs.Prelude.{eqb, ◌<◌, ◌≤◌, suc, ℕ, Bool, ◌&&◌, ◌||◌, false, true, ◌≡◌, ◌⊎◌}
+use Rattle.std.specs.Prelude.{eqb, ◌<◌, ◌≤◌, suc, ℕ, Bool, ◌&&◌, ◌||◌, false, true, ◌≡◌, ◌⊎◌, Err}
 use Rattle.std.proofs.Common.{arith, ◌∙◌, inl, inr}
 use Rattle.std.proofs.Math.Decide.{dec_lt, ℕ_discrete}
 use Rattle.std.proofs.Math.Bool.{cond, not}
@@ -15,9 +15,9 @@ use Rattle.schema.specs.Numbers.{limit, same_row}
 use Rattle.schema.specs.StoreLaws.{plus_count, plus_last, plus_other, with_count, with_other, with_same}
 use Rattle.schema.specs.Answers.{refused, changed}
 use Rattle.change_read.specs.declared.read.Change.TheVariants.{Add, SetRange, Rename, Deactivate, Reactivate, AddEntry, RemoveEntry}
-use Rattle.change_read.specs.declared.read.ChangeRead.TheVariants.{Read, Bad}
+use Rattle.change_read.specs.ChangeRead.{Read, Bad}
 use Rattle.change_read.specs.declared.read.Change.{Change}
-use Rattle.change_read.specs.declared.read.ChangeRead.{ChangeRead}
+use Rattle.change_read.specs.ChangeRead.{ChangeRead}
 use Rattle.change_read.specs.Carried.{added_row, target_of}
 use Rattle.rules.specs.declared.row.Added.{Added}
 use Rattle.tables.specs.Same.{Same, SameRows}
@@ -163,11 +163,11 @@ module _ (change : Change) (r : List ℕ) {m n : Schema} (s : SameRows m n) wher
 -- the answer, and the rows after it
 pub answer_same : (read : ChangeRead) (r : List ℕ) {m n : Schema} → SameRows m n → answer_to read r m ≡ answer_to read r n
 answer_same (Read change) r s = read_same change r s
-answer_same (Bad at) r s = unfold answer_to in refl
+answer_same (Err bad) r s = unfold answer_to in refl
 
 pub rows_same : (read : ChangeRead) (r : List ℕ) {m n : Schema} → SameRows m n → SameRows (rows_after read r m) (rows_after read r n)
 unfolding rows_after
-rows_same (Bad at) r s = s
+rows_same (Err bad) r s = s
 rows_same (Read change) r {m} {n} s = go (ℕ_discrete (change_number change r m) 0)
   where
     go : Dec (change_number change r m ≡ 0) → SameRows (rows_after (Read change) r m) (rows_after (Read change) r n)

@@ -1,12 +1,12 @@
 -- What a change comes to, from rows alone: no store, no kept set and no call is in it. Document 01: "The smallest number whose condition holds."
-use Rattle.std.specs.Prelude.{eqb, ℕ, List, [], ◌++◌, ◌∷◌, cond}
+use Rattle.std.specs.Prelude.{eqb, ℕ, List, [], ◌++◌, ◌∷◌, cond, Err}
 use Rattle.schema.specs.declared.number.TableId.TheVariants.{Attributes, Classes}
 use Rattle.schema.specs.declared.answer.Answer.{Answer}
 use Rattle.schema.specs.Store.{Schema}
 use Rattle.schema.specs.Answers.{refused, changed}
 use Rattle.change_read.specs.declared.read.Change.TheVariants.{Add, SetRange, Rename, Deactivate, Reactivate, AddEntry, RemoveEntry}
-use Rattle.change_read.specs.declared.read.ChangeRead.TheVariants.{Bad, Read}
-use Rattle.change_read.specs.declared.read.ChangeRead.{ChangeRead}
+use Rattle.change_read.specs.ChangeRead.{Bad, Read}
+use Rattle.change_read.specs.ChangeRead.{ChangeRead}
 use Rattle.change_read.specs.Reading.{change_answer}
 use Rattle.change_read.specs.Carried.{entry_of, list_of, target_of}
 use Rattle.change_read.specs.declared.read.Change.{Change}
@@ -56,10 +56,10 @@ answer_by change r m n = cond (eqb n refusal.done) (changed (table_for change) (
 
 -- the answer to what reading a change came to: "4 .. change unreadable; place is the byte offset", or a number from 5 on
 unfoldable pub answer_to : ChangeRead → List ℕ → Schema → Answer
-answer_to (Bad at) r m = change_answer (Bad at)
+answer_to (Err bad) r m = change_answer (Err bad)
 answer_to (Read change) r m = answer_by change r m (change_number change r m)
 
 -- the rows after it: changed where it is done, else as they were
 unfoldable pub rows_after : ChangeRead → List ℕ → Schema → Schema
-rows_after (Bad at) r m = m
+rows_after (Err bad) r m = m
 rows_after (Read change) r m = cond (eqb (change_number change r m) refusal.done) (schema_after change r m) m

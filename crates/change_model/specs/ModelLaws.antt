@@ -2,7 +2,7 @@
 use Rattle.std.specs.Prelude.{ℕ, List, ◌≡◌}
 use Rattle.std.proofs.Common.{arith, ◌∙◌, sym}
 use Rattle.std.proofs.Math.Decide.{ℕ_discrete}
-use Rattle.change_read.specs.declared.read.ChangeRead.TheVariants.{Read}
+use Rattle.change_read.specs.ChangeRead.{Read}
 use Rattle.change_read.specs.declared.read.Change.{Change}
 use Rattle.schema.specs.Store.{Schema}
 use Rattle.schema.specs.Answers.{refused, changed}

@@ -14,8 +14,8 @@ use Rattle.rows_format.specs.Formats.{own_columns, common_columns, attribute_col
 use Rattle.rows_format.specs.Formats.{entry_columns, columns_of}
 use Rattle.rows_read.specs.Reading.{turn_of, took_of, row_of, onward, read_by}
 use Rattle.rows_read.specs.ObjectClass.{object_class_cell, settled, finished, finished_row, finish, read_row}
-use Rattle.change_read.specs.declared.read.ChangeRead.{ChangeRead}
-use Rattle.change_read.specs.declared.read.ChangeRead.TheVariants.{Bad}
+use Rattle.change_read.specs.ChangeRead.{ChangeRead}
+use Rattle.change_read.specs.ChangeRead.{Bad}
 use Rattle.change_read.specs.Reading.{change_of, format_of, whole_read, read_value, tagged_out, field_out, read_change}
 use Rattle.change_read.specs.Carried.{new_range}
 

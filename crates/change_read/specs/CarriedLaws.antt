@@ -1,5 +1,5 @@
 -- What a change that was read carries is well-formed: each cell, oMObjectClass, and nothing behind the cells.
-use Rattle.std.specs.Prelude.{Bool, cond, ◌≡◌, ℕ, ◌+◌, ◌-◌, ◌≤◌, get_or, drop}
+use Rattle.std.specs.Prelude.{Bool, cond, ◌≡◌, ℕ, ◌+◌, ◌-◌, ◌≤◌, get_or, drop, Some, None, Ok, Err}
 use Rattle.std.proofs.Math.Bool.{true, false}
 use mathlib.Core.List.{List, [], ◌∷◌, ◌++◌}
 use Rattle.std.proofs.Math.Path.{refl, ap}
@@ -25,8 +25,7 @@ use Rattle.rows_format.proofs.ColumnsLaws.{Laid, cell_length, formed_both, forme
 use Rattle.rows_format.specs.Encodings.{room}
 use Rattle.rows_format.specs.Formats.{columns_of, common_columns, format_width, may_be_defunct, never_defunct, own_columns}
 use Rattle.rows_format.proofs.FormatsLaws.{format_laid}
-use Rattle.rows_read.specs.declared.field.Turn.{Turn}
-use Rattle.rows_read.specs.declared.field.Turn.TheVariants.{Taken, Passed, Refused}
+use Rattle.wire.specs.FieldRead.{FieldRead}
 use Rattle.rows_read.specs.Reading.{onward, read_by, row_of, took_of, turn_of}
 use Rattle.rows_read.specs.ReadingLaws.{is_taken}
 use Rattle.rows_read.specs.ObjectClass.{finished, finished_row, is_object, object_class_cell, settled}
@@ -63,7 +62,7 @@ module _ (s : List ℕ) (end : ℕ) where
 
   turn_rest : (r : Column) (rs : List Column) (o n : ℕ) → Laid r rs o n → Leaves rs n → Leaves (r ∷ rs) n
   unfolding read_by onward took_of row_of
-  turn_rest r rs o n l rest at m row fits = go (turn_of s r (field_at s at end)) refl
+  turn_rest r rs o n l rest at m row fits = go (turn_of s at r (field_at s at end)) refl
     where
       put : (cell : List ℕ) → length cell ≡ column_width r → Rest n row (splice r.at cell row)
       put cell e = put_rest r.at n cell row (omega (arith, l.place, laid_le rs (o + column_width r) n l.rest)) fits
@@ -71,12 +70,12 @@ module _ (s : List ℕ) (end : ℕ) where
       on : (cell : List ℕ) → length cell ≡ column_width r → (at : ℕ) (m : Bool) → Rest n row (read_by s end rs at m (splice r.at cell row)).row
       on cell e at m = then_rest (put cell e) (rest at m (splice r.at cell row) (omega (arith, (put cell e).long)))
 
-      go : (t : Turn) → turn_of s r (field_at s at end) ≡ t → Rest n row (onward (read_by s end rs) at (took_of r at m t) (row_of s r row t)).row
-      go Refused p = record { long = refl; same = refl }
-      go Passed p = on (zeros (column_width r)) (zeros_length (column_width r)) at _
-      go (Taken start stop) p =
-          let v : List ℕ = part start (stop - start) s in
-          on (cell_of r v) (cell_length r v (takes_accepts r v (is_taken s r at end start stop p).takes)) stop m
+      go : (t : FieldRead) → turn_of s at r (field_at s at end) ≡ t → Rest n row (onward (read_by s end rs) (took_of r at m t) (row_of s r row t)).row
+      go (Err bad) p = record { long = refl; same = refl }
+      go (Ok None) p = on (zeros (column_width r)) (zeros_length (column_width r)) at _
+      go (Ok (Some f)) p =
+          let v : List ℕ = part f.start (f.end - f.start) s in
+          on (cell_of r v) (cell_length r v (takes_accepts r v (is_taken s r at end f.tag f.start f.end p).takes)) f.end m
 
   fields_rest : (columns : List Column) (o n : ℕ) → laid columns o n ≡ true → Leaves columns n
   fields_rest [] o n h = λ at m row fits. (unfold read_by in (record { long = refl; same = refl }))

@@ -1,7 +1,7 @@
 -- Laws of a change that was read: it is the whole string, one field and nothing behind it; and what it carries is well-formed.
 use Rattle.prelude.specs.BytesLaws.{zeros_bytes}
 use Rattle.rows_read.specs.BytesLaws.{read_bytes}
-use Rattle.std.specs.Prelude.{Bool, false, List, ◌⊎◌, ◌≡◌, refl, eqb, length}
+use Rattle.std.specs.Prelude.{Bool, false, List, ◌⊎◌, ◌≡◌, refl, eqb, length, Some, None, Option, Err, Ok}
 use Rattle.std.proofs.Math.Bool.{true}
 use Rattle.std.proofs.Common.{inl, inr, sym, ap, ap₂, subst, ◌∙◌, arith}
 use Prim.Native.Nat.{ℕ, ◌-◌, ◌≤◌}
@@ -9,7 +9,7 @@ use Rattle.std.proofs.Math.ListN.{get_or}
 use Rattle.prelude.specs.SaysLaws.{says_eq, says_or}
 use Rattle.prelude.specs.Part.{part, Bytes}
 use Rattle.prelude.specs.PartLaws.{zeros_length, part_at, part_all, part_part}
-use Rattle.wire.specs.declared.FieldRead.{FieldRead}
+use Rattle.wire.specs.FieldRead.{FieldRead}
 use Rattle.wire.specs.Wire.{field_at, field_bytes}
 use Rattle.wire.specs.WireLaws.{field_is, field_back}
 use Rattle.schema.specs.declared.number.TableId.{TableId}
@@ -24,7 +24,7 @@ use Rattle.rows_format.specs.Columns.{mark, column_width, cell_at, has_value, we
 use Rattle.rows_format.proofs.ColumnsLaws.{formed_at}
 use Rattle.rows_format.specs.Formats.{list_at, new_lower_at, new_upper_at, own_columns, common_columns, attribute_columns, range_columns, name_columns}
 use Rattle.rows_format.specs.Formats.{entry_columns, columns_of, format_width, no_column}
-use Rattle.rows_read.specs.declared.read.RowRead.{RowRead}
+use Rattle.rows_read.specs.RowRead.{RowRead}
 use Rattle.rows_read.specs.Reading.{out, read_by, Out}
 use Rattle.rows_read.specs.ObjectClass.{finished, read_row}
 use Rattle.rows_read.specs.Stopping.{column_at}
@@ -32,13 +32,11 @@ use Rattle.rows_read.specs.WellFormedLaws.{finished_length}
 use Rattle.rows_read.specs.RoundTripLaws.{fields_back, row_read_lem}
 use Rattle.change_read.specs.declared.read.Change.{Change}
 use Rattle.change_read.specs.declared.read.Change.TheVariants.{Add, SetRange, Rename, Deactivate, Reactivate, AddEntry, RemoveEntry}
-use Rattle.change_read.specs.declared.read.Tagged.{Tagged}
-use Rattle.change_read.specs.declared.read.Tagged.TheVariants.{Known, Unknown}
-use Rattle.change_read.specs.declared.read.ChangeRead.TheVariants.{Read, Bad}
+use Rattle.change_read.specs.ChangeRead.{Read, Bad}
 use Rattle.change_read.specs.Reading.{change_of, format_of, ChangeOut, change_out, scratch, whole_read, read_value, tagged_out, field_out, read_change}
 use Rattle.change_read.specs.Carried.{open_list, list_tag, list_of, new_name, new_range}
-use Rattle.wire.specs.declared.FieldRead.TheVariants as fields
-use Rattle.rows_read.specs.declared.read.RowRead.TheVariants as rows
+use Rattle.wire.specs.FieldRead as fields
+use Rattle.rows_read.specs.RowRead as rows
 
 -- what any change carries has room in a row of a class
 pub format_fits_row : (change : Change) → format_width (format_of change) ≤ class_width
@@ -64,7 +62,7 @@ Reads s change new = read_change s ≡ change_out (Read change) new
 pub record Parts (s : List ℕ) (change : Change) (new : List ℕ) : Type 0 where
   pub tag : ℕ
   pub start : ℕ
-  pub known : change_of tag ≡ Known change
+  pub known : change_of tag ≡ Some change
   pub field : field_at s 0 (length s) ≡ fields.Field tag start (length s)
   pub read : read_row (format_of change) s start (length s) scratch ≡ out rows.Read new
 
@@ -76,11 +74,11 @@ pub change_parts : (s : List ℕ) (change : Change) (new : List ℕ) → Reads s
 unfolding read_change field_out tagged_out read_value whole_read
 change_parts s change new e = front (field_at s 0 (length s)) refl e
   where
-    whole : (tag start stop : ℕ) → field_at s 0 (length s) ≡ fields.Field tag start stop → (c : Change) → change_of tag ≡ Known c → (a : RowRead) (w : List ℕ)
+    whole : (tag start stop : ℕ) → field_at s 0 (length s) ≡ fields.Field tag start stop → (c : Change) → change_of tag ≡ Some c → (a : RowRead) (w : List ℕ)
         → read_row (format_of c) s start stop scratch ≡ out a w → (b : Bool) → eqb stop (length s) ≡ b → change_out (whole_read c s stop a) w
         ≡ change_out (Read change) new
         → Parts s change new
-    whole tag start stop f c k (rows.Bad at) w r b p q = absurd (refused_read q)
+    whole tag start stop f c k (Err bad) w r b p q = absurd (refused_read q)
     whole tag start stop f c k rows.Read w r false p q = absurd (refused_read (rw p at q))
     whole tag start stop f c k rows.Read w r true p q =
         let a : Read c ≡ Read change = ap (λ (x : ChangeOut). x.answer) (rw p at q) in
@@ -89,28 +87,28 @@ change_parts s change new e = front (field_at s 0 (length s)) refl e
         record {
           tag = tag;
           start = start;
-          known = k ∙ ap Known is;
+          known = k ∙ ap Some is;
           field = f ∙ ap (fields.Field tag start) end;
           read = ap₂ (λ (x : Change) (n : ℕ). read_row (format_of x) s start n scratch) (sym is) (sym end) ∙ r
               ∙ ap (out rows.Read) (ap (λ (x : ChangeOut). x.row) q);
         }
 
-    tagged : (tag start stop : ℕ) → field_at s 0 (length s) ≡ fields.Field tag start stop → (t : Tagged) → change_of tag ≡ t
+    tagged : (tag start stop : ℕ) → field_at s 0 (length s) ≡ fields.Field tag start stop → (t : Option Change) → change_of tag ≡ t
         → tagged_out t s start stop ≡ change_out (Read change) new → Parts s change new
-    tagged tag start stop f Unknown k q = absurd (refused_read q)
-    tagged tag start stop f (Known c) k q =
+    tagged tag start stop f None k q = absurd (refused_read q)
+    tagged tag start stop f (Some c) k q =
         let o = read_row (format_of c) s start stop scratch in
         whole tag start stop f c k o.answer o.row refl (eqb stop (length s)) refl q
 
     front : (f : FieldRead) → field_at s 0 (length s) ≡ f → field_out f s ≡ change_out (Read change) new → Parts s change new
     front fields.End p q = absurd (refused_read q)
-    front (fields.Bad at) p q = absurd (refused_read q)
-    front (fields.Field tag start stop) p q = tagged tag start stop p (change_of tag) refl q
+    front (Err bad) p q = absurd (refused_read q)
+    front (Ok (Some f)) p q = tagged f.tag f.start f.end p (change_of f.tag) refl q
 
 -- ---- one field, and nothing behind it
 
 pub change_whole : (s : List ℕ) (change : Change) (new : List ℕ) → Bytes s → Reads s change new
-    → (change_of (get_or s 0 0) ≡ Known change) × (s ≡ field_bytes (get_or s 0 0) (part 3 (length s - 3) s))
+    → (change_of (get_or s 0 0) ≡ Some change) × (s ≡ field_bytes (get_or s 0 0) (part 3 (length s - 3) s))
 change_whole s change new bytes e =
     let p = change_parts s change new e in
     let w = field_is s 0 (length s) p.tag p.start (length s) p.field in

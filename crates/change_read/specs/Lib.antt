@@ -1,4 +1,5 @@
 -- A change: what reading it comes to, and what it carries.
+pub mod ChangeRead
 pub mod Reading
 pub mod Stopping
 pub mod Carried

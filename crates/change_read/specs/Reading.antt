@@ -1,9 +1,9 @@
 -- Reading a change. Document 01: "A change is one field"; "Number 4 tells the first field that cannot be accepted (the innermost; out of order counts) by its
 -- tag's offset; a missing field, where the rest of its value is sound, by the end of that value; leftover bytes by their start."
 -- docs/DECISIONS.md, R24: without bytes that one field is missing, at 0; its tag stands at 0; what stands behind it is looked at last.
-use Rattle.std.specs.Prelude.{cond, List, ◌≡◌, ℕ, eqb, length}
+use Rattle.std.specs.Prelude.{cond, List, ◌≡◌, ℕ, eqb, length, Some, None, Option, Ok, Err}
 use Rattle.prelude.specs.Part.{zeros}
-use Rattle.wire.specs.declared.FieldRead.{FieldRead}
+use Rattle.wire.specs.FieldRead.{FieldRead}
 use Rattle.wire.specs.Wire.{field_at}
 use Rattle.schema.specs.Layout.{class_width}
 use Rattle.schema.specs.declared.number.TableId.TheVariants.{Attributes, Classes}
@@ -11,37 +11,35 @@ use Rattle.schema.specs.Answers.{passed, unreadable}
 use Rattle.schema.specs.declared.answer.Answer.{Answer}
 use Rattle.rows_format.specs.declared.format.Format.{Format}
 use Rattle.rows_format.specs.declared.format.Format.TheVariants.{NewRow, Range, Name, Target, Entry}
-use Rattle.rows_read.specs.declared.read.RowRead.{RowRead}
+use Rattle.rows_read.specs.RowRead.{RowRead}
 use Rattle.rows_read.specs.ObjectClass.{read_row}
 use Rattle.change_read.specs.declared.read.Change.{Change}
 use Rattle.change_read.specs.declared.read.Change.TheVariants.{Add, SetRange, Rename, Deactivate, Reactivate, AddEntry, RemoveEntry}
-use Rattle.change_read.specs.declared.read.Tagged.{Tagged}
-use Rattle.change_read.specs.declared.read.Tagged.TheVariants.{Known, Unknown}
-use Rattle.change_read.specs.declared.read.ChangeRead.{ChangeRead}
-use Rattle.change_read.specs.declared.read.ChangeRead.TheVariants.{Read, Bad}
-use Rattle.wire.specs.declared.FieldRead.TheVariants as fields
-use Rattle.rows_read.specs.declared.read.RowRead.TheVariants as rows
+use Rattle.change_read.specs.ChangeRead.{ChangeRead}
+use Rattle.change_read.specs.ChangeRead.{Read, Bad}
+use Rattle.wire.specs.FieldRead as fields
+use Rattle.rows_read.specs.RowRead as rows
 
 -- the number and place that a reading gives
 abbrev pub change_answer : ChangeRead → Answer
 change_answer (Read change) = passed
-change_answer (Bad at) = unreadable at
+change_answer (Err bad) = unreadable bad.at
 
 -- "40, 41 add attribute, class (value as a row, no 05); 42 range; 43, 44 name of attribute, class; 45, 46 deactivate; 47, 48 reactivate; 49, 4A list
 -- addition, removal", with the paper's hex beside each tag
-unfoldable pub change_of : ℕ → Tagged
+unfoldable pub change_of : ℕ → Option Change
 change_of tag =
-    cond (eqb tag 64) (Known (Add Attributes))  -- 40
-    (cond (eqb tag 65) (Known (Add Classes))  -- 41
-    (cond (eqb tag 66) (Known SetRange)  -- 42
-    (cond (eqb tag 67) (Known (Rename Attributes))  -- 43
-    (cond (eqb tag 68) (Known (Rename Classes))  -- 44
-    (cond (eqb tag 69) (Known (Deactivate Attributes))  -- 45
-    (cond (eqb tag 70) (Known (Deactivate Classes))  -- 46
-    (cond (eqb tag 71) (Known (Reactivate Attributes))  -- 47
-    (cond (eqb tag 72) (Known (Reactivate Classes))  -- 48
-    (cond (eqb tag 73) (Known AddEntry)  -- 49
-    (cond (eqb tag 74) (Known RemoveEntry) Unknown))))))))))  -- 4A
+    cond (eqb tag 64) (Some (Add Attributes))  -- 40
+    (cond (eqb tag 65) (Some (Add Classes))  -- 41
+    (cond (eqb tag 66) (Some SetRange)  -- 42
+    (cond (eqb tag 67) (Some (Rename Attributes))  -- 43
+    (cond (eqb tag 68) (Some (Rename Classes))  -- 44
+    (cond (eqb tag 69) (Some (Deactivate Attributes))  -- 45
+    (cond (eqb tag 70) (Some (Deactivate Classes))  -- 46
+    (cond (eqb tag 71) (Some (Reactivate Attributes))  -- 47
+    (cond (eqb tag 72) (Some (Reactivate Classes))  -- 48
+    (cond (eqb tag 73) (Some AddEntry)  -- 49
+    (cond (eqb tag 74) (Some RemoveEntry) None))))))))))  -- 4A
 
 -- "42 to 4A begin with field 20, the target, any u16; then 0A and 0B .., or 01, or 21 .. and 22, the entry": the format that its value is read by
 unfoldable pub format_of : Change → Format
@@ -67,7 +65,7 @@ scratch = zeros class_width
 -- the value that ends at stop was read: "leftover bytes by their start"
 unfoldable pub whole_read : Change → List ℕ → ℕ → RowRead → ChangeRead
 whole_read change s stop rows.Read = cond (eqb stop (length s)) (Read change) (Bad stop)
-whole_read change s stop (rows.Bad at) = Bad at
+whole_read change s stop (Err bad) = Err bad
 
 -- the value s[start..stop) of a change
 unfoldable pub read_value : Change → List ℕ → ℕ → ℕ → ChangeOut
@@ -75,15 +73,15 @@ read_value change s start stop =
     change_out (whole_read change s stop (read_row (format_of change) s start stop scratch).answer) (read_row (format_of change) s start stop scratch).row
 
 -- by its tag, which stands at 0
-unfoldable pub tagged_out : Tagged → List ℕ → ℕ → ℕ → ChangeOut
-tagged_out (Known change) s start stop = read_value change s start stop
-tagged_out Unknown s start stop = change_out (Bad 0) scratch
+unfoldable pub tagged_out : Option Change → List ℕ → ℕ → ℕ → ChangeOut
+tagged_out (Some change) s start stop = read_value change s start stop
+tagged_out None s start stop = change_out (Bad 0) scratch
 
 -- the field in front, which may be missing or cut
 unfoldable pub field_out : FieldRead → List ℕ → ChangeOut
 field_out fields.End s = change_out (Bad 0) scratch
-field_out (fields.Bad at) s = change_out (Bad at) scratch
-field_out (fields.Field tag start stop) s = tagged_out (change_of tag) s start stop
+field_out (Err bad) s = change_out (Err bad) scratch
+field_out (Ok (Some field)) s = tagged_out (change_of field.tag) s field.start field.end
 
 -- a change
 unfoldable pub read_change : List ℕ → ChangeOut

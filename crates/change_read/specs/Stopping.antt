@@ -5,14 +5,14 @@
 use Rattle.std.specs.Prelude.{List, ◌≡◌, ℕ, ◌<◌, length}
 use Rattle.schema.specs.declared.number.TableId.TheVariants.{Attributes, Classes}
 use Rattle.rows_format.specs.Formats.{columns_of}
-use Rattle.rows_read.specs.declared.read.RowRead.{RowRead}
+use Rattle.rows_read.specs.RowRead.{RowRead}
 use Rattle.rows_read.specs.Stopping.{FieldCut, FieldStands, ValueStops}
 use Rattle.change_read.specs.declared.read.Change.{Change}
 use Rattle.change_read.specs.declared.read.Change.TheVariants.{Add, SetRange, Rename, Deactivate, Reactivate, AddEntry, RemoveEntry}
-use Rattle.change_read.specs.declared.read.ChangeRead.{ChangeRead}
-use Rattle.change_read.specs.declared.read.ChangeRead.TheVariants.{Read, Bad}
+use Rattle.change_read.specs.ChangeRead.{ChangeRead}
+use Rattle.change_read.specs.ChangeRead.{Read, Bad}
 use Rattle.change_read.specs.Reading.{format_of}
-use Rattle.rows_read.specs.declared.read.RowRead.TheVariants as rows
+use Rattle.rows_read.specs.RowRead as rows
 
 -- "40, 41 add attribute, class ..; 42 range; 43, 44 name of attribute, class; 45, 46 deactivate; 47, 48 reactivate; 49, 4A list addition, removal"
 unfoldable pub change_tag : Change → ℕ

@@ -1,26 +1,24 @@
 -- Reading a change comes to what `ChangeStops` says, and to nothing else.
-use Rattle.std.specs.Prelude.{List, ◌↔◌, ◌≡◌, refl, ℕ, ◌+◌, ◌≤◌, ◌<◌, get_or, length}
+use Rattle.std.specs.Prelude.{List, ◌↔◌, ◌≡◌, refl, ℕ, ◌+◌, ◌≤◌, ◌<◌, get_or, length, Some, None, Option, Err}
 use Rattle.std.proofs.Common.{⊎_elim, subst, sym, ◌∙◌, arith}
 use Rattle.std.proofs.Math.Path.{ap}
 use Rattle.prelude.specs.BigEndian.{big_endian}
 use Rattle.prelude.specs.SaysLaws.{says_eq, says_false, says_le, says_split, says_true}
 use Rattle.wire.specs.Wire.{field_at}
 use Rattle.wire.specs.WireLaws.{field_end}
-use Rattle.wire.specs.declared.FieldRead.{FieldRead}
+use Rattle.wire.specs.FieldRead.{FieldRead}
 use Rattle.rows_read.specs.PlaceLaws.{field_cut, field_stands}
-use Rattle.rows_read.specs.declared.read.RowRead.{RowRead}
+use Rattle.rows_read.specs.RowRead.{RowRead}
 use Rattle.rows_read.specs.ObjectClass.{read_row}
 use Rattle.rows_read.specs.StoppingLaws.{value_stops}
 use Rattle.rows_read.specs.Stopping.{FieldCut, FieldStands}
 use Rattle.change_read.specs.declared.read.Change.{Change}
-use Rattle.change_read.specs.declared.read.Tagged.{Tagged}
-use Rattle.change_read.specs.declared.read.Tagged.TheVariants.{Known, Unknown}
-use Rattle.change_read.specs.declared.read.ChangeRead.{ChangeRead}
-use Rattle.change_read.specs.declared.read.ChangeRead.TheVariants.{Read, Bad}
+use Rattle.change_read.specs.ChangeRead.{ChangeRead}
+use Rattle.change_read.specs.ChangeRead.{Read, Bad}
 use Rattle.change_read.specs.Reading.{change_of, field_out, format_of, read_change, read_value, scratch, tagged_out, whole_read}
 use Rattle.change_read.specs.TagLaws.{Kind, a_change, kind, none, tag_known}
 use Rattle.change_read.specs.Stopping.{CarriedStops, ChangeStands, ChangeStops}
-use Rattle.rows_read.specs.declared.read.RowRead.TheVariants as rows
+use Rattle.rows_read.specs.RowRead as rows
 
 module _ (s : List ℕ) where
   -- ---- from the statement to the answer
@@ -29,9 +27,9 @@ module _ (s : List ℕ) where
   unfolding read_change
   by_field e = ap (λ (f : FieldRead). (field_out f s).answer) e
 
-  by_tag : {tag stop : ℕ} → FieldStands s (length s) 0 tag stop → (t : Tagged) → change_of tag ≡ t → (read_change s).answer ≡ (tagged_out t s 3 stop).answer
+  by_tag : {tag stop : ℕ} → FieldStands s (length s) 0 tag stop → (t : Option Change) → change_of tag ≡ t → (read_change s).answer ≡ (tagged_out t s 3 stop).answer
   unfolding field_out
-  by_tag {tag} {stop} f t e = by_field (field_stands f) ∙ ap (λ (t : Tagged). (tagged_out t s 3 stop).answer) e
+  by_tag {tag} {stop} f t e = by_field (field_stands f) ∙ ap (λ (t : Option Change). (tagged_out t s 3 stop).answer) e
 
   module _ (change : Change) {stop : ℕ} (f : ChangeStands s change stop) where
     abbrev carried : RowRead
@@ -42,7 +40,7 @@ module _ (s : List ℕ) where
 
     by_value : (answer : RowRead) → CarriedStops s change stop answer → (read_change s).answer ≡ whole_read change s stop answer
     unfolding tagged_out read_value
-    by_value answer c = by_tag f (Known change) (tag_known change) ∙ ap (whole_read change s stop) ((carried_stops answer).1 c)
+    by_value answer c = by_tag f (Some change) (tag_known change) ∙ ap (whole_read change s stop) ((carried_stops answer).1 c)
 
   stops_read : {answer : ChangeRead} → ChangeStops s answer → (read_change s).answer ≡ answer
   unfolding field_out tagged_out whole_read
@@ -53,7 +51,7 @@ module _ (s : List ℕ) where
     where
       go : Kind tag → (read_change s).answer ≡ Bad 0
       go (a_change change e) = absurd (d change e)
-      go (none e q) = by_tag f Unknown e
+      go (none e q) = by_tag f None e
   stops_read (ChangeStops.inside change {at = at} f c) = by_value change f (rows.Bad at) c
   stops_read (ChangeStops.leftover change {stop} f c l) =
       by_value change f rows.Read c ∙ rw (says_false (says_eq stop (length s)) (λ e. omega arith))
@@ -67,7 +65,7 @@ module _ (s : List ℕ) where
   value_here change {stop} f = go (carried change f) ((carried_stops change f _).0 refl)
     where
       go : (answer : RowRead) → CarriedStops s change stop answer → Stopping
-      go (rows.Bad at) c = (Bad at, ChangeStops.inside change f c)
+      go (Err bad) c = (Err bad, ChangeStops.inside change f c)
       go rows.Read c =
           ⊎_elim (λ e. (Read change, ChangeStops.read (rw e.1 at f) (rw e.1 at c)))
           (λ d. (let w = f.within in (Bad stop, ChangeStops.leftover change f c (omega (arith, d.1, w))))) (says_split (says_eq stop (length s)))

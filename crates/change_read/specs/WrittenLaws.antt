@@ -24,8 +24,8 @@ use Rattle.change_read.specs.ChangeLaws.{Reads, format_fits_row, scratch_length}
 use Rattle.change_read.specs.Stopping.{change_tag}
 use Rattle.change_read.specs.TagLaws.{tag_known}
 use Rattle.change_read.specs.Written.{change_bytes, WellFormedChange}
-use Rattle.wire.specs.declared.FieldRead.TheVariants as fields
-use Rattle.rows_read.specs.declared.read.RowRead.TheVariants as rows
+use Rattle.wire.specs.FieldRead as fields
+use Rattle.rows_read.specs.RowRead as rows
 
 pub zeros_behind : (n m : ℕ) → n ≤ m → drop n (zeros m) ≡ zeros (m - n)
 zeros_behind n m l =

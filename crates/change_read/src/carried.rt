@@ -32,18 +32,16 @@ pub fn target_of(row: &[u8]) -> u16
 }
 
 // The list that an entry is added to or removed from.
+#[tactic(auto, unfolding(crate::specs::Carried::open_list))]
 pub fn list_of(row: &[u8]) -> OpenList
     requires { entry_width ≤ length row.now }
     ensures { result ≡ list_of row.now }
 {
-    let tag = byte_at(row, LIST);
-    if tag == OPTIONAL_LIST {
-        return OpenList::Optional;
+    match byte_at(row, LIST) {
+        OPTIONAL_LIST => OpenList::Optional,
+        AUXILIARY_LIST => OpenList::Auxiliary,
+        _ => OpenList::Superior,
     }
-    if tag == AUXILIARY_LIST {
-        return OpenList::Auxiliary;
-    }
-    OpenList::Superior
 }
 
 // That entry.

@@ -6,9 +6,9 @@ ghost use Rattle.change_read.specs.Reading.{change_of, format_of, read_value, re
 
 use reader::step_at;
 use rows_format::format::Format;
-use rows_read::read::{RowRead, place_of, read_row};
+use rows_read::read::read_row;
 use schema::number::TableId;
-use wire::FieldRead;
+use wire::BadField;
 
 // What a change asks for.
 #[derive(Clone, Copy)]
@@ -20,20 +20,6 @@ pub enum Change {
     Reactivate(TableId),
     AddEntry,
     RemoveEntry,
-}
-
-// What a tag stands for where a change's is meant.
-#[derive(Clone, Copy)]
-pub enum Tagged {
-    Known(Change),
-    Unknown,
-}
-
-// What reading a change comes to: what it asks for, or the place of the first field that cannot be accepted, of a missing field or of leftover bytes.
-#[derive(Clone, Copy)]
-pub enum ChangeRead {
-    Read(Change),
-    Bad { at: usize },
 }
 
 // The tags of changes.
@@ -59,27 +45,29 @@ pub const ADD_ENTRY: u8 = 0x49;
 
 pub const REMOVE_ENTRY: u8 = 0x4A;
 
-// The change that a tag stands for.
-fn change_of(tag: u8) -> Tagged
+// The change that a tag stands for, if it is that of one.
+#[tactic(auto, unfolding(crate::specs::Reading::change_of))]
+fn change_of(tag: u8) -> Option<Change>
     ensures { result ≡ change_of tag }
 {
     match tag {
-        ADD_ATTRIBUTE => Tagged::Known(Change::Add(TableId::Attributes)),
-        ADD_CLASS => Tagged::Known(Change::Add(TableId::Classes)),
-        SET_RANGE => Tagged::Known(Change::SetRange),
-        RENAME_ATTRIBUTE => Tagged::Known(Change::Rename(TableId::Attributes)),
-        RENAME_CLASS => Tagged::Known(Change::Rename(TableId::Classes)),
-        DEACTIVATE_ATTRIBUTE => Tagged::Known(Change::Deactivate(TableId::Attributes)),
-        DEACTIVATE_CLASS => Tagged::Known(Change::Deactivate(TableId::Classes)),
-        REACTIVATE_ATTRIBUTE => Tagged::Known(Change::Reactivate(TableId::Attributes)),
-        REACTIVATE_CLASS => Tagged::Known(Change::Reactivate(TableId::Classes)),
-        ADD_ENTRY => Tagged::Known(Change::AddEntry),
-        REMOVE_ENTRY => Tagged::Known(Change::RemoveEntry),
-        _ => Tagged::Unknown,
+        ADD_ATTRIBUTE => Some(Change::Add(TableId::Attributes)),
+        ADD_CLASS => Some(Change::Add(TableId::Classes)),
+        SET_RANGE => Some(Change::SetRange),
+        RENAME_ATTRIBUTE => Some(Change::Rename(TableId::Attributes)),
+        RENAME_CLASS => Some(Change::Rename(TableId::Classes)),
+        DEACTIVATE_ATTRIBUTE => Some(Change::Deactivate(TableId::Attributes)),
+        DEACTIVATE_CLASS => Some(Change::Deactivate(TableId::Classes)),
+        REACTIVATE_ATTRIBUTE => Some(Change::Reactivate(TableId::Attributes)),
+        REACTIVATE_CLASS => Some(Change::Reactivate(TableId::Classes)),
+        ADD_ENTRY => Some(Change::AddEntry),
+        REMOVE_ENTRY => Some(Change::RemoveEntry),
+        _ => None,
     }
 }
 
 // What the value of a change is read as.
+#[tactic(auto, unfolding(crate::specs::Reading::format_of))]
 fn format_of(change: Change) -> Format
     ensures { result ≡ format_of change }
 {
@@ -94,7 +82,7 @@ fn format_of(change: Change) -> Format
     }
 }
 
-// The value of a change, and nothing behind it: last says that the bytes end there.
+// The value of a change, and nothing behind it: last says that the bytes end there. Leftover bytes are told by their start.
 fn read_value(
     change: Change,
     s: &[u8],
@@ -102,32 +90,29 @@ fn read_value(
     stop: usize,
     last: bool,
     row: &mut [u8],
-) -> ChangeRead
+) -> Result<Change, BadField>
     requires { (start ≤ stop) × (stop ≤ length s.now) × (row.old ≡ zeros class_width) × (last ≡ eqb stop (length s.now)) }
     ensures { Came result row.new (read_value change s.now start stop) }
 {
-    let read = read_row(format_of(change), s, start, stop, row);
-    let RowRead::Read = read else {
-        return ChangeRead::Bad { at: place_of(read) };
-    };
+    read_row(format_of(change), s, start, stop, row)?;
     if last {
-        return ChangeRead::Read(change);
+        return Ok(change);
     }
-    ChangeRead::Bad { at: stop }
+    Err(BadField { at: stop })
 }
 
-// Reads a change into a scratch row of zeros. It then holds what the change carries; after a refusal, what was stored before it.
-pub fn read_change(s: &[u8], row: &mut [u8]) -> ChangeRead
+// Reads a change into a scratch row of zeros: what it asks for, or the place of the first field that cannot be accepted, of a missing field or of leftover
+// bytes. The row then holds what the change carries; after a refusal, what was stored before it.
+pub fn read_change(s: &[u8], row: &mut [u8]) -> Result<Change, BadField>
     requires { row.old ≡ zeros class_width }
     ensures { Came result row.new (read_change s.now) }
 {
     let step = step_at(s, 0);
-    let field = step.field;
-    let FieldRead::Field { tag, start, end } = field else {
-        return ChangeRead::Bad { at: 0 };
+    let Some(field) = step.field? else {
+        return Err(BadField { at: 0 });
     };
-    let Tagged::Known(change) = change_of(tag) else {
-        return ChangeRead::Bad { at: 0 };
+    let Some(change) = change_of(field.tag) else {
+        return Err(BadField { at: 0 });
     };
-    read_value(change, s, start, end, step.last, row)
+    read_value(change, s, field.start, field.end, step.last, row)
 }

@@ -13,7 +13,6 @@ use Rattle.schema.specs.declared.number.TableId.{TableId}
 use Rattle.schema.specs.Layout.{row_width, rows_at}
 use Rattle.schema.specs.Numbers.{limit, number_read, table_of, number_of}
 use Rattle.schema.specs.NumbersLaws.{id_table, id_number, number_beyond}
-use Rattle.schema.specs.declared.number.NumberRead.TheVariants.{Beyond}
 use Rattle.schema.specs.declared.number.RowId.{RowId}
 use Rattle.schema.specs.Store.{count_in, table_in}
 use Rattle.change_rows.specs.Stores.{Applicable, row_changed, store_after}
@@ -23,6 +22,7 @@ use Rattle.prelude.specs.LentLaws.{lent_back}
 use Rattle.prelude.specs.Part.{part, splice}
 use Rattle.prelude.specs.PartLaws.{part_cut, part_length, row_fits}
 use Rattle.tables.specs.Filled.{plus_in, put_in}
+use Rattle.std.specs.Prelude.{None}
 
 -- the row of a change that has a target
 pub row_target : (change : Change) (r s : List ℕ) {id : RowId} → is_addition change ≡ false → id ≡ row_changed change r s
@@ -33,7 +33,7 @@ row_target change r s fixed e = (
 )
 
 -- its number is never beyond the limit
-pub target_read : (change : Change) (r s : List ℕ) → Applicable change r s → is_addition change ≡ false → number_read (table_for change) (target_of r) ≡ Beyond
+pub target_read : (change : Change) (r s : List ℕ) → Applicable change r s → is_addition change ≡ false → number_read (table_for change) (target_of r) ≡ None
     → ⊥
 target_read change r s ok fixed e = omega (arith, ok.within fixed, number_beyond (table_for change) (target_of r) e)
 

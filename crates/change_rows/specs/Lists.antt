@@ -3,12 +3,13 @@ use Rattle.std.specs.Prelude.{List, ℕ}
 use Rattle.prelude.specs.Part.{part}
 use Rattle.schema.specs.Layout.{attribute_set, class_set, fixed_optional_at, open_optional_at, fixed_auxiliary_at, open_auxiliary_at, fixed_superior_at, open_superior_at}
 use Rattle.schema.specs.Numbers.{number_read}
-use Rattle.schema.specs.declared.number.NumberRead.{NumberRead}
 use Rattle.schema.specs.declared.number.TableId.{TableId}
 use Rattle.schema.specs.declared.number.TableId.TheVariants.{Attributes, Classes}
 use Rattle.change_read.specs.Carried.{list_of, entry_of}
 use Rattle.change_read.specs.declared.carried.OpenList.{OpenList}
 use Rattle.change_read.specs.declared.carried.OpenList.TheVariants.{Optional, Auxiliary, Superior}
+use Rattle.schema.specs.declared.number.RowId.{RowId}
+use Rattle.std.specs.Prelude.{Option}
 
 -- the table whose rows it names
 abbrev pub list_table : OpenList → TableId
@@ -40,5 +41,5 @@ abbrev pub fixed_of : OpenList → List ℕ → List ℕ
 fixed_of list row = part (fixed_at list) (list_width list) row
 
 -- the entry that a list change carries, "any u16", where a row of the list's table is meant
-abbrev pub entry_read : List ℕ → NumberRead
+abbrev pub entry_read : List ℕ → Option RowId
 entry_read r = number_read (list_table (list_of r)) (entry_of r)

@@ -6,7 +6,6 @@ use Rattle.prelude.specs.PartLaws.{part_short}
 use Rattle.prelude.specs.SaysLaws.{says_false}
 use Rattle.sets.specs.Sets.{member}
 use Rattle.sets.specs.SetsLaws.{bit_past, says_member}
-use Rattle.schema.specs.declared.number.NumberRead.TheVariants.{Row, Beyond}
 use Rattle.schema.specs.declared.number.RowId.{RowId}
 use Rattle.schema.specs.Numbers.{limit, number_of, table_of}
 use Rattle.schema.specs.NumbersLaws.{id_number, id_table, number_beyond, number_is}
@@ -14,6 +13,7 @@ use Rattle.change_read.specs.Carried.{entry_of, list_of}
 use Rattle.change_read.specs.declared.carried.OpenList.{OpenList}
 use Rattle.change_read.specs.declared.carried.OpenList.TheVariants.{Optional, Auxiliary, Superior}
 use Rattle.change_rows.specs.Lists.{entry_read, list_table, list_width}
+use Rattle.std.specs.Prelude.{Some, None}
 
 -- a list has a bit for each row that its table can hold
 list_bits : (list : OpenList) → list_width list * 8 ≡ limit (list_table list)
@@ -27,7 +27,7 @@ pub record EntryIs (r : List ℕ) (id : RowId) : Type 0 where
   pub number : number_of id ≡ entry_of r
   pub below : number_of id < limit (table_of id)
 
-pub entry_is : (r : List ℕ) {id : RowId} → entry_read r ≡ Row id → EntryIs r id
+pub entry_is : (r : List ℕ) {id : RowId} → entry_read r ≡ Some id → EntryIs r id
 entry_is r {id} e =
     let t = list_table (list_of r) in
     let w = number_is t (entry_of r) e in
@@ -36,7 +36,7 @@ entry_is r {id} e =
     record { table = table; number = number; below = omega (arith, number, w.1, ap limit table) }
 
 -- a list that stands anywhere in a row
-module _ (r : List ℕ) (e : entry_read r ≡ Beyond) (at : ℕ) (row : List ℕ) where
+module _ (r : List ℕ) (e : entry_read r ≡ None) (at : ℕ) (row : List ℕ) where
   pub entry_beyond : length (part at (list_width (list_of r)) row) * 8 ≤ entry_of r
   entry_beyond =
       omega (

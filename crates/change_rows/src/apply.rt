@@ -11,7 +11,7 @@ use change_read::carried::{added_row, target_of};
 use change_read::read::Change;
 use prelude::part::{copy_padded, part_of};
 use schema::layout::row_width;
-use schema::number::{NumberRead, RowId, number_read, row_id, table_of};
+use schema::number::{RowId, number_read, row_id, table_of};
 use schema::store::{row, row_count, row_start};
 use tables::store::{push_row, put_row, write_count};
 
@@ -24,7 +24,7 @@ pub fn row_changed(change: Change, scratch: &[u8], store: &[u8]) -> RowId
     if is_addition(change) {
         return row_id(table, row_count(table, store));
     }
-    let NumberRead::Row(id) = number_read(table, target_of(scratch) as usize) else {
+    let Some(id) = number_read(table, target_of(scratch) as usize) else {
         return row_id(table, 0);
     };
     id

@@ -1,5 +1,5 @@
 // The row that a change is about, as the change leaves it.
-ghost use Rattle.std.specs.Prelude.{false, ◌≡◌, length};
+ghost use Rattle.std.specs.Prelude.{false, if◌then◌else◌, ◌≡◌, length};
 ghost use Rattle.schema.specs.Layout.{class_width, row_width};
 ghost use Rattle.change_rows.specs.Rows.{table_for, is_addition, edited_row};
 
@@ -8,7 +8,7 @@ use change_read::carried::{list_of, new_name, new_range};
 use change_read::read::Change;
 use prelude::part::put_bytes;
 use schema::layout::{DEFUNCT, NAME, RANGE_LOWER};
-use schema::number::{NumberRead, TableId, number_of};
+use schema::number::{TableId, number_of};
 use sets::{insert, remove};
 
 // The table of the row that a change is about.
@@ -16,13 +16,12 @@ pub fn table_for(change: Change) -> TableId
     ensures { result ≡ table_for change }
 {
     match change {
-        Change::Add(table) => table,
+        Change::Add(table)
+        | Change::Rename(table)
+        | Change::Deactivate(table)
+        | Change::Reactivate(table) => table,
         Change::SetRange => TableId::Attributes,
-        Change::Rename(table) => table,
-        Change::Deactivate(table) => table,
-        Change::Reactivate(table) => table,
-        Change::AddEntry => TableId::Classes,
-        Change::RemoveEntry => TableId::Classes,
+        Change::AddEntry | Change::RemoveEntry => TableId::Classes,
     }
 }
 
@@ -30,43 +29,25 @@ pub fn table_for(change: Change) -> TableId
 pub fn is_addition(change: Change) -> bool
     ensures { result ≡ is_addition change }
 {
-    match change {
-        Change::Add(_) => true,
-        Change::SetRange => false,
-        Change::Rename(_) => false,
-        Change::Deactivate(_) => false,
-        Change::Reactivate(_) => false,
-        Change::AddEntry => false,
-        Change::RemoveEntry => false,
+    matches!(change, Change::Add(_))
+}
+
+// An entry more in an open list of a class row, or one less. For one beyond the limit no list has a bit.
+fn edit_entry(scratch: &[u8], row: &mut [u8], there: bool)
+    requires { (length scratch.now ≡ class_width) × (length row.old ≡ class_width) }
+    ensures { row.new ≡ edited_row (if there then Change.AddEntry else Change.RemoveEntry) scratch.now row.old }
+{
+    let Some(id) = entry_read(scratch) else {
+        return;
+    };
+    let list = list_of(scratch);
+    let at = open_at(list);
+    let end = at + list_width(list);
+    if there {
+        insert(&mut row[at..end], number_of(id));
+    } else {
+        remove(&mut row[at..end], number_of(id));
     }
-}
-
-// An entry more in an open list of a class row. For one beyond the limit no list has a bit.
-fn add_entry(scratch: &[u8], row: &mut [u8])
-    requires { (length scratch.now ≡ class_width) × (length row.old ≡ class_width) }
-    ensures { row.new ≡ edited_row Change.AddEntry scratch.now row.old }
-{
-    let NumberRead::Row(id) = entry_read(scratch) else {
-        return;
-    };
-    let list = list_of(scratch);
-    let at = open_at(list);
-    let end = at + list_width(list);
-    insert(&mut row[at..end], number_of(id));
-}
-
-// An entry less.
-fn remove_entry(scratch: &[u8], row: &mut [u8])
-    requires { (length scratch.now ≡ class_width) × (length row.old ≡ class_width) }
-    ensures { row.new ≡ edited_row Change.RemoveEntry scratch.now row.old }
-{
-    let NumberRead::Row(id) = entry_read(scratch) else {
-        return;
-    };
-    let list = list_of(scratch);
-    let at = open_at(list);
-    let end = at + list_width(list);
-    remove(&mut row[at..end], number_of(id));
 }
 
 // The row of a change that has a target.
@@ -84,7 +65,7 @@ pub fn edit_row(change: Change, scratch: &[u8], row: &mut [u8])
         }
         Change::Deactivate(_) => row[DEFUNCT] = 1,
         Change::Reactivate(_) => row[DEFUNCT] = 0,
-        Change::AddEntry => add_entry(scratch, row),
-        Change::RemoveEntry => remove_entry(scratch, row),
+        Change::AddEntry => edit_entry(scratch, row, true),
+        Change::RemoveEntry => edit_entry(scratch, row, false),
     }
 }

@@ -8,7 +8,7 @@ use schema::layout::{
     ATTRIBUTE_SET, CLASS_SET, FIXED_AUXILIARY, FIXED_OPTIONAL, FIXED_SUPERIOR, OPEN_AUXILIARY,
     OPEN_OPTIONAL, OPEN_SUPERIOR,
 };
-use schema::number::{NumberRead, TableId, number_read};
+use schema::number::{RowId, TableId, number_read};
 
 // The table whose rows a list names.
 pub fn list_table(list: OpenList) -> TableId
@@ -16,8 +16,7 @@ pub fn list_table(list: OpenList) -> TableId
 {
     match list {
         OpenList::Optional => TableId::Attributes,
-        OpenList::Auxiliary => TableId::Classes,
-        OpenList::Superior => TableId::Classes,
+        OpenList::Auxiliary | OpenList::Superior => TableId::Classes,
     }
 }
 
@@ -32,7 +31,7 @@ pub fn open_at(list: OpenList) -> usize
     }
 }
 
-// Where the fixed list of the same kind stands.
+// Where the fixed list of the same kind stands. One function of both places would be as long, and ask one argument more.
 pub fn fixed_at(list: OpenList) -> usize
     ensures { result ≡ fixed_at list }
 {
@@ -49,13 +48,12 @@ pub fn list_width(list: OpenList) -> usize
 {
     match list {
         OpenList::Optional => ATTRIBUTE_SET,
-        OpenList::Auxiliary => CLASS_SET,
-        OpenList::Superior => CLASS_SET,
+        OpenList::Auxiliary | OpenList::Superior => CLASS_SET,
     }
 }
 
 // The entry that a list change names, as a row of the list's table, there or not.
-pub fn entry_read(scratch: &[u8]) -> NumberRead
+pub fn entry_read(scratch: &[u8]) -> Option<RowId>
     requires { entry_width ≤ length scratch.now }
     ensures { result ≡ entry_read scratch.now }
 {

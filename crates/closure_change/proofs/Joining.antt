@@ -7,8 +7,8 @@ use native.Mathlib.Numerals.{add-one}
 use native.Mathlib.Omega.{arith}
 use lib.ListN.{length, get_or, take, drop, length-append}
 use Rattle.prelude.specs.Below.{any_below}
-use Rattle.prelude.specs.Part.{splice, zeros, padded}
-use Rattle.prelude.specs.PartLaws.{part_length, zeros_length, padded_full}
+use Rattle.prelude.specs.Part.{splice, zeros}
+use Rattle.prelude.specs.PartLaws.{part_length, zeros_length}
 use Rattle.prelude.specs.SpliceLaws.{splice_all}
 use Rattle.prelude.specs.Written.{WrittenAt}
 use Rattle.prelude.specs.WrittenLaws.{written_length, written_then}
@@ -64,16 +64,14 @@ module _ (t : Table) (closure : List ℕ) (n : ℕ) where
 
 -- ---- class n itself, and its own lists, written one after the other
 
-module _ (n : ℕ) (row out₀ : List ℕ) {empty reached mandatory fixed copied other optional : List ℕ} (long : length out₀ ≡ closure_width)
+module _ (n : ℕ) (row out₀ : List ℕ) {empty reached mandatory fixed other optional : List ℕ} (long : length out₀ ≡ closure_width)
     (wide : length row ≡ class_width) (none : empty ≡ zeros class_set) (r : reached ≡ with_member n empty) (m : mandatory ≡ mandatory_of row)
-    (f : fixed ≡ fixed_optional_of row) (c : copied ≡ padded attribute_set fixed) (o : other ≡ open_optional_of row) (j : optional ≡ union copied other) where
+    (f : fixed ≡ fixed_optional_of row) (o : other ≡ open_optional_of row) (j : optional ≡ union fixed other) where
   is_reached : reached ≡ with_member n (zeros class_set)
   is_reached = r ∙ ap (with_member n) none
 
   is_optional : optional ≡ union (fixed_optional_of row) (open_optional_of row)
-  is_optional =
-      let e : copied ≡ fixed_optional_of row = c ∙ padded_full attribute_set fixed (ap length f ∙ part_length _ attribute_set row (omega arith)) ∙ f in
-      j ∙ ap₂ union e o
+  is_optional = j ∙ ap₂ union f o
 
   reached_long : length reached ≡ class_set
   reached_long = ap length is_reached ∙ with_length n (zeros class_set) ∙ zeros_length class_set

@@ -1,7 +1,8 @@
 -- The closure store after a change, from the sets that it kept. Document 01: "An added class gets the union of its superclass's and auxiliaries' kept
 -- sets, its own lists and itself. An added auxiliary or optional attribute is joined in for every class whose kept reach holds the target. After a
 -- removal those are worked out afresh from the rows".
-use Rattle.std.specs.Prelude.{ltb, ℕ, ◌*◌, Bool, ◌&&◌, cond, List, ◌++◌}
+use Rattle.std.specs.Prelude.{ltb, ℕ, ◌*◌, Bool, ◌&&◌, ◌≡◌, cond, List, ◌++◌}
+use denote.Ref.{MutBor}
 use Rattle.prelude.specs.Below.{any_below}
 use Rattle.prelude.specs.Concat.{concat_below}
 use Rattle.prelude.specs.Part.{part, splice, zeros}
@@ -13,6 +14,10 @@ use Rattle.schema.specs.Store.{Table, closure_at}
 use Rattle.graph.specs.Graph.{closure_row, inherits}
 
 -- ---- every class whose kept reach holds a class
+
+-- a function that is called at a row leaves another
+abbrev pub LeavesRow : (MutBor (List ℕ) → Unit {0} → MutBor (List ℕ) → Type 0) → List ℕ → List ℕ → Type 0
+LeavesRow post old new = (row left : MutBor (List ℕ)) → row.now ≡ old → post row tt left → left.now ≡ new
 
 -- class c is one of n, and its kept reach, of its kept sets, holds class k
 unfoldable pub holds : ℕ → ℕ → ℕ → List ℕ → Bool
@@ -29,10 +34,6 @@ each_holding n k f closure = splice 0 (concat_below class_limit (row_where n k f
 -- sets joined in
 unfoldable pub joined_into : ℕ → ℕ → List ℕ → List ℕ → List ℕ
 joined_into n k more closure = each_holding n k (λ c row. union row more) closure
-
--- sets taken from another closure store
-unfoldable pub taken_from : List ℕ → ℕ → ℕ → List ℕ → List ℕ
-taken_from fresh n k closure = each_holding n k (λ c row. closure_at fresh c) closure
 
 -- sets worked out afresh
 unfoldable pub refreshed_at : Table → ℕ → ℕ → List ℕ → List ℕ

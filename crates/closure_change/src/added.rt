@@ -8,7 +8,8 @@ ghost use Rattle.schema.specs.declared.number.TableId.TheVariants.{Classes};
 ghost use Rattle.graph.specs.Graph.{Readable, inherits as inherits_in};
 ghost use Rattle.closure_change.specs.Kept.{named_sets, own_row, with_new};
 
-use prelude::part::{clear, copy_padded, put_bytes};
+use graph::stages::write_union;
+use prelude::part::{clear, put_bytes};
 use schema::class::{fixed_optional, mandatory, open_optional};
 use schema::layout::{ATTRIBUTE_SET, CLASS_SET, CLOSURE_WIDTH};
 use schema::number::{ClassNumber, class_at};
@@ -21,10 +22,7 @@ fn inherits(classes: &[u8], n: ClassNumber, y: ClassNumber) -> bool
     ensures { result ≡ inherits_in (table_in Classes classes.now) n.0 y.0 }
 {
     let row = class_row(classes, n);
-    if is_superclass(row, y) {
-        return true;
-    }
-    is_listed(ClassList::Auxiliaries, row, y)
+    is_superclass(row, y) || is_listed(ClassList::Auxiliaries, row, y)
 }
 
 // The kept sets of y are joined in, if class n names it.
@@ -47,10 +45,8 @@ fn write_named(classes: &[u8], closure: &[u8], n: ClassNumber, out: &mut [u8])
     ensures { out.new ≡ named_sets (table_in Classes classes.now) closure.now n.0 }
 {
     clear(out);
-    let mut y = 0;
-    while y < ClassNumber::LIMIT {
+    for y in 0..ClassNumber::LIMIT {
         join_named(classes, closure, n, class_at(y), out);
-        y += 1;
     }
 }
 
@@ -62,8 +58,7 @@ fn write_own(row: &[u8], n: ClassNumber, out: &mut [u8])
     let mut reached = [0u8; CLASS_SET];
     sets::insert(&mut reached, n.0);
     let mut optional = [0u8; ATTRIBUTE_SET];
-    copy_padded(&mut optional, fixed_optional(row));
-    sets::join(&mut optional, open_optional(row));
+    write_union(fixed_optional(row), open_optional(row), &mut optional);
     let demanded = put_bytes(&reached, out, 0);
     let allowed = put_bytes(mandatory(row), out, demanded);
     put_bytes(&optional, out, allowed);

@@ -18,9 +18,10 @@ use change_read::carried::{OpenList, list_of, target_of};
 use change_read::read::Change;
 use change_rows::list::entry_read;
 use graph::closure::write_demanded;
-use prelude::part::{clear, copy_padded, part_of, put_bytes, same};
-use schema::layout::{ALLOWED, ATTRIBUTE_SET, CLOSURE_WIDTH, DEMANDED};
-use schema::number::{AttributeNumber, ClassNumber, ClassRead, NumberRead, RowId, TableId};
+use graph::demand::{demand_differs, demanded};
+use prelude::part::{clear, copy_padded, put_bytes};
+use schema::layout::{ALLOWED, ATTRIBUTE_SET, CLOSURE_WIDTH};
+use schema::number::{AttributeNumber, ClassNumber, RowId, TableId};
 use schema::store::closure_row;
 
 // out becomes the kept sets of a class that allows attribute b alone.
@@ -59,20 +60,10 @@ fn join_entry(list: OpenList, entry: RowId, n: usize, k: ClassNumber, closure: &
     requires { (closure_length ≤ length closure.old) × (table_of entry ≡ list_table list) × (number_of entry < limit (table_of entry)) }
     ensures { closure.new ≡ entry_joined list (number_of entry) n k.0 closure.old }
 {
-    match list {
-        OpenList::Optional => {
-            let RowId::Attribute(b) = entry else {
-                return;
-            };
-            join_option(b, n, k, closure)
-        }
-        OpenList::Auxiliary => {
-            let RowId::Class(a) = entry else {
-                return;
-            };
-            join_auxiliary(a, n, k, closure)
-        }
-        OpenList::Superior => {}
+    match (list, entry) {
+        (OpenList::Optional, RowId::Attribute(b)) => join_option(b, n, k, closure),
+        (OpenList::Auxiliary, RowId::Class(a)) => join_auxiliary(a, n, k, closure),
+        _ => {}
     }
 }
 
@@ -83,30 +74,28 @@ pub fn update(change: Change, scratch: &[u8], classes: &[u8], n: usize, closure:
         ≡ closure_after change scratch.now (table_in Classes classes.now) n closure.old }
 {
     match change {
-        Change::Add(table) => match table {
-            TableId::Attributes => {}
-            TableId::Classes => {
-                let ClassRead::Class(c) = ClassNumber::new(n) else {
-                    return;
-                };
-                write_new(classes, c, closure)
-            }
-        },
-        Change::SetRange => {}
-        Change::Rename(_) => {}
-        Change::Deactivate(_) => {}
-        Change::Reactivate(_) => {}
-        Change::AddEntry => {
-            let ClassRead::Class(k) = ClassNumber::new(target_of(scratch) as usize) else {
+        Change::Add(TableId::Classes) => {
+            let Some(c) = ClassNumber::new(n) else {
                 return;
             };
-            let NumberRead::Row(entry) = entry_read(scratch) else {
+            write_new(classes, c, closure)
+        }
+        Change::Add(TableId::Attributes)
+        | Change::SetRange
+        | Change::Rename(_)
+        | Change::Deactivate(_)
+        | Change::Reactivate(_) => {}
+        Change::AddEntry => {
+            let Some(k) = ClassNumber::new(target_of(scratch) as usize) else {
+                return;
+            };
+            let Some(entry) = entry_read(scratch) else {
                 return;
             };
             join_entry(list_of(scratch), entry, n, k, closure);
         }
         Change::RemoveEntry => {
-            let ClassRead::Class(k) = ClassNumber::new(target_of(scratch) as usize) else {
+            let Some(k) = ClassNumber::new(target_of(scratch) as usize) else {
                 return;
             };
             refresh_holding(classes, n, k, closure);
@@ -121,14 +110,14 @@ pub fn demand_before(change: Change, scratch: &[u8], classes: &[u8], out: &mut [
     ensures { out.new ≡ demand_before change scratch.now (table_in Classes classes.now) out.old }
 {
     match change {
-        Change::Add(_) => {}
-        Change::SetRange => {}
-        Change::Rename(_) => {}
-        Change::Deactivate(_) => {}
-        Change::Reactivate(_) => {}
-        Change::AddEntry => {}
+        Change::Add(_)
+        | Change::SetRange
+        | Change::Rename(_)
+        | Change::Deactivate(_)
+        | Change::Reactivate(_)
+        | Change::AddEntry => {}
         Change::RemoveEntry => {
-            let ClassRead::Class(k) = ClassNumber::new(target_of(scratch) as usize) else {
+            let Some(k) = ClassNumber::new(target_of(scratch) as usize) else {
                 return;
             };
             write_demanded(classes, k, out);
@@ -141,10 +130,7 @@ fn auxiliary_demands(a: ClassNumber, k: ClassNumber, closure: &[u8]) -> bool
     requires { (closure_length ≤ length closure.now) × (a.0 < class_limit) × (k.0 < class_limit) }
     ensures { result ≡ not (subset (demanded_in closure.now a.0) (demanded_in closure.now k.0)) }
 {
-    !sets::is_subset(
-        part_of(closure_row(closure, a), DEMANDED, ATTRIBUTE_SET),
-        part_of(closure_row(closure, k), DEMANDED, ATTRIBUTE_SET),
-    )
+    !sets::is_subset(demanded(closure, a), demanded(closure, k))
 }
 
 // Rule 30 for an entry added to a list of class k.
@@ -153,26 +139,10 @@ fn entry_demands(list: OpenList, entry: RowId, k: ClassNumber, closure: &[u8]) -
         × (k.0 < class_limit) }
     ensures { result ≡ entry_demands list (number_of entry) k.0 closure.now }
 {
-    match list {
-        OpenList::Optional => false,
-        OpenList::Auxiliary => {
-            let RowId::Class(a) = entry else {
-                return false;
-            };
-            auxiliary_demands(a, k, closure)
-        }
-        OpenList::Superior => false,
+    match (list, entry) {
+        (OpenList::Auxiliary, RowId::Class(a)) => auxiliary_demands(a, k, closure),
+        _ => false,
     }
-}
-
-// Whether class k demands other attributes than before.
-fn demand_differs(classes: &[u8], k: ClassNumber, before: &[u8]) -> bool
-    requires { Readable classes.now }
-    ensures { result ≡ not (same_bytes before.now (demanded_set (table_in Classes classes.now) k.0)) }
-{
-    let mut fresh = [0u8; ATTRIBUTE_SET];
-    write_demanded(classes, k, &mut fresh);
-    !same(before, &fresh)
 }
 
 // Rule 30 of a quick change; before is what its target demanded, where it is a removal.
@@ -188,22 +158,22 @@ pub fn demand_changes(
         closure.now }
 {
     match change {
-        Change::Add(_) => false,
-        Change::SetRange => false,
-        Change::Rename(_) => false,
-        Change::Deactivate(_) => false,
-        Change::Reactivate(_) => false,
+        Change::Add(_)
+        | Change::SetRange
+        | Change::Rename(_)
+        | Change::Deactivate(_)
+        | Change::Reactivate(_) => false,
         Change::AddEntry => {
-            let ClassRead::Class(k) = ClassNumber::new(target_of(scratch) as usize) else {
+            let Some(k) = ClassNumber::new(target_of(scratch) as usize) else {
                 return false;
             };
-            let NumberRead::Row(entry) = entry_read(scratch) else {
+            let Some(entry) = entry_read(scratch) else {
                 return false;
             };
             entry_demands(list_of(scratch), entry, k, closure)
         }
         Change::RemoveEntry => {
-            let ClassRead::Class(k) = ClassNumber::new(target_of(scratch) as usize) else {
+            let Some(k) = ClassNumber::new(target_of(scratch) as usize) else {
                 return false;
             };
             demand_differs(classes, k, before)

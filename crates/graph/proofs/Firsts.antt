@@ -63,7 +63,7 @@ module _ (s₀ : List ℕ) (n : ℕ) where
       each : (j : ℕ) → j < class_set * 8 → ltb j n || leb k j ≡ ltb j n
       each j m = says_same (says_iff (says_or (says_lt j n) (says_le k j)) (⊎_elim (λ l. l) (λ l. absurd (omega (arith, l, m))), λ l. inl l)) (says_lt j n)
 
--- ---- one set of a row copied, and another joined in
+-- ---- one set of a row copied, and two joined
 
 module _ (size at : ℕ) (row out : List ℕ) {fixed copied : List ℕ} (fits : at + size ≤ length row) (long : length out ≡ size)
     (f : fixed ≡ part at size row) (c : copied ≡ padded (length out) fixed) where
@@ -80,16 +80,12 @@ module _ (size at : ℕ) (row out : List ℕ) {fixed copied : List ℕ} (fits : 
   copied_set b = is_set copied size (member (part at size row)) copied_length b
       (λ k l. bit_flag copied k ∙ ap (λ (s : List ℕ). flag (member s k)) copied_is)
 
-  module _ (at' : ℕ) {other : List ℕ} (fits' : at' + size ≤ length row) (o : other ≡ part at' size row) where
-    pub other_length : length other ≡ length copied
-    other_length = ap length o ∙ part_length at' size row fits' ∙ sym copied_length
-
-    pub joined_is : (joined : List ℕ) → joined ≡ union copied other
-        → joined ≡ set_of size (λ k. member (part at size row) k || member (part at' size row) k)
-    unfolding union
-    joined_is joined j =
-        j ∙ ap₂ (λ (x y : List ℕ). set_of (length x) (λ k. member x k || member y k)) copied_is o
-        ∙ ap (λ (m : ℕ). set_of m (λ k. member (part at size row) k || member (part at' size row) k)) (part_length at size row fits)
+-- two sets of a row joined
+pub union_is : (size at at' : ℕ) (row : List ℕ) → at + size ≤ length row
+    → union (part at size row) (part at' size row) ≡ set_of size (λ k. member (part at size row) k || member (part at' size row) k)
+unfolding union
+union_is size at at' row fits =
+    ap (λ (m : ℕ). set_of m (λ k. member (part at size row) k || member (part at' size row) k)) (part_length at size row fits)
 
 -- ---- what a class names, and itself
 

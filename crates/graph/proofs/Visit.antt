@@ -27,10 +27,9 @@ use Rattle.graph.specs.WalkLaws.{widen}
 use Rattle.graph.specs.Graph.{Edge, Reaches, inherits, reaches}
 use Rattle.graph.specs.GraphLaws.{reach_below, says_reaches}
 use Rattle.graph.specs.Visit.{avoiding, reaches_past, after_visit, after_walk, unvisited_in, first_class, next_unvisited}
-use Rattle.graph.specs.declared.reach.NextClass.{NextClass}
-use Rattle.graph.specs.declared.reach.NextClass.TheVariants.{Class, Nothing}
 use Rattle.graph.proofs.Next.{Found, class_is, none_is}
 use Rattle.graph.proofs.Past.{Past, Added, says_avoiding, past_added, past_on, visit_new, walk_more}
+use Rattle.std.specs.Prelude.{Option, Some, None}
 
 -- a set of 16 bytes
 pub record ClassBytes (b : List ℕ) : Type 0 where
@@ -285,11 +284,11 @@ module _ (t : Table) (c i : ℕ) (b : List ℕ) where
   abbrev pub next_test : ℕ → Bool
   next_test = from i (λ x. lists Auxiliaries (t.row c) x && not (member b x))
 
-  pub next_found : (d : ClassNumber) → Class d ≡ next_unvisited t (member b) c i → Found t.count next_test d.0
+  pub next_found : (d : ClassNumber) → Some d ≡ next_unvisited t (member b) c i → Found t.count next_test d.0
   unfolding next_unvisited
   next_found d e = class_is t.count next_test d e
 
-  pub next_none_left : Nothing ≡ next_unvisited t (member b) c i → (d : ℕ) → d < t.count → next_test d ≡ false
+  pub next_none_left : None ≡ next_unvisited t (member b) c i → (d : ℕ) → d < t.count → next_test d ≡ false
   unfolding next_unvisited
   next_none_left e = none_is t.count next_test e
 
@@ -297,7 +296,7 @@ module _ (t : Table) (c i : ℕ) (b : List ℕ) where
   found_late d f = ((says_and (says_le i d) (says_test (lists Auxiliaries (t.row c) d && not (member b d)))).holds f.passes).0
 
   -- the search over c's two lists is the search for c's next auxiliary
-  pub next_searched : (r : NextClass) (n : ℕ) (row fixed other : List ℕ) → row ≡ t.row c → n ≡ t.count → fixed ≡ fixed_auxiliary_of row → other
+  pub next_searched : (r : Option ClassNumber) (n : ℕ) (row fixed other : List ℕ) → row ≡ t.row c → n ≡ t.count → fixed ≡ fixed_auxiliary_of row → other
       ≡ open_auxiliary_of row
       → r ≡ first_class n (from i (unvisited_in fixed other b)) → r ≡ next_unvisited t (member b) c i
   unfolding next_unvisited unvisited_in lists

@@ -9,6 +9,7 @@ pub mod ChangeLaws
 pub mod Visit
 pub mod Collect
 pub mod Stages
+pub mod Rewrite
 pub mod Depth
 pub mod DepthLaws
 pub mod Changes

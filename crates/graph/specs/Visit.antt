@@ -6,9 +6,9 @@ use Rattle.sets.specs.Sets.{member, from}
 use Rattle.schema.specs.Store.{Table}
 use Rattle.tables.specs.Named.{lists}
 use Rattle.tables.specs.declared.named.ClassList.TheVariants.{Auxiliaries}
-use Rattle.graph.specs.declared.reach.NextClass.{NextClass}
-use Rattle.graph.specs.declared.reach.NextClass.TheVariants.{Class, Nothing}
 use Rattle.graph.specs.Graph.{reaches_by, inherits}
+use Rattle.schema.specs.declared.number.ClassNumber.{ClassNumber}
+use Rattle.std.specs.Prelude.{Option, Some, None}
 
 -- e between classes that are not in s
 unfoldable pub avoiding : (ℕ → Bool) → (ℕ → ℕ → Bool) → ℕ → ℕ → Bool
@@ -33,9 +33,9 @@ unfoldable pub unvisited_in : List ℕ → List ℕ → List ℕ → ℕ → Boo
 unvisited_in fixed other seen d = (member fixed d || member other d) && not (member seen d)
 
 -- the first number below n that passes p
-unfoldable pub first_class : ℕ → (ℕ → Bool) → NextClass
-first_class n p = cond (any_below n p) (Class (record { 0 = first_below n p })) Nothing
+unfoldable pub first_class : ℕ → (ℕ → Bool) → Option ClassNumber
+first_class n p = cond (any_below n p) (Some (record { 0 = first_below n p })) None
 
 -- the first auxiliary of c from number i on that has a row and is not visited
-unfoldable pub next_unvisited : Table → (ℕ → Bool) → ℕ → ℕ → NextClass
+unfoldable pub next_unvisited : Table → (ℕ → Bool) → ℕ → ℕ → Option ClassNumber
 next_unvisited t s c i = first_class t.count (from i (λ d. lists Auxiliaries (t.row c) d && not (s d)))

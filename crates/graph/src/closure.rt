@@ -31,10 +31,8 @@ pub fn refresh_all(classes: &[u8], closure: &mut [u8])
 {
     write_firsts(classes, closure);
     let n = row_count(TableId::Classes, classes);
-    let mut k = 0;
-    while k < n {
+    for k in 0..n {
         pass_on(closure, n, class_at(k));
-        k += 1;
     }
 }
 

@@ -31,11 +31,8 @@ fn add_all(classes: &[u8], chosen: Visited, at: usize, out: &mut [u8])
     requires attribute_set_bound { (at + attribute_set ≤ class_width) × (length out.old ≡ attribute_set) }
     ensures { out.new ≡ plus out.old (collected (table_in Classes classes.now) (member chosen.bits) at) }
 {
-    let n = row_count(TableId::Classes, classes);
-    let mut k = 0;
-    while k < n {
+    for k in 0..row_count(TableId::Classes, classes) {
         add_chosen(classes, chosen, at, class_at(k), out);
-        k += 1;
     }
 }
 

@@ -13,30 +13,31 @@ use schema::layout::{ATTRIBUTE_SET, DEMANDED};
 use schema::number::{ClassNumber, class_at};
 use schema::store::closure_row;
 
-// Whether the kept mandatory set of a class is another than that worked out afresh.
-fn demand_differs(classes: &[u8], closure: &[u8], c: ClassNumber) -> bool
-    requires { Readable classes.now × (closure_length ≤ length closure.now) × (c.0 < class_limit) }
-    ensures { result ≡ not (same_bytes (demanded_in closure.now c.0) (demanded_set (table_in Classes classes.now) c.0)) }
+// The kept mandatory set of a class.
+pub fn demanded(closure: &[u8], c: ClassNumber) -> &[u8]
+    requires { (closure_length ≤ length closure.now) × (c.0 < class_limit) }
+    ensures { result.now ≡ demanded_in closure.now c.0 }
+{
+    part_of(closure_row(closure, c), DEMANDED, ATTRIBUTE_SET)
+}
+
+// Whether a class demands, worked out afresh, other attributes than it did.
+pub fn demand_differs(classes: &[u8], c: ClassNumber, before: &[u8]) -> bool
+    requires { Readable classes.now }
+    ensures { result ≡ not (same_bytes before.now (demanded_set (table_in Classes classes.now) c.0)) }
 {
     let mut fresh = [0u8; ATTRIBUTE_SET];
     write_demanded(classes, c, &mut fresh);
-    !same(
-        part_of(closure_row(closure, c), DEMANDED, ATTRIBUTE_SET),
-        &fresh,
-    )
+    !same(before, &fresh)
 }
 
-// Whether that of one of the first n classes is.
+// Whether one of the first n classes demands other attributes than its kept mandatory set has.
 pub fn demands_differ(classes: &[u8], closure: &[u8], n: usize) -> bool
     requires { Readable classes.now × (closure_length ≤ length closure.now) × (n ≤ class_limit) }
     ensures { result ≡ demands_differ (table_in Classes classes.now) closure.now n }
 {
-    let mut c = 0;
-    while c < n {
-        if demand_differs(classes, closure, class_at(c)) {
-            return true;
-        }
-        c += 1;
-    }
-    false
+    (0..n).any(|k| {
+        let c = class_at(k);
+        demand_differs(classes, c, demanded(closure, c))
+    })
 }

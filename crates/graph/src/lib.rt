@@ -6,5 +6,6 @@ pub mod collect;
 pub mod demand;
 pub mod depth;
 pub mod reach;
+pub mod rewrite;
 pub mod stages;
 pub mod visited;

@@ -10,47 +10,44 @@ ghost use Rattle.graph.specs.Visit.{after_visit, after_walk, unvisited_in, first
 
 use crate::visited::Visited;
 use schema::class::{fixed_auxiliary, open_auxiliary, superclass};
-use schema::number::{ClassNumber, ClassRead, TableId, class_at};
+use schema::number::{ClassNumber, TableId, class_at};
 use schema::store::{class_row, row_count};
 
-// The next class that a walk visits.
-#[derive(Clone, Copy)]
-pub enum NextClass {
-    Class(ClassNumber),
-    Nothing,
-}
-
 // Whether d is in one of two sets and not visited.
+#[tactic(auto, unfolding(crate::specs::Visit::unvisited_in))]
 fn is_unvisited(fixed: &[u8], other: &[u8], seen: Visited, d: ClassNumber) -> bool
     ensures { result ≡ unvisited_in fixed.now other.now seen.bits d.0 }
 {
-    if seen.has(d) {
-        return false;
-    }
-    if sets::has(fixed, d.0) {
-        return true;
-    }
-    sets::has(other, d.0)
+    (sets::has(fixed, d.0) || sets::has(other, d.0)) && !seen.has(d)
 }
 
 // The first number from start on, below n, that is in one of two sets and not visited.
-fn first_unvisited(fixed: &[u8], other: &[u8], seen: Visited, start: usize, n: usize) -> NextClass
+fn first_unvisited(
+    fixed: &[u8],
+    other: &[u8],
+    seen: Visited,
+    start: usize,
+    n: usize,
+) -> Option<ClassNumber>
     requires { n ≤ class_limit }
     ensures { result ≡ first_class n (from start (unvisited_in fixed.now other.now seen.bits)) }
 {
-    let mut d = start;
-    while d < n {
+    for d in start..n {
         let next = class_at(d);
         if is_unvisited(fixed, other, seen, next) {
-            return NextClass::Class(next);
+            return Some(next);
         }
-        d += 1;
     }
-    NextClass::Nothing
+    None
 }
 
 // The first lists Auxiliaries (of .row c) from number start on that has a row and is not visited.
-fn next_unvisited(classes: &[u8], c: ClassNumber, start: usize, seen: Visited) -> NextClass
+fn next_unvisited(
+    classes: &[u8],
+    c: ClassNumber,
+    start: usize,
+    seen: Visited,
+) -> Option<ClassNumber>
     requires readable { Readable classes.now }
     requires c_bound { c.0 < (table_in Classes classes.now).count }
     ensures { result ≡ next_unvisited (table_in Classes classes.now) (member seen.bits) c.0 start }
@@ -60,7 +57,7 @@ fn next_unvisited(classes: &[u8], c: ClassNumber, start: usize, seen: Visited) -
     first_unvisited(fixed_auxiliary(row), open_auxiliary(row), seen, start, n)
 }
 
-// Adds to seen what c reaches over classes that are not visited.
+// Adds to seen what c reaches over classes that are not visited. The two ways out are two tests, since each has a reason of its own.
 #[cycle(visit_walk)]
 fn visit(classes: &[u8], c: ClassNumber, seen: Visited) -> Visited
     requires { Readable classes.now }
@@ -74,7 +71,7 @@ fn visit(classes: &[u8], c: ClassNumber, seen: Visited) -> Visited
     }
     let marked = seen.with(c);
     let above = superclass(class_row(classes, c));
-    let ClassRead::Class(up) = above else {
+    let Some(up) = above else {
         return walk(classes, c, 0, marked);
     };
     let more = visit(classes, up, marked);
@@ -90,7 +87,7 @@ fn walk(classes: &[u8], c: ClassNumber, start: usize, seen: Visited) -> Visited
     ensures { result.bits ≡ set_of class_set (after_walk (table_in Classes classes.now) (member seen.bits) c.0 start) }
 {
     let next = next_unvisited(classes, c, start, seen);
-    let NextClass::Class(d) = next else {
+    let Some(d) = next else {
         return seen;
     };
     let more = visit(classes, d, seen);

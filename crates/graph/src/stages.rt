@@ -3,7 +3,7 @@
 ghost use Rattle.std.specs.Prelude.{◌&&◌, ◌≡◌, ◌*◌, ◌≤◌, ◌<◌, ltb, length};
 ghost use Rattle.prelude.specs.Concat.{concat_below};
 ghost use Rattle.prelude.specs.Part.{splice};
-ghost use Rattle.sets.specs.Sets.{member, set_of, with_member};
+ghost use Rattle.sets.specs.Sets.{member, set_of, union, with_member};
 ghost use Rattle.schema.specs.Numbers.{class_limit};
 ghost use Rattle.schema.specs.Layout.{attribute_set, class_set, class_width, closure_length, closure_width};
 ghost use Rattle.schema.specs.ClassRow.{superclass_of};
@@ -12,23 +12,31 @@ ghost use Rattle.schema.specs.declared.number.TableId.TheVariants.{Classes};
 ghost use Rattle.graph.specs.Graph.{Readable, lists_mandatory, lists_optional};
 ghost use Rattle.graph.specs.Stages.{comes_to, passed_row, stage_row, stage_rows};
 
+use crate::rewrite::rewrite_rows;
 use prelude::part::{clear, copy_padded, part_of};
 use schema::class::{
     fixed_auxiliary, fixed_optional, mandatory, open_auxiliary, open_optional, superclass,
 };
 use schema::layout::{ALLOWED, CLASS_SET, CLOSURE_WIDTH, DEMANDED, REACHED};
-use schema::number::{ClassNumber, ClassRead, TableId, class_at};
-use schema::store::{class_row, closure_row, closure_start, row_count};
+use schema::number::{ClassNumber, TableId};
+use schema::store::{class_row, closure_row, row_count};
+
+// out becomes the union of two sets as long as itself.
+pub fn write_union(a: &[u8], b: &[u8], out: &mut [u8])
+    requires { (length a.now ≡ length out.old) × (length b.now ≡ length out.old) }
+    ensures { out.new ≡ union a.now b.now }
+{
+    copy_padded(out, a);
+    sets::join(out, b);
+}
 
 // The members of a set of classes from n on are taken out.
 fn keep_below(s: &mut [u8], n: usize)
     requires { length s.old ≡ class_set }
     ensures { s.new ≡ set_of class_set (λ k. member s.old k && ltb k n) }
 {
-    let mut k = n;
-    while k < ClassNumber::LIMIT {
+    for k in n..ClassNumber::LIMIT {
         sets::remove(s, k);
-        k += 1;
     }
 }
 
@@ -37,10 +45,8 @@ fn insert_superclass(row: &[u8], out: &mut [u8])
     requires { (class_width ≤ length row.now) × (length out.old ≡ class_set) }
     ensures { out.new ≡ with_member (superclass_of row.now) out.old }
 {
-    let read = superclass(row);
-    match read {
-        ClassRead::Class(s) => sets::insert(out, s.0),
-        ClassRead::Beyond => {}
+    if let Some(s) = superclass(row) {
+        sets::insert(out, s.0);
     }
 }
 
@@ -50,8 +56,7 @@ fn write_named(classes: &[u8], c: ClassNumber, out: &mut [u8])
     ensures { out.new ≡ set_of class_set (comes_to (table_in Classes classes.now) 0 c.0) }
 {
     let row = class_row(classes, c);
-    copy_padded(out, fixed_auxiliary(row));
-    sets::join(out, open_auxiliary(row));
+    write_union(fixed_auxiliary(row), open_auxiliary(row), out);
     insert_superclass(row, out);
     keep_below(out, row_count(TableId::Classes, classes));
     sets::insert(out, c.0);
@@ -71,8 +76,7 @@ fn write_own_optional(classes: &[u8], c: ClassNumber, out: &mut [u8])
     ensures { out.new ≡ set_of attribute_set (lists_optional (table_in Classes classes.now) c.0) }
 {
     let row = class_row(classes, c);
-    copy_padded(out, fixed_optional(row));
-    sets::join(out, open_optional(row));
+    write_union(fixed_optional(row), open_optional(row), out);
 }
 
 // row becomes the three sets of c at stage 0.
@@ -89,56 +93,29 @@ fn write_first(classes: &[u8], c: ClassNumber, row: &mut [u8])
     write_own_optional(classes, c, &mut row[ALLOWED..CLOSURE_WIDTH]);
 }
 
-// The part of the closure store at c becomes the three sets of c at stage 0.
-fn write_first_at(classes: &[u8], c: ClassNumber, closure: &mut [u8])
-    requires { Readable classes.now × (c.0 < class_limit) × (closure_length ≤ length closure.old) }
-    ensures { closure.new ≡ splice (closure_width * c.0) (stage_row (table_in Classes classes.now) 0 c.0)
-        closure.old }
-{
-    let at = closure_start(c);
-    let end = at + CLOSURE_WIDTH;
-    write_first(classes, c, &mut closure[at..end]);
-}
-
 // The closure store becomes stage 0; what stands behind it is not touched.
 pub fn write_firsts(classes: &[u8], closure: &mut [u8])
     requires { Readable classes.now × (closure_length ≤ length closure.old) }
     ensures { closure.new ≡ splice 0 (stage_rows (table_in Classes classes.now) 0) closure.old }
 {
-    let mut c = 0;
-    while c < ClassNumber::LIMIT {
-        write_first_at(classes, class_at(c), closure);
-        c += 1;
-    }
+    rewrite_rows(
+        closure,
+        ClassNumber::LIMIT,
+        |c, row| write_first(classes, c, row),
+    );
 }
 
-// Class c gets what class k has, if it has come to k.
-fn pass_to(closure: &mut [u8], k: ClassNumber, own: &[u8], c: ClassNumber)
-    requires { (closure_length ≤ length closure.old) × (c.0 < class_limit) × (length own.now ≡ closure_width) }
-    ensures { closure.new ≡ splice (closure_width * c.0) (passed_row k.0 own.now (closure_at closure.old c.0))
-        closure.old }
+// A class whose row is lent gets what class k has, if it has come to k.
+fn pass_to(row: &mut [u8], k: ClassNumber, own: &[u8])
+    requires { (length row.old ≡ closure_width) × (length own.now ≡ closure_width) }
+    ensures { row.new ≡ passed_row k.0 own.now row.old }
 {
-    if sets::has(part_of(closure_row(closure, c), REACHED, CLASS_SET), k.0) {
-        let at = closure_start(c);
-        let end = at + CLOSURE_WIDTH;
-        sets::join(&mut closure[at..end], own);
+    if sets::has(part_of(row, REACHED, CLASS_SET), k.0) {
+        sets::join(row, own);
     }
 }
 
 // Each of the first n classes that has come to class k gets what k has.
-fn pass_to_all(closure: &mut [u8], n: usize, k: ClassNumber, own: &[u8])
-    requires { (closure_length ≤ length closure.old) × (length own.now ≡ closure_width) × (n ≤ class_limit) }
-    ensures { closure.new ≡ splice 0 (concat_below n (λ c. passed_row k.0 own.now (closure_at closure.old c)))
-        closure.old }
-{
-    let mut c = 0;
-    while c < n {
-        pass_to(closure, k, own, class_at(c));
-        c += 1;
-    }
-}
-
-// The same, of what k has in the store itself.
 pub fn pass_on(closure: &mut [u8], n: usize, k: ClassNumber)
     requires { (closure_length ≤ length closure.old) × (k.0 < class_limit) × (n ≤ class_limit) }
     ensures { closure.new
@@ -147,5 +124,5 @@ pub fn pass_on(closure: &mut [u8], n: usize, k: ClassNumber)
 {
     let mut own = [0u8; CLOSURE_WIDTH];
     copy_padded(&mut own, closure_row(closure, k));
-    pass_to_all(closure, n, k, &own);
+    rewrite_rows(closure, n, |_, row| pass_to(row, k, &own));
 }

@@ -27,17 +27,15 @@ impl Visited {
     pub fn has(self, c: ClassNumber) -> bool
         ensures { result ≡ member self.bits c.0 }
     {
-        let b = self.bits;
-        sets::has(&b, c.0)
+        sets::has(&self.bits, c.0)
     }
 
     // The same set with c visited.
-    pub fn with(self, c: ClassNumber) -> Visited
+    pub fn with(mut self, c: ClassNumber) -> Visited
         requires { c.0 < class_limit }
         ensures { result.bits ≡ with_member c.0 self.bits }
     {
-        let mut b = self.bits;
-        sets::insert(&mut b, c.0);
-        Visited { bits: b }
+        sets::insert(&mut self.bits, c.0);
+        self
     }
 }

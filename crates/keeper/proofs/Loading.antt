@@ -16,8 +16,8 @@ use Rattle.schema.specs.StoreLaws.{long_enough}
 use Rattle.tables.specs.Shaped.{Shaped}
 use Rattle.graph.specs.Graph.{Readable, closure_rows}
 use Rattle.graph.proofs.SameLaws.{closure_rows_same}
-use Rattle.sheet_read.specs.declared.read.SheetRead.{SheetRead}
-use Rattle.sheet_read.specs.declared.read.SheetRead.TheVariants.{Read}
+use Rattle.sheet_read.specs.SheetRead.{SheetRead}
+use Rattle.sheet_read.specs.SheetRead.{Read}
 use Rattle.sheet_read.specs.Held.{Lent, Left}
 use Rattle.sheet_read.specs.Reading.{Rows, rows_in, schema_from, sheet_out, read_sheet}
 use Rattle.sheet_read.specs.ReadingLaws.{Sound, sheet_sound}

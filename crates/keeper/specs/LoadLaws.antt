@@ -20,7 +20,7 @@ use Rattle.tables.specs.SameLaws.{filled_same}
 use Rattle.tables.specs.Shaped.{Shaped}
 use Rattle.graph.specs.Graph.{Readable}
 use Rattle.rows_read.specs.WellFormed.{well_formed}
-use Rattle.sheet_read.specs.declared.read.SheetRead.TheVariants.{Bad, Full, Read}
+use Rattle.sheet_read.specs.SheetRead.{Bad, Full, Read}
 use Rattle.sheet_read.specs.Held.{Lent}
 use Rattle.sheet_read.specs.Reading.{Rows, SheetOut, rows_in, schema_from, sheet_answer, sheet_out, read_sheet}
 use Rattle.sheet_read.specs.ReadingLaws.{Sound, all_at}

@@ -8,23 +8,21 @@ use graph::closure::is_fresh;
 use rules::judge::judge;
 use rules::row::Added;
 use schema::answer::Answer;
-use schema::refusal::{DONE, NOT_IN_ORDER};
+use schema::refusal::Refusal;
 
 // 1, 2, the first rule from 12 to 29 that some row breaks with its table and lowest row, 3 where only the closure is wrong, else 0.
 pub fn audit<'a>(attributes: &'a [u8], classes: &'a [u8], closure: &[u8]) -> Answer
     ensures { result ≡ audit (stores attributes.now classes.now closure.now) }
 {
-    let shape = check_shape(attributes, classes, closure);
-    if shape.number != DONE {
-        return shape;
+    if let Err(refusal) = check_shape(attributes, classes, closure) {
+        return Answer::refused(refusal);
     }
-    let broken = judge(Added::Nothing, attributes, classes);
-    if broken.number != DONE {
-        return broken;
+    if let Err(broken) = judge(Added::Nothing, attributes, classes) {
+        return Answer::broken_by(broken.rule, broken.row);
     }
     if is_fresh(classes, closure) {
         Answer::passed()
     } else {
-        Answer::refused(NOT_IN_ORDER)
+        Answer::refused(Refusal::NotInOrder)
     }
 }

@@ -4,28 +4,27 @@ ghost use Rattle.schema.specs.Store.{stores};
 ghost use Rattle.keeper.specs.Depth.{depth};
 
 use crate::check::check_shape;
-use graph::depth::{Depth, depth_of};
+use graph::depth::depth_of;
 use schema::answer::Answer;
-use schema::number::{ClassNumber, ClassRead, TableId};
-use schema::refusal::{CLASS_NOT_LIVE, DONE, NO_SUCH_ROW};
+use schema::number::{ClassNumber, TableId};
+use schema::refusal::Refusal;
 use schema::store::row_count;
 
 // The steps from a class up to row 0 as the place; 5 where there is no such class, 18 where a superclass met is not earlier.
 pub fn depth(attributes: &[u8], classes: &[u8], closure: &[u8], class: u16) -> Answer
     ensures { result ≡ depth (stores attributes.now classes.now closure.now) class }
 {
-    let shape = check_shape(attributes, classes, closure);
-    if shape.number != DONE {
-        return shape;
+    if let Err(refusal) = check_shape(attributes, classes, closure) {
+        return Answer::refused(refusal);
     }
-    let ClassRead::Class(c) = ClassNumber::new(class as usize) else {
-        return Answer::refused(NO_SUCH_ROW);
+    let Some(c) = ClassNumber::new(class as usize) else {
+        return Answer::refused(Refusal::NoSuchRow);
     };
     if c.0 >= row_count(TableId::Classes, classes) {
-        return Answer::refused(NO_SUCH_ROW);
+        return Answer::refused(Refusal::NoSuchRow);
     }
     match depth_of(classes, c) {
-        Depth::Steps(steps) => Answer::done(steps),
-        Depth::NotEarlier => Answer::refused(CLASS_NOT_LIVE),
+        Some(steps) => Answer::done(steps),
+        None => Answer::refused(Refusal::ClassNotLive),
     }
 }

@@ -1,6 +1,7 @@
 // Load: a sheet into the stores. Document 01: "Load never looks at what stood in the stores; it reads left to right and gives 4 or 6, whichever comes
 // first, then judges 12 to 29; refused by 4 or more, it leaves every store byte zero."
-ghost use Rattle.std.specs.Prelude.{◌≡◌};
+ghost use Rattle.std.specs.Prelude.{◌≡◌, IfErr};
+ghost use Rattle.schema.specs.Refused.{given_answer};
 ghost use Rattle.schema.specs.Store.{LongEnough, stores, result_of};
 ghost use Rattle.sheet_read.specs.Held.{Lent};
 ghost use Rattle.sheet_read.specs.Reading.{read_sheet};
@@ -12,9 +13,9 @@ use rules::row::Added;
 use schema::answer::Answer;
 use schema::layout::{CLOSURE_LENGTH, store_length};
 use schema::number::TableId;
-use schema::refusal::{DONE, SHORT_STORE};
+use schema::refusal::Refusal;
 use schema::store::any_short;
-use sheet_read::read::{SheetRead, read_sheet};
+use sheet_read::read::{SheetError, read_sheet};
 use tables::store::empty;
 
 // Every byte of the stores becomes zero; those past their lengths stay.
@@ -28,16 +29,20 @@ fn empty_all(attributes: &mut [u8], classes: &mut [u8], closure: &mut [u8])
     empty(closure, CLOSURE_LENGTH);
 }
 
-// Reads a sheet into the tables, and judges the rows that it gave.
-fn read_and_judge(sheet: &[u8], attributes: &mut [u8], classes: &mut [u8]) -> Answer
+// Reads a sheet into the tables, and judges the rows that it gave; refused with the answer that tells why.
+fn read_and_judge(sheet: &[u8], attributes: &mut [u8], classes: &mut [u8]) -> Result<(), Answer>
     requires { Lent attributes.old classes.old }
-    ensures { ReadAndJudged (read_sheet sheet.now) attributes.old classes.old result attributes.new
+    ensures left { ReadAndJudged (read_sheet sheet.now) attributes.old classes.old (given_answer result) attributes.new
         classes.new }
+    ensures refused { IfErr result (λ a. ¬ (a.number ≡ 0)) }
 {
     match read_sheet(sheet, attributes, classes) {
-        SheetRead::Read => judge(Added::Nothing, attributes, classes),
-        SheetRead::Bad { at } => Answer::unreadable(at),
-        SheetRead::Full { table } => Answer::full(table),
+        Ok(()) => match judge(Added::Nothing, attributes, classes) {
+            Ok(()) => Ok(()),
+            Err(broken) => Err(Answer::broken_by(broken.rule, broken.row)),
+        },
+        Err(SheetError::Bad { at }) => Err(Answer::unreadable(at)),
+        Err(SheetError::Full { table }) => Err(Answer::full(table)),
     }
 }
 
@@ -47,13 +52,16 @@ pub fn load(sheet: &[u8], attributes: &mut [u8], classes: &mut [u8], closure: &m
         ≡ load sheet.now (stores attributes.old classes.old closure.old) }
 {
     if any_short(attributes, classes, closure) {
-        return Answer::refused(SHORT_STORE);
+        return Answer::refused(Refusal::ShortStore);
     }
-    let found = read_and_judge(sheet, attributes, classes);
-    if found.number == DONE {
-        refresh_all(classes, closure);
-    } else {
-        empty_all(attributes, classes, closure);
+    match read_and_judge(sheet, attributes, classes) {
+        Ok(()) => {
+            refresh_all(classes, closure);
+            Answer::passed()
+        }
+        Err(refused) => {
+            empty_all(attributes, classes, closure);
+            refused
+        }
     }
-    found
 }

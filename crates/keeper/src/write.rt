@@ -5,7 +5,6 @@ ghost use Rattle.keeper.specs.Write.{written, write};
 
 use crate::check::check_shape;
 use schema::answer::Answer;
-use schema::refusal::DONE;
 use sheet_write::{sheet_length, write_sheet};
 
 // Writes the sheet of the stores to the front of out: 0 with its length, 31 with the length needed where out is too short.
@@ -13,9 +12,8 @@ pub fn write(attributes: &[u8], classes: &[u8], closure: &[u8], out: &mut [u8]) 
     ensures { written result out.new ≡ write (stores attributes.now classes.now closure.now)
         out.old }
 {
-    let shape = check_shape(attributes, classes, closure);
-    if shape.number != DONE {
-        return shape;
+    if let Err(refusal) = check_shape(attributes, classes, closure) {
+        return Answer::refused(refusal);
     }
     let needed = sheet_length(attributes, classes);
     if out.len() < needed {

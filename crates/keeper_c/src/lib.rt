@@ -14,6 +14,7 @@ use keeper::write::write;
 use keeper_change::plain::plain_change;
 use keeper_change::quick::quick_change;
 use schema::answer::Answer;
+use schema::refusal::Refusal;
 
 // Table and place: so many numbers.
 pub const DETAIL: usize = 2;
@@ -40,7 +41,7 @@ pub extern "C" fn keeper_load(
         ≡ load_call sheet.now (stores attributes.old classes.old closure.old) detail.old }
 {
     if detail.len() < DETAIL {
-        return 1;
+        return Refusal::ShortStore.number() as u64;
     }
     answer_in(load(sheet, attributes, classes, closure), detail)
 }
@@ -57,7 +58,7 @@ pub extern "C" fn keeper_plain_change(
         ≡ plain_change_call change.now (stores attributes.old classes.old closure.old) detail.old }
 {
     if detail.len() < DETAIL {
-        return 1;
+        return Refusal::ShortStore.number() as u64;
     }
     answer_in(plain_change(attributes, classes, closure, change), detail)
 }
@@ -74,7 +75,7 @@ pub extern "C" fn keeper_quick_change(
         ≡ quick_change_call change.now (stores attributes.old classes.old closure.old) detail.old }
 {
     if detail.len() < DETAIL {
-        return 1;
+        return Refusal::ShortStore.number() as u64;
     }
     answer_in(quick_change(attributes, classes, closure, change), detail)
 }
@@ -91,7 +92,7 @@ pub extern "C" fn keeper_write(
         ≡ write_call (stores attributes.now classes.now closure.now) output.old detail.old }
 {
     if detail.len() < DETAIL {
-        return 1;
+        return Refusal::ShortStore.number() as u64;
     }
     answer_in(write(attributes, classes, closure, output), detail)
 }
@@ -107,7 +108,7 @@ pub extern "C" fn keeper_audit<'a>(
         ≡ audit_call (stores attributes.now classes.now closure.now) detail.old }
 {
     if detail.len() < DETAIL {
-        return 1;
+        return Refusal::ShortStore.number() as u64;
     }
     answer_in(audit(attributes, classes, closure), detail)
 }
@@ -124,7 +125,7 @@ pub extern "C" fn keeper_depth(
         ≡ depth_call (stores attributes.now classes.now closure.now) class detail.old }
 {
     if detail.len() < DETAIL {
-        return 1;
+        return Refusal::ShortStore.number() as u64;
     }
     answer_in(depth(attributes, classes, closure, class), detail)
 }

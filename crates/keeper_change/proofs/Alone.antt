@@ -28,8 +28,8 @@ use Rattle.rules.proofs.SameLaws.{row_cases_same}
 use Rattle.change_rows.specs.Lists.{list_table}
 use Rattle.change_read.specs.declared.read.Change.{Change}
 use Rattle.change_read.specs.declared.read.Change.TheVariants.{Add, AddEntry, RemoveEntry}
-use Rattle.change_read.specs.declared.read.ChangeRead.{ChangeRead}
-use Rattle.change_read.specs.declared.read.ChangeRead.TheVariants.{Bad, Read}
+use Rattle.change_read.specs.ChangeRead.{ChangeRead}
+use Rattle.change_read.specs.ChangeRead.{Bad, Read}
 use Rattle.change_read.specs.Carried.{entry_of, list_of, target_of}
 use Rattle.change_read.specs.ChangeLaws.{change_length}
 use Rattle.change_read.specs.Reading.{Came, change_out, read_change}

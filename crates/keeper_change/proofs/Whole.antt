@@ -10,11 +10,11 @@ use Rattle.schema.specs.Store.{Schema, Stores, result_of, schema_of, table_store
 use Rattle.schema.specs.Numbers.{number_of, table_of}
 use Rattle.schema.specs.Layout.{class_width}
 use Rattle.schema.specs.Answers.{refused, changed, passed, unreadable}
-use Rattle.change_read.specs.declared.read.ChangeRead.TheVariants.{Read, Bad}
+use Rattle.change_read.specs.ChangeRead.{Read, Bad}
 use Rattle.change_read.specs.declared.read.Change.{Change}
 use Rattle.change_read.specs.ChangeLaws.{change_length}
 use Rattle.change_read.specs.Reading.{Came, change_out, read_change}
-use Rattle.change_read.specs.declared.read.ChangeRead.{ChangeRead}
+use Rattle.change_read.specs.ChangeRead.{ChangeRead}
 use Rattle.change_rows.specs.Stores.{row_changed}
 use Rattle.change_rows.specs.Rows.{number_for, table_for}
 use Rattle.prelude.specs.Part.{Bytes, splice}

@@ -1,7 +1,7 @@
 -- The stores after a change was made in its table.
 use Rattle.std.specs.Prelude.{length, ℕ, ◌<◌, ◌≤◌, List, ◌≡◌}
 use Rattle.change_read.specs.declared.read.Change.{Change}
-use Rattle.change_read.specs.declared.read.ChangeRead.TheVariants.{Read}
+use Rattle.change_read.specs.ChangeRead.{Read}
 use Rattle.change_read.specs.Reading.{read_change, change_out}
 use Rattle.change_asked.specs.Asked.{first_asked}
 use Rattle.keeper.specs.InShape.{InShape}

@@ -1,7 +1,7 @@
 -- Plain change, the whole check. Document 01: "audit, apply, judge the whole result. Done, only that change is made and the stores are in order."
-use Rattle.std.specs.Prelude.{eqb, ℕ, List, cond, ◌≡◌}
-use Rattle.change_read.specs.declared.read.ChangeRead.TheVariants.{Read, Bad}
-use Rattle.change_read.specs.declared.read.ChangeRead.{ChangeRead}
+use Rattle.std.specs.Prelude.{eqb, ℕ, List, cond, ◌≡◌, Err}
+use Rattle.change_read.specs.ChangeRead.{Read, Bad}
+use Rattle.change_read.specs.ChangeRead.{ChangeRead}
 use Rattle.change_read.specs.Reading.{read_change}
 use Rattle.change_read.specs.declared.read.Change.{Change}
 use Rattle.schema.specs.declared.answer.Answer.{Answer}
@@ -19,7 +19,7 @@ plain_answer read r s = first_answer (order_answers s) (answer_to read r (schema
 
 -- the stores after what reading a change came to, if it is done
 unfoldable pub plain_made : ChangeRead → List ℕ → Stores → Stores
-plain_made (Bad at) r s = s
+plain_made (Err bad) r s = s
 plain_made (Read change) r s = refreshed (rows_made change r s)
 
 -- "Refused changes .. alter nothing"

@@ -6,8 +6,8 @@ use Rattle.schema.specs.declared.answer.Answer.{Answer}
 use Rattle.schema.specs.Store.{Result, Schema, Stores, result_of, schema_of, stores}
 use Rattle.graph.specs.Graph.{demanded_set}
 use Rattle.change_read.specs.declared.read.Change.{Change}
-use Rattle.change_read.specs.declared.read.ChangeRead.{ChangeRead}
-use Rattle.change_read.specs.declared.read.ChangeRead.TheVariants.{Bad, Read}
+use Rattle.std.specs.Prelude.{Err}
+use Rattle.change_read.specs.ChangeRead.{ChangeRead, Read}
 use Rattle.change_read.specs.Carried.{target_of}
 use Rattle.change_read.specs.Reading.{change_answer, read_change}
 use Rattle.change_rows.specs.Rows.{schema_after}
@@ -31,7 +31,7 @@ quick_number change r m closure =
 
 -- 4, or those
 abbrev pub quick_to : ChangeRead → List ℕ → Stores → Answer
-quick_to (Bad at) r s = change_answer (Bad at)
+quick_to (Err bad) r s = change_answer (Err bad)
 quick_to (Read change) r s = answer_by change r (schema_of s) (quick_number change r (schema_of s) s.closure)
 
 -- 1 and 2 before them
@@ -40,7 +40,7 @@ quick_answer read r s = first_answer (shape_answers s) (quick_to read r s)
 
 -- the stores after what reading a change came to, if it is done
 abbrev pub quick_made : ChangeRead → List ℕ → Stores → Stores
-quick_made (Bad at) r s = s
+quick_made (Err bad) r s = s
 quick_made (Read change) r s =
     stores (rows_made change r s).attributes (rows_made change r s).classes
     (closure_after change r (schema_after change r (schema_of s)).classes (schema_of s).classes.count s.closure)

@@ -2,6 +2,7 @@
 ghost use Rattle.std.specs.Prelude.{◌≡◌, ◌≤◌, ◌<◌, length};
 ghost use Rattle.schema.specs.Numbers.{class_limit, number_of, table_of};
 ghost use Rattle.schema.specs.Layout.{class_width, closure_length};
+ghost use Rattle.schema.specs.Refused.{outcome_number};
 ghost use Rattle.schema.specs.Store.{schema_in};
 ghost use Rattle.tables.specs.Shaped.{Shaped};
 ghost use Rattle.schema.specs.declared.number.TableId.TheVariants.{Classes};
@@ -16,8 +17,8 @@ use closure_change::after::demand_changes;
 use graph::demand::demands_differ;
 use rules::judge::judge;
 use rules::row::{Added, first_broken};
-use schema::number::{ClassNumber, ClassRead, RowId, TableId};
-use schema::refusal::{DONE, MANDATORY_DIFFERS};
+use schema::number::{ClassNumber, RowId, TableId};
+use schema::refusal::Refusal;
 
 // What a change adds, to a schema of n classes.
 pub fn added_by(change: Change, scratch: &[u8], n: usize) -> Added
@@ -29,7 +30,7 @@ pub fn added_by(change: Change, scratch: &[u8], n: usize) -> Added
         Change::Add(table) => match table {
             TableId::Attributes => Added::Nothing,
             TableId::Classes => {
-                let ClassRead::Class(c) = ClassNumber::new(n) else {
+                let Some(c) = ClassNumber::new(n) else {
                     return Added::Nothing;
                 };
                 Added::Class(c)
@@ -40,7 +41,7 @@ pub fn added_by(change: Change, scratch: &[u8], n: usize) -> Added
         Change::Deactivate(_) => Added::Nothing,
         Change::Reactivate(_) => Added::Nothing,
         Change::AddEntry => {
-            let ClassRead::Class(k) = ClassNumber::new(target_of(scratch) as usize) else {
+            let Some(k) = ClassNumber::new(target_of(scratch) as usize) else {
                 return Added::Nothing;
             };
             Added::Entry {
@@ -53,29 +54,27 @@ pub fn added_by(change: Change, scratch: &[u8], n: usize) -> Added
     }
 }
 
-// The first of 12 to 29 that some row of the result breaks, 30 where one of the first n classes would demand other attributes than it kept, or 0.
+// Refused by the first of 12 to 29 that some row of the result breaks, by 30 where one of the first n classes would demand other attributes than it kept.
 pub fn judged_whole<'a>(
     added: Added,
     attributes: &'a [u8],
     classes: &'a [u8],
     closure: &[u8],
     n: usize,
-) -> u8
+) -> Result<(), Refusal>
     requires { Shaped attributes.now classes.now × (closure_length ≤ length closure.now) × (n ≤ class_limit) }
-    ensures { result ≡ judged_whole added (schema_in attributes.now classes.now) closure.now n }
+    ensures { outcome_number result ≡ judged_whole added (schema_in attributes.now classes.now) closure.now n }
 {
-    let broken = judge(added, attributes, classes);
-    let number = broken.number;
-    if number != DONE {
-        return number;
+    if let Err(broken) = judge(added, attributes, classes) {
+        return Err(broken.rule);
     }
     if demands_differ(classes, closure, n) {
-        return MANDATORY_DIFFERS;
+        return Err(Refusal::MandatoryDiffers);
     }
-    DONE
+    Ok(())
 }
 
-// The first of 12 to 29 that the changed row breaks, 30 where its class would demand other attributes than before, or 0.
+// Refused by the first of 12 to 29 that the changed row breaks, by 30 where its class would demand other attributes than before.
 pub fn judged_row<'a>(
     added: Added,
     change: Change,
@@ -85,17 +84,16 @@ pub fn judged_row<'a>(
     before: &[u8],
     closure: &[u8],
     id: RowId,
-) -> u8
+) -> Result<(), Refusal>
     requires { RowThere added change scratch.now attributes.now classes.now closure.now id }
-    ensures { result ≡ judged_row added change scratch.now (schema_in attributes.now classes.now) (table_of id) (number_of id)
+    ensures { outcome_number result ≡ judged_row added change scratch.now (schema_in attributes.now classes.now) (table_of id) (number_of id)
         before.now closure.now }
 {
-    let broken = first_broken(added, attributes, classes, id);
-    if broken != DONE {
-        return broken;
+    if let Err(rule) = first_broken(added, attributes, classes, id) {
+        return Err(rule);
     }
     if demand_changes(change, scratch, classes, before, closure) {
-        return MANDATORY_DIFFERS;
+        return Err(Refusal::MandatoryDiffers);
     }
-    DONE
+    Ok(())
 }

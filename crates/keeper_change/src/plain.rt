@@ -1,18 +1,19 @@
 // Plain change, the whole check. Document 01: "audit, apply, judge the whole result. Done, only that change is made and the stores are in order."
 ghost use Rattle.std.specs.Prelude.{◌≡◌};
+ghost use Rattle.schema.specs.Refused.{changed_answer};
 ghost use Rattle.schema.specs.Store.{stores, result_of};
 ghost use Rattle.keeper_change.specs.Plain.{InOrderFor, Judged, plain_read, plain_change};
 
 use crate::judge::{added_by, judged_whole};
 use crate::rows::{make, save, undo};
 use change_asked::asked::first_asked;
-use change_read::read::{Change, ChangeRead, read_change};
+use change_read::read::{Change, read_change};
 use graph::closure::refresh_all;
 use keeper::check::check_order;
 use schema::answer::Answer;
 use schema::layout::CLASS_WIDTH;
-use schema::number::TableId;
-use schema::refusal::DONE;
+use schema::number::{RowId, TableId};
+use schema::refusal::Refusal;
 use schema::store::row_count;
 
 // A change that numbers 5 to 11 let pass: made, judged, and taken back where it is refused.
@@ -22,23 +23,23 @@ fn plain_judged(
     attributes: &mut [u8],
     classes: &mut [u8],
     closure: &mut [u8],
-) -> Answer
+) -> Result<RowId, Refusal>
     requires { Judged change scratch.now (stores attributes.old classes.old closure.old) }
-    ensures { result_of result (stores attributes.new classes.new closure.new)
-        ≡ plain_read (ChangeRead.Read change) scratch.now (stores attributes.old classes.old closure.old) }
+    ensures { result_of (changed_answer result) (stores attributes.new classes.new closure.new)
+        ≡ plain_read (Ok change) scratch.now (stores attributes.old classes.old closure.old) }
 {
     let before = save(change, scratch, attributes, classes);
     let id = before.id;
     let present = row_count(TableId::Classes, classes);
     make(change, scratch, id, attributes, classes);
     let added = added_by(change, scratch, present);
-    let number = judged_whole(added, attributes, classes, closure, present);
-    if number != DONE {
+    let judged = judged_whole(added, attributes, classes, closure, present);
+    if let Err(refusal) = judged {
         undo(before, attributes, classes);
-        return Answer::refused(number);
+        return Err(refusal);
     }
     refresh_all(classes, closure);
-    Answer::changed(id)
+    Ok(id)
 }
 
 // A change that was read, of stores in order.
@@ -48,15 +49,12 @@ fn plain_read(
     attributes: &mut [u8],
     classes: &mut [u8],
     closure: &mut [u8],
-) -> Answer
+) -> Result<RowId, Refusal>
     requires { InOrderFor change scratch.now (stores attributes.old classes.old closure.old) }
-    ensures { result_of result (stores attributes.new classes.new closure.new)
-        ≡ plain_read (ChangeRead.Read change) scratch.now (stores attributes.old classes.old closure.old) }
+    ensures { result_of (changed_answer result) (stores attributes.new classes.new closure.new)
+        ≡ plain_read (Ok change) scratch.now (stores attributes.old classes.old closure.old) }
 {
-    let asked = first_asked(change, scratch, attributes, classes);
-    if asked != DONE {
-        return Answer::refused(asked);
-    }
+    first_asked(change, scratch, attributes, classes)?;
     plain_judged(change, scratch, attributes, classes, closure)
 }
 
@@ -71,13 +69,15 @@ pub fn plain_change(
     ensures { result_of result (stores attributes.new classes.new closure.new)
         ≡ plain_change change.now (stores attributes.old classes.old closure.old) }
 {
-    let order = check_order(attributes, classes, closure);
-    if order.number != DONE {
-        return order;
+    if let Err(refusal) = check_order(attributes, classes, closure) {
+        return Answer::refused(refusal);
     }
     let mut scratch = [0u8; CLASS_WIDTH];
     match read_change(change, &mut scratch) {
-        ChangeRead::Bad { at } => Answer::unreadable(at),
-        ChangeRead::Read(change) => plain_read(change, &scratch, attributes, classes, closure),
+        Err(bad) => Answer::unreadable(bad.at),
+        Ok(change) => match plain_read(change, &scratch, attributes, classes, closure) {
+            Ok(id) => Answer::changed(id),
+            Err(refusal) => Answer::refused(refusal),
+        },
     }
 }

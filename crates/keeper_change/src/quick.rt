@@ -1,5 +1,6 @@
 // Quick change. Document 01: "the same, but of the audit only shape. It judges rules 12 to 29 for the changed row alone, against all rows."
 ghost use Rattle.std.specs.Prelude.{◌≡◌};
+ghost use Rattle.schema.specs.Refused.{changed_answer};
 ghost use Rattle.schema.specs.Store.{stores, result_of};
 ghost use Rattle.keeper_change.specs.Made.{Allowed};
 ghost use Rattle.keeper_change.specs.Quick.{InShapeFor, quick_read, quick_change};
@@ -7,13 +8,13 @@ ghost use Rattle.keeper_change.specs.Quick.{InShapeFor, quick_read, quick_change
 use crate::judge::{added_by, judged_row};
 use crate::rows::{make, save, undo};
 use change_asked::asked::first_asked;
-use change_read::read::{Change, ChangeRead, read_change};
+use change_read::read::{Change, read_change};
 use closure_change::after::{demand_before, update};
 use keeper::check::check_shape;
 use schema::answer::Answer;
 use schema::layout::{ATTRIBUTE_SET, CLASS_WIDTH};
-use schema::number::TableId;
-use schema::refusal::DONE;
+use schema::number::{RowId, TableId};
+use schema::refusal::Refusal;
 use schema::store::row_count;
 
 // A change that numbers 5 to 11 let pass: made, its row judged, and taken back where it is refused; else the closure follows.
@@ -23,10 +24,10 @@ fn quick_judged(
     attributes: &mut [u8],
     classes: &mut [u8],
     closure: &mut [u8],
-) -> Answer
+) -> Result<RowId, Refusal>
     requires { Allowed change scratch.now (stores attributes.old classes.old closure.old) }
-    ensures { result_of result (stores attributes.new classes.new closure.new)
-        ≡ quick_read (ChangeRead.Read change) scratch.now (stores attributes.old classes.old closure.old) }
+    ensures { result_of (changed_answer result) (stores attributes.new classes.new closure.new)
+        ≡ quick_read (Ok change) scratch.now (stores attributes.old classes.old closure.old) }
 {
     let before = save(change, scratch, attributes, classes);
     let id = before.id;
@@ -35,15 +36,15 @@ fn quick_judged(
     demand_before(change, scratch, classes, &mut demand);
     make(change, scratch, id, attributes, classes);
     let added = added_by(change, scratch, present);
-    let number = judged_row(
+    let judged = judged_row(
         added, change, scratch, attributes, classes, &demand, closure, id,
     );
-    if number != DONE {
+    if let Err(refusal) = judged {
         undo(before, attributes, classes);
-        return Answer::refused(number);
+        return Err(refusal);
     }
     update(change, scratch, classes, present, closure);
-    Answer::changed(id)
+    Ok(id)
 }
 
 // A change that was read, of stores in shape.
@@ -53,15 +54,12 @@ fn quick_read(
     attributes: &mut [u8],
     classes: &mut [u8],
     closure: &mut [u8],
-) -> Answer
+) -> Result<RowId, Refusal>
     requires { InShapeFor change scratch.now (stores attributes.old classes.old closure.old) }
-    ensures { result_of result (stores attributes.new classes.new closure.new)
-        ≡ quick_read (ChangeRead.Read change) scratch.now (stores attributes.old classes.old closure.old) }
+    ensures { result_of (changed_answer result) (stores attributes.new classes.new closure.new)
+        ≡ quick_read (Ok change) scratch.now (stores attributes.old classes.old closure.old) }
 {
-    let asked = first_asked(change, scratch, attributes, classes);
-    if asked != DONE {
-        return Answer::refused(asked);
-    }
+    first_asked(change, scratch, attributes, classes)?;
     quick_judged(change, scratch, attributes, classes, closure)
 }
 
@@ -76,13 +74,15 @@ pub fn quick_change(
     ensures { result_of result (stores attributes.new classes.new closure.new)
         ≡ quick_change change.now (stores attributes.old classes.old closure.old) }
 {
-    let shape = check_shape(attributes, classes, closure);
-    if shape.number != DONE {
-        return shape;
+    if let Err(refusal) = check_shape(attributes, classes, closure) {
+        return Answer::refused(refusal);
     }
     let mut scratch = [0u8; CLASS_WIDTH];
     match read_change(change, &mut scratch) {
-        ChangeRead::Bad { at } => Answer::unreadable(at),
-        ChangeRead::Read(change) => quick_read(change, &scratch, attributes, classes, closure),
+        Err(bad) => Answer::unreadable(bad.at),
+        Ok(change) => match quick_read(change, &scratch, attributes, classes, closure) {
+            Ok(id) => Answer::changed(id),
+            Err(refusal) => Answer::refused(refusal),
+        },
     }
 }

@@ -23,8 +23,8 @@ use Rattle.rows_format.specs.Formats.{class_columns, columns_of, common_columns,
 use Rattle.rows_read.specs.ObjectClass.{finish, finished, finished_row, read_row}
 use Rattle.rows_read.specs.Reading.{read_by, row_of, turn_of, took_of}
 use Rattle.sheet_read.specs.Reading.{ended, field_step, heading_open, is_heading, position, read_from, room_at, room_step, row_turn, rows_open, rows_with}
-use Rattle.sheet_read.specs.Reading.{sheet_tag, stopped, take_field, take_heading, take_table_row, take_tagged, read_sheet, schema_from}
-use Rattle.sheet_read.specs.declared.read.SheetRead.TheVariants.{Read}
+use Rattle.sheet_read.specs.Reading.{sheet_tag, take_field, take_heading, take_table_row, take_tagged, read_sheet, schema_from}
+use Rattle.sheet_read.specs.SheetRead.{Read}
 use Rattle.rules_names.specs.Name.{between, folded, is_letter, is_name_byte, same_name, valid_name, name_invalid, identifier_invalid}
 use Rattle.rules_unique.specs.Unique.{has_key, rival_in, same_key, same_present, taken}
 use Rattle.rules_attribute.specs.Links.{forward_missing, is_back_link, is_forward_of}
@@ -67,14 +67,14 @@ bytes i = go (dec_lt i 67)
 -- ---- it reads, and its rows meet every rule
 
 reads : (read_sheet paper_sheet).answer ≡ Read
-unfolding fields.onward sheets.onward paper_sheet hex_bytes hex_digit text read_sheet read_from ended stopped take_field room_step field_step take_tagged
+unfolding fields.onward sheets.onward paper_sheet hex_bytes hex_digit text read_sheet read_from ended take_field room_step field_step take_tagged
     take_table_row rows_with row_turn take_heading is_heading room_at rows_open heading_open position sheet_tag read_row read_by turn_of took_of row_of finish
     finished finished_row field_at takes possible required cell_of lead mark column_width room accepts passes image is_zero splice columns_of own_columns
     common_columns class_columns all_below part zeros padded big_endian big_endian_bytes
 reads = refl
 
 judges : (judged Nothing (schema_from (read_sheet paper_sheet).rows)).number ≡ 0
-unfolding fields.onward sheets.onward paper_sheet hex_bytes hex_digit text read_sheet read_from ended stopped take_field room_step field_step take_tagged
+unfolding fields.onward sheets.onward paper_sheet hex_bytes hex_digit text read_sheet read_from ended take_field room_step field_step take_tagged
     take_table_row rows_with row_turn take_heading is_heading room_at rows_open heading_open position sheet_tag read_row read_by turn_of took_of row_of finish
     finished finished_row field_at takes possible required cell_of lead mark column_width room accepts passes image is_zero splice columns_of own_columns
     common_columns class_columns attribute_not_live class_not_live barred entry_dead same_table part zeros padded same_bytes big_endian big_endian_bytes any_below

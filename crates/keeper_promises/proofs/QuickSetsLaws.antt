@@ -27,7 +27,7 @@ use Rattle.change_read.specs.Reading.{ChangeOut, read_change}
 use Rattle.change_read.specs.declared.carried.OpenList.{OpenList}
 use Rattle.change_read.specs.declared.read.Change.{Change}
 use Rattle.change_read.specs.declared.read.Change.TheVariants.{Add, AddEntry, Deactivate, Reactivate, RemoveEntry, Rename, SetRange}
-use Rattle.change_read.specs.declared.read.ChangeRead.TheVariants.{Read}
+use Rattle.change_read.specs.ChangeRead.{Read}
 use Rattle.change_rows.specs.Rows.{edited_row, schema_after, table_after}
 use Rattle.change_asked.specs.Asked.{first_asked}
 use Rattle.change_asked.specs.AskedLaws.{asked_room}

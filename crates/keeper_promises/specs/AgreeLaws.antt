@@ -1,5 +1,5 @@
 -- On stores in order, a quick change is the plain one: the same answer, and the same stores in every byte.
-use Rattle.std.specs.Prelude.{Bool, List, ◌≡◌, refl, ◌<◌, ◌≤◌, ℕ, length}
+use Rattle.std.specs.Prelude.{Bool, List, ◌≡◌, refl, ◌<◌, ◌≤◌, ℕ, length, Err}
 use Rattle.std.proofs.Math.Bool.{cond}
 use Rattle.std.proofs.Common.{◌∙◌}
 use Rattle.std.proofs.Math.Path.{ap, ap₂, sym}
@@ -19,8 +19,8 @@ use Rattle.rules.specs.declared.row.Added.TheVariants.{Nothing}
 use Rattle.change_read.specs.ChangeLaws.{Reads, change_length}
 use Rattle.change_read.specs.Reading.{ChangeOut, change_out, read_change}
 use Rattle.change_read.specs.declared.read.Change.{Change}
-use Rattle.change_read.specs.declared.read.ChangeRead.{ChangeRead}
-use Rattle.change_read.specs.declared.read.ChangeRead.TheVariants.{Bad, Read}
+use Rattle.change_read.specs.ChangeRead.{ChangeRead}
+use Rattle.change_read.specs.ChangeRead.{Bad, Read}
 use Rattle.change_rows.specs.Rows.{table_for}
 use Rattle.change_rows.specs.Stores.{store_after}
 use Rattle.change_asked.specs.Asked.{first_asked}
@@ -127,5 +127,5 @@ pub quick_plain : (x : List ℕ) (s : Stores) → Bytes x → InOrder s → quic
 quick_plain x s bytes h = go (read_change x).answer refl
   where
     go : (y : ChangeRead) → (read_change x).answer ≡ y → quick_change x s ≡ plain_change x s
-    go (Bad at) e = quick_bad x s h.long h.shape at e ∙ sym (plain_bad x s h at e)
+    go (Err bad) e = quick_bad x s h.long h.shape bad.at e ∙ sym (plain_bad x s h bad.at e)
     go (Read change) e = read_agrees x s bytes h change (read_change x).row (ap (λ (y : ChangeRead). change_out y (read_change x).row) e)

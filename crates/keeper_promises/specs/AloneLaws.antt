@@ -1,6 +1,6 @@
 -- Demand 3: "On any two lots of stores, in order or not, alike in all but the kept sets of classes other than the one to be changed and the auxiliary
 -- named, quick answers to the same change are equal."
-use Rattle.std.specs.Prelude.{Bool, false, not, true, List, [], ◌++◌, ◌∷◌, ◌⊎◌, ◌≡◌, ◌<◌, ◌≤◌, ℕ, eqb}
+use Rattle.std.specs.Prelude.{Bool, false, not, true, List, [], ◌++◌, ◌∷◌, ◌⊎◌, ◌≡◌, ◌<◌, ◌≤◌, ℕ, eqb, Err}
 use Rattle.std.proofs.Math.Bool.{cond}
 use Rattle.std.proofs.Common.{inl, inr, ◌∙◌, arith}
 use Rattle.std.proofs.Math.Path.{ap, ap₂, refl, sym}
@@ -28,8 +28,8 @@ use Rattle.change_read.specs.declared.carried.OpenList.{OpenList}
 use Rattle.change_read.specs.declared.carried.OpenList.TheVariants.{Auxiliary, Optional, Superior}
 use Rattle.change_read.specs.declared.read.Change.{Change}
 use Rattle.change_read.specs.declared.read.Change.TheVariants.{Add, AddEntry, Deactivate, Reactivate, RemoveEntry, Rename, SetRange}
-use Rattle.change_read.specs.declared.read.ChangeRead.{ChangeRead}
-use Rattle.change_read.specs.declared.read.ChangeRead.TheVariants.{Bad, Read}
+use Rattle.change_read.specs.ChangeRead.{ChangeRead}
+use Rattle.change_read.specs.ChangeRead.{Bad, Read}
 use Rattle.change_rows.specs.Rows.{number_for, schema_after, table_for}
 use Rattle.change_asked.specs.Asked.{asked_cases, first_asked}
 use Rattle.change_asked.specs.AskedLaws.{asked_there}
@@ -129,7 +129,7 @@ module _ (x : List ℕ) (s t : Stores) (h : AlikeFor x s t) where
 
     to_same : (y : ChangeRead) → (read_change x).answer ≡ y → quick_to y carried s ≡ quick_to y carried t
     unfolding answer_by
-    to_same (Bad at) e = refl
+    to_same (Err bad) e = refl
     to_same (Read change) e =
         ap₂ (λ (n k : ℕ). cond (eqb n refusal.done) (changed (table_for change) k) (refused n))
         (quick_number_same change carried rows few s.closure t.closure (λ q. same_kept (e ∙ ap Read q)))

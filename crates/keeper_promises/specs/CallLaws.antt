@@ -6,7 +6,6 @@ use Rattle.prelude.specs.SaysLaws.{says_eq, says_false, says_true}
 use Rattle.schema.specs.Answers.{class_answer, done, passed, refused, short_output}
 use Rattle.schema.specs.Numbers.{class_read}
 use Rattle.schema.specs.NumbersLaws.{class_beyond}
-use Rattle.schema.specs.declared.number.ClassRead.{ClassRead}
 use Rattle.schema.specs.Store.{LongEnough, Schema, Stores, schema_of}
 use Rattle.schema.specs.StoreLaws.{says_short}
 use Rattle.tables.specs.ChainLaws.{chain_map}
@@ -27,8 +26,9 @@ use Rattle.keeper.specs.Write.{sheet_of, write, write_answer, written}
 use Rattle.keeper_promises.specs.Promises.{Shape, SomeShort}
 use Rattle.keeper_promises.specs.OrderLaws.{has_shape}
 use Rattle.schema.specs.Refusals as refusal
-use Rattle.schema.specs.declared.number.ClassRead.TheVariants as class
 use Rattle.keeper.specs.EndLaws as ends
+use Rattle.schema.specs.declared.number.ClassNumber.{ClassNumber}
+use Rattle.std.specs.Prelude.{Option, Some, None}
 
 -- what the check of the stores gives: that they are short, that their shape is broken, or neither
 module _ (s : Stores) where
@@ -77,9 +77,9 @@ module _ (s : Stores) (c : ℕ) where
     pub depth_beyond : ¬ ((class_answer (class_read c)).number ≡ 0) → depth s c ≡ class_answer (class_read c)
     depth_beyond = go (class_read c) refl
       where
-        go : (r : ClassRead) → class_read c ≡ r → ¬ ((class_answer r).number ≡ 0) → depth s c ≡ class_answer r
-        go (class.Class k) e d = absurd (d refl)
-        go class.Beyond e d = depth_five (omega (arith, class_beyond c e, (readable_classes s (shaped s h f) refl).few))
+        go : (r : Option ClassNumber) → class_read c ≡ r → ¬ ((class_answer r).number ≡ 0) → depth s c ≡ class_answer r
+        go (Some k) e d = absurd (d refl)
+        go None e d = depth_five (omega (arith, class_beyond c e, (readable_classes s (shaped s h f) refl).few))
 
     pub depth_steps : (k : ℕ) → c < (schema_of s).classes.count → EarlierChain (schema_of s).classes c k → depth s c ≡ done k
     depth_steps k l chain = sym (ends.depth_present s c (shaped s h f) refl l) ∙ ap depth_answer (chain_depth (schema_of s).classes chain)

@@ -20,7 +20,7 @@ use Rattle.rows_format.specs.Entries.{entries, rises_below}
 use Rattle.rows_format.specs.Formats.{entry_columns, attribute_columns, class_columns, columns_of, common_columns, format_width, own_columns}
 use Rattle.rows_read.specs.ObjectClass.{read_row, finish, finished, finished_row, settled, object_class_cell}
 use Rattle.rows_read.specs.Reading.{read_by, onward, turn_of, took_of, row_of}
-use Rattle.rows_read.specs.declared.read.RowRead.TheVariants.{Read}
+use Rattle.rows_read.specs.RowRead.{Read}
 use Rattle.change_read.specs.Carried.{open_list}
 use Rattle.change_read.specs.Reading.{change_of, field_out, format_of, read_change, read_value, tagged_out, whole_read}
 use Rattle.change_rows.specs.Rows.{schema_after, table_after, edited_row}

@@ -18,7 +18,7 @@ use Rattle.change_read.specs.Reading.{change_out, read_change}
 use Rattle.change_read.specs.declared.carried.OpenList.TheVariants.{Auxiliary}
 use Rattle.change_read.specs.declared.read.Change.{Change}
 use Rattle.change_read.specs.declared.read.Change.TheVariants.{AddEntry}
-use Rattle.change_read.specs.declared.read.ChangeRead.TheVariants.{Read}
+use Rattle.change_read.specs.ChangeRead.{Read}
 use Rattle.change_rows.specs.Rows.{number_for, table_for}
 use Rattle.change_model.specs.Model.{answer_to, rows_after}
 use Rattle.keeper.specs.Load.{load}

@@ -19,8 +19,8 @@ use Rattle.tables.specs.SameLaws.{same_symmetric}
 use Rattle.graph.specs.Graph.{closure_rows}
 use Rattle.graph.proofs.FreshLaws.{bytes_fresh, closure_rows_length, says_fresh}
 use Rattle.graph.proofs.SameLaws.{fresh_same}
-use Rattle.sheet_read.specs.declared.read.SheetRead.{SheetRead}
-use Rattle.sheet_read.specs.declared.read.SheetRead.TheVariants.{Bad, Full, Read}
+use Rattle.sheet_read.specs.SheetRead.{SheetRead}
+use Rattle.sheet_read.specs.SheetRead.{Bad, Full, Read}
 use Rattle.sheet_read.specs.Held.{Lent}
 use Rattle.sheet_read.specs.Reading.{Rows, SheetOut, read_sheet, schema_from, sheet_out}
 use Rattle.sheet_read.specs.ReadingLaws.{sheet_sound}

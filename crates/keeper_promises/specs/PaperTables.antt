@@ -1,6 +1,6 @@
 -- The small tables of documents 01 and 02, each value typed from the paper, as statements about the definitions that the calls are proved against;
 -- `paper_tables` (PaperTablesLaws) is a member of the record. A definition that says something else contradicts a line here, whatever its own laws say.
-use Rattle.std.specs.Prelude.{true, false, cond, List, [], ◌∷◌, ◌++◌, map, ◌⊎◌, ◌↔◌, ◌≡◌, ℕ, ◌+◌, ◌-◌, ◌*◌, ◌%◌, ◌≤◌, ◌<◌, ltb, length}
+use Rattle.std.specs.Prelude.{true, false, cond, List, [], ◌∷◌, ◌++◌, map, ◌⊎◌, ◌↔◌, ◌≡◌, ℕ, ◌+◌, ◌-◌, ◌*◌, ◌%◌, ◌≤◌, ◌<◌, ltb, length, Err}
 use Prim.Native.Char.{code}
 use Prim.Native.String.{String}
 use Rattle.prelude.specs.Part.{zeros}
@@ -13,24 +13,23 @@ use Rattle.schema.specs.ObjectClasses.{object_class_fits}
 use Rattle.schema.specs.Order.{order, rank}
 use Rattle.schema.specs.Row.{arc_count, arc_of, guid_of, is_base, is_defunct, name_of, system_flags}
 use Rattle.schema.specs.Store.{Schema}
-use Rattle.schema.specs.declared.attribute.Bound.TheVariants.{Absent, Given}
-use Rattle.schema.specs.declared.class.Naming.TheVariants.{By}
 use Rattle.schema.specs.declared.number.TableId.{TableId}
 use Rattle.schema.specs.declared.number.TableId.TheVariants.{Attributes, Classes}
 use Rattle.rows_format.specs.declared.format.Format.TheVariants.{Row}
 use Rattle.rows_read.specs.ObjectClass.{read_row}
 use Rattle.rows_read.specs.Reading.{Out}
-use Rattle.rows_read.specs.declared.read.RowRead.TheVariants.{Read}
+use Rattle.rows_read.specs.RowRead.{Read}
 use Rattle.change_read.specs.Reading.{read_change}
-use Rattle.change_read.specs.declared.read.ChangeRead.{ChangeRead}
+use Rattle.change_read.specs.ChangeRead.{ChangeRead}
 use Rattle.change_rows.specs.Rows.{schema_after}
 use Rattle.rules_names.specs.Name.{same_name, valid_name}
 use Rattle.rules_attribute.specs.Syntax.{syntax_fits}
 use Rattle.rules.specs.Rules.{breaks}
 use Rattle.rules.specs.declared.row.Added.{Added}
 use Rattle.keeper_promises.specs.Pieces.{class_row, classes, judged_rows, sample}
-use Rattle.change_read.specs.declared.read.ChangeRead.TheVariants as changes
+use Rattle.change_read.specs.ChangeRead as changes
 use Prim.Native.String as string
+use Rattle.std.specs.Prelude.{Some, None}
 
 -- ---- texts
 
@@ -165,7 +164,7 @@ seven_sets row =
 -- a schema after the change that these bytes are read as, were it accepted
 unfoldable pub made_by : ChangeRead → List ℕ → Schema → Schema
 made_by (changes.Read change) r m = schema_after change r m
-made_by (changes.Bad at) r m = m
+made_by (Err bad) r m = m
 
 unfoldable pub changed_by : List ℕ → Schema → Schema
 changed_by x m = made_by (read_change x).answer (read_change x).row m
@@ -217,10 +216,10 @@ pub record InheritanceRules (added : Added) (m : Schema) (k : ℕ) : Type 0 wher
 
 -- "Rule 25 shall hold only where rangeLower is greater than rangeUpper": of any attribute k, active or defunct, and ends of 32 bits. No class breaks it
 pub record RangeRule (added : Added) (m : Schema) (k : ℕ) : Type 0 where
-  pub ends : (l u : ℕ) → l < 0x100000000 → u < 0x100000000 → range_lower (m.attributes.row k) ≡ Given l → range_upper (m.attributes.row k) ≡ Given u
+  pub ends : (l u : ℕ) → l < 0x100000000 → u < 0x100000000 → range_lower (m.attributes.row k) ≡ Some l → range_upper (m.attributes.row k) ≡ Some u
       → (breaks added m 25 Attributes k ≡ false) ↔ SignedAtMost l u
-  pub no_lower : range_lower (m.attributes.row k) ≡ Absent → breaks added m 25 Attributes k ≡ false
-  pub no_upper : range_upper (m.attributes.row k) ≡ Absent → breaks added m 25 Attributes k ≡ false
+  pub no_lower : range_lower (m.attributes.row k) ≡ None → breaks added m 25 Attributes k ≡ false
+  pub no_upper : range_upper (m.attributes.row k) ≡ None → breaks added m 25 Attributes k ≡ false
   pub no_class : breaks added m 25 Classes k ≡ false
 
 -- 45: exactly these syntaxes, of any present linkID; where it is absent, any. "It binds all rows": any attribute k, active or defunct. No class breaks it
@@ -251,8 +250,8 @@ pub record AttributeCells (row : List ℕ) : Type 0 where
   pub syntaxes : (syntax_of row ∷ om_syntax_of row ∷ []) ≡ 7 ∷ 127 ∷ []
   pub object_class : object_class_of row ≡ hex "2A864886F7140101010B"
   pub single : is_single_valued row ≡ true
-  pub lower : range_lower row ≡ Given 0x0A
-  pub upper : range_upper row ≡ Given 0x0B
+  pub lower : range_lower row ≡ Some 0x0A
+  pub upper : range_upper row ≡ Some 0x0B
   pub links : (link_of row ∷ mapi_of row ∷ []) ≡ 0x0C ∷ 0x0D ∷ []
 
 -- "10 category, 11 superclass; optional 12 rDNAttID, 13 to 19 the seven sets in the order above"
@@ -260,7 +259,7 @@ pub record ClassCells (row : List ℕ) : Type 0 where
   pub common : CommonCells row
   pub category : category_of row ≡ 3
   pub superclass : superclass_of row ≡ 0x11
-  pub naming : naming_of row ≡ By (record { 0 = 0x12 })
+  pub naming : naming_of row ≡ Some (record { 0 = 0x12 })
   pub sets : seven_sets row ≡ (0x13 ∷ []) ∷ (0x14 ∷ []) ∷ (0x15 ∷ []) ∷ (0x16 ∷ []) ∷ (0x17 ∷ []) ∷ (0x18 ∷ []) ∷ (0x19 ∷ []) ∷ []
 
 -- "21 (one byte: 15, 17, 19)": attribute 1 becomes optional, class 2 auxiliary, class 1 a possible superior, each in the open list alone; 4A takes it out

@@ -15,8 +15,6 @@ use Rattle.schema.specs.ObjectClassesLaws.{says_object_class_fits}
 use Rattle.schema.specs.Order.{position, rank}
 use Rattle.schema.specs.Row.{is_base, system_flags}
 use Rattle.schema.specs.Store.{Schema}
-use Rattle.schema.specs.declared.attribute.Bound.{Bound}
-use Rattle.schema.specs.declared.attribute.Bound.TheVariants.{Absent, Given}
 use Rattle.rules_names.specs.Name.{folded, same_name, between, valid_name, is_letter, is_name_byte}
 use Rattle.rules_names.specs.NameLaws.{folded_upper, says_same_name, folded_other, says_between}
 use Rattle.rules_attribute.specs.Links.{link_syntax_fits, link_syntax_wrong, LinkSyntaxFits}
@@ -39,6 +37,7 @@ use Rattle.keeper_promises.specs.PaperTables.{SignedAtMost, LinkSyntax, even_nam
 use Rattle.keeper_promises.specs.PaperTables.{fourteen, fourteen_too, PaperTables, NameTables, SmallOf, hex_bytes, hex_digit, text}
 use Rattle.keeper_promises.specs.PaperTables.{InheritanceRules, LinkRule, RangeRule, UnderClass}
 use Rattle.keeper_promises.specs.ComputedLaws as computed
+use Rattle.std.specs.Prelude.{Option, Some, None}
 
 -- a proof for each number below n, in their order
 infixl 20 ◌also◌
@@ -60,7 +59,7 @@ base_bit row high bit low l b e = (
 
 -- ---- ranges
 
-range_ends : (l u : ℕ) → l < 4294967296 → u < 4294967296 → (ends_crossed (Given l) (Given u) ≡ false) ↔ SignedAtMost l u
+range_ends : (l u : ℕ) → l < 4294967296 → u < 4294967296 → (ends_crossed (Some l) (Some u) ≡ false) ↔ SignedAtMost l u
 unfolding ends_crossed
 range_ends l u hl hu = (
   λ e. forth (ltb-false (biased u) (biased l) (sym (less_biased u l hu hl) ∙ e)) (dec_lt l 2147483648) (dec_lt u 2147483648),
@@ -87,9 +86,9 @@ range_rule added m k = record {
   no_class = refl;
 }
   where
-    no_upper_lem : (l : Bound) → ends_crossed l Absent ≡ false
-    no_upper_lem (Given l) = refl
-    no_upper_lem Absent = refl
+    no_upper_lem : (l : Option ℕ) → ends_crossed l None ≡ false
+    no_upper_lem (Some l) = refl
+    no_upper_lem None = refl
 
 -- ---- syntaxes
 

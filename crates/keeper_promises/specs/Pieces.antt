@@ -6,8 +6,6 @@ use Rattle.prelude.specs.Part.{zeros, padded, splice}
 use Rattle.prelude.specs.BigEndian.{big_endian_bytes}
 use Rattle.schema.specs.Layout.{mandatory_at, object_class_at, attribute_set, name_limit, object_class_limit}
 use Rattle.schema.specs.declared.answer.Answer.{Answer}
-use Rattle.schema.specs.declared.attribute.Bound.{Bound}
-use Rattle.schema.specs.declared.attribute.Bound.TheVariants.{Given, Absent}
 use Rattle.schema.specs.declared.number.TableId.TheVariants.{Attributes, Classes}
 use Rattle.schema.specs.Answers.{broken_by}
 use Rattle.schema.specs.Store.{Schema, Table, schema}
@@ -23,6 +21,7 @@ use Rattle.change_read.specs.declared.carried.OpenList.TheVariants.{Auxiliary}
 use Rattle.change_read.specs.Carried.{list_tag}
 use Rattle.change_model.specs.Model.{change_number}
 use Rattle.schema.specs.Refusals as refusal
+use Rattle.std.specs.Prelude.{Option, Some, None}
 
 -- ---- sample rows
 
@@ -34,11 +33,11 @@ arc_bytes (x ∷ xs) = big_endian_bytes 4 x ++ arc_bytes xs
 unfoldable pub common : List ℕ → List ℕ → ℕ → List ℕ
 common name arcs guid = (length name ∷ padded 64 name) ++ ((length arcs ∷ padded 64 (arc_bytes arcs)) ++ (padded 16 (guid ∷ []) ++ zeros 5))
 
-unfoldable pub end_bytes : Bound → List ℕ
-end_bytes (Given x) = 1 ∷ big_endian_bytes 4 x
-end_bytes Absent = zeros 5
+unfoldable pub end_bytes : Option ℕ → List ℕ
+end_bytes (Some x) = 1 ∷ big_endian_bytes 4 x
+end_bytes None = zeros 5
 
-unfoldable pub attribute_row : List ℕ → List ℕ → ℕ → ℕ → ℕ → Bound → Bound → ℕ → List ℕ
+unfoldable pub attribute_row : List ℕ → List ℕ → ℕ → ℕ → ℕ → Option ℕ → Option ℕ → ℕ → List ℕ
 attribute_row name arcs guid syntax omSyntax lower upper link =
     common name arcs guid ++ ((syntax ∷ omSyntax ∷ zeros 18) ++ (end_bytes lower ++ (end_bytes upper ++ (big_endian_bytes 4 link ++ zeros 4))))
 
@@ -58,15 +57,15 @@ unfoldable pub one : List ℕ → Answer
 one row = judged_rows (row ∷ []) []
 
 unfoldable pub by_name : List ℕ → Answer
-by_name name = one (attribute_row name (2 ∷ 999 ∷ []) 1 9 10 Absent Absent 0)
+by_name name = one (attribute_row name (2 ∷ 999 ∷ []) 1 9 10 None None 0)
 
 unfoldable pub by_arcs : List ℕ → Answer
-by_arcs arcs = one (attribute_row area_ha arcs 1 9 10 Absent Absent 0)
+by_arcs arcs = one (attribute_row area_ha arcs 1 9 10 None None 0)
 
 unfoldable pub by_syntax : ℕ → ℕ → Answer
-by_syntax syntax omSyntax = one (attribute_row area_ha (2 ∷ 999 ∷ []) 1 syntax omSyntax Absent Absent 0)
+by_syntax syntax omSyntax = one (attribute_row area_ha (2 ∷ 999 ∷ []) 1 syntax omSyntax None None 0)
 
-unfoldable pub by_range : Bound → Bound → Answer
+unfoldable pub by_range : Option ℕ → Option ℕ → Answer
 by_range lower upper = one (attribute_row area_ha (2 ∷ 999 ∷ []) 1 9 10 lower upper 0)
 
 -- an attribute row with an oMObjectClass
@@ -75,7 +74,7 @@ with_object_class value row = splice object_class_at (length value ∷ padded ob
 
 -- attributes `a`, `b` .. with linkIDs: of integers, 2.5.5.9; of names, 2.5.5.1; of names with binary, 2.5.5.7
 unfoldable pub linked_by : ℕ → ℕ → ℕ → ℕ → List ℕ
-linked_by syntax omSyntax k link = attribute_row ((97 + k) ∷ []) (2 ∷ k ∷ []) k syntax omSyntax Absent Absent link
+linked_by syntax omSyntax k link = attribute_row ((97 + k) ∷ []) (2 ∷ k ∷ []) k syntax omSyntax None None link
 
 unfoldable pub linked_integers : ℕ → ℕ → List ℕ
 linked_integers = linked_by 9 2
@@ -109,7 +108,7 @@ demanding bits row = splice mandatory_at (padded attribute_set (bits ∷ [])) ro
 
 -- attributes 0, `area-Ha`, and 1
 unfoldable pub two_attributes : List (List ℕ)
-two_attributes = attribute_row area_ha (2 ∷ 1 ∷ []) 1 9 10 Absent Absent 0 ∷ attribute_row (98 ∷ []) (2 ∷ 2 ∷ []) 2 9 10 Absent Absent 0 ∷ []
+two_attributes = attribute_row area_ha (2 ∷ 1 ∷ []) 1 9 10 None None 0 ∷ attribute_row (98 ∷ []) (2 ∷ 2 ∷ []) 2 9 10 None None 0 ∷ []
 
 -- class 0 is abstract, 1 structural and demands attribute 0, 2 an auxiliary that demands what is given
 unfoldable pub three_classes : ℕ → List (List ℕ)
@@ -142,10 +141,10 @@ pub record Pieces : Type 0 where
   -- syntax 9 with 10; with 65: pass; 26
   pub p3 : ((by_syntax 9 10).number ≡ 0) × ((by_syntax 9 65).number ≡ refusal.syntax_misfit)
   -- range -1 to 0; 5 to 5: pass; pass (document 02, wish 1)
-  pub p4 : ((by_range (Given 0xFFFFFFFF) (Given 0)).number ≡ 0) × ((by_range (Given 5) (Given 5)).number ≡ 0)
+  pub p4 : ((by_range (Some 0xFFFFFFFF) (Some 0)).number ≡ 0) × ((by_range (Some 5) (Some 5)).number ≡ 0)
   -- both ends of i32; only one end: pass; pass
-  pub p5 : ((by_range (Given 0x80000000) (Given 0x7FFFFFFF)).number ≡ 0) × (((by_range (Given 5) Absent).number ≡ 0)
-      × ((by_range Absent (Given 5)).number ≡ 0))
+  pub p5 : ((by_range (Some 0x80000000) (Some 0x7FFFFFFF)).number ≡ 0) × (((by_range (Some 5) None).number ≡ 0)
+      × ((by_range None (Some 5)).number ≡ 0))
   -- linkID 1; 2 alone; 2 and 3: 29; pass; pass. Document 02: "P6's rows have 2.5.5.1."
   pub p6 : ((one (linked 0 1)).number ≡ refusal.link_alone) × (((one (linked 0 2)).number ≡ 0)
       × ((judged_rows (linked 0 2 ∷ linked 1 3 ∷ []) []).number ≡ 0))
@@ -172,8 +171,8 @@ pub record Pieces : Type 0 where
   pub binary : ((judged_rows (linked_with_binary 0 2 ∷ linked 1 3 ∷ []) []).number ≡ 0)
       × (judged_rows (linked 0 2 ∷ linked_with_binary 1 3 ∷ []) [] ≡ broken_by 45 Attributes 1)
   -- "Rule 25 shall hold only where rangeLower is greater than rangeUpper; both negative and equal passes too."
-  pub equal : ((by_range (Given 0xFFFFFFFD) (Given 0xFFFFFFFD)).number ≡ 0) × ((by_range (Given 0x80000000) (Given 0x80000000)).number ≡ 0)
-  pub crossed : ((by_range (Given 6) (Given 5)).number ≡ 25) × ((by_range (Given 0) (Given 0xFFFFFFFF)).number ≡ 25)
+  pub equal : ((by_range (Some 0xFFFFFFFD) (Some 0xFFFFFFFD)).number ≡ 0) × ((by_range (Some 0x80000000) (Some 0x80000000)).number ≡ 0)
+  pub crossed : ((by_range (Some 6) (Some 5)).number ≡ 25) × ((by_range (Some 0) (Some 0xFFFFFFFF)).number ≡ 25)
   -- the rule before the row: class 2 is structural under auxiliary, class 3 abstract under structural: 38, class 3; a later row's 29 before an earlier one's 45
   pub rule_first : under_each_other ≡ broken_by 38 Classes 3
   pub link_last : judged_rows (linked_integers 0 2 ∷ linked 1 5 ∷ []) [] ≡ broken_by 29 Attributes 1

@@ -1,5 +1,5 @@
 -- Every number that a call gives has a place in the order of judging, for any input.
-use Rattle.std.specs.Prelude.{List, [], ◌∷◌, ◌++◌, ◌≡◌, refl, ℕ, ◌<◌, length}
+use Rattle.std.specs.Prelude.{List, [], ◌∷◌, ◌++◌, ◌≡◌, refl, ℕ, ◌<◌, length, Err}
 use Rattle.std.proofs.Math.Logic.{⊎_elim}
 use Rattle.std.proofs.Common.{ap, subst, sym}
 use Rattle.std.proofs.Math.Decide.{ℕ_discrete, dec_lt}
@@ -11,17 +11,15 @@ use Rattle.schema.specs.Store.{LongEnough, Schema, Stores, schema_of}
 use Rattle.schema.specs.declared.answer.Answer.{Answer}
 use Rattle.graph.specs.Depth.{depth_of}
 use Rattle.graph.specs.DepthLaws.{depth_chain, late_no_chain}
-use Rattle.graph.specs.declared.depth.Depth.{Depth}
-use Rattle.graph.specs.declared.depth.Depth.TheVariants.{NotEarlier, Steps}
 use Rattle.sheet_read.specs.Reading.{read_sheet}
-use Rattle.sheet_read.specs.declared.read.SheetRead.{SheetRead}
-use Rattle.sheet_read.specs.declared.read.SheetRead.TheVariants.{Bad, Full, Read}
+use Rattle.sheet_read.specs.SheetRead.{SheetRead}
+use Rattle.sheet_read.specs.SheetRead.{Bad, Full, Read}
 use Rattle.rules.specs.declared.row.Added.{Added}
 use Rattle.rules.specs.declared.row.Added.TheVariants.{Nothing}
 use Rattle.rules.specs.Judge.{FirstBroken, here, judged, later}
 use Rattle.rules.specs.Rules.{Each, Rule, schema_rules}
 use Rattle.change_read.specs.declared.read.Change.{Change}
-use Rattle.change_read.specs.declared.read.ChangeRead.{ChangeRead}
+use Rattle.change_read.specs.ChangeRead.{ChangeRead}
 use Rattle.change_read.specs.Reading.{change_out, read_change}
 use Rattle.change_model.specs.Model.{change_cases, change_number}
 use Rattle.keeper.specs.Audit.{audit}
@@ -33,12 +31,13 @@ use Rattle.keeper_change.specs.Quick.{quick_change}
 use Rattle.keeper_promises.specs.Promises.{Fresh, InOrder, Shape, SomeShort}
 use Rattle.keeper_promises.specs.OrderLaws.{audit_one, audit_rule, audit_three, audit_two, audit_zero, has_shape, judged_meets, meets_judged}
 use Rattle.keeper_promises.specs.StoppingLaws.{number_of_lem, order_or_not, shape_or_not, short_or_long}
-use Rattle.change_read.specs.declared.read.ChangeRead.TheVariants as changes
+use Rattle.change_read.specs.ChangeRead as changes
 use Rattle.keeper_promises.specs.CallLaws as calls
 use Rattle.keeper_promises.specs.LoadLaws as loads
 use Rattle.keeper_promises.specs.PlainLaws as plain
 use Rattle.keeper_promises.specs.QuickLaws as quick
 use Rattle.keeper_promises.specs.ThirtyLaws as thirty
+use Rattle.std.specs.Prelude.{Option, Some, None}
 
 abbrev Placed : ℕ → Type 0
 Placed n = rank n < length order
@@ -150,11 +149,11 @@ depth_placed s c =
     (λ long d. answer_placed (calls.depth_two s c long d) named.two)
     (λ long shape. go long shape (dec_lt c (schema_of s).classes.count) (depth_of (schema_of s).classes c) refl)
   where
-    go : LongEnough s → Shape s → Dec (c < (schema_of s).classes.count) → (x : Depth) → depth_of (schema_of s).classes c ≡ x → Placed (depth s c).number
+    go : LongEnough s → Shape s → Dec (c < (schema_of s).classes.count) → (x : Option ℕ) → depth_of (schema_of s).classes c ≡ x → Placed (depth s c).number
     go long shape (no n) x e = answer_placed (calls.depth_five s c long shape (omega arith)) named.five
-    go long shape (yes l) (Steps k) e =
+    go long shape (yes l) (Some k) e =
         answer_placed (calls.depth_steps s c long shape k l (depth_chain (schema_of s).classes c k e)) named.zero
-    go long shape (yes l) NotEarlier e =
+    go long shape (yes l) None e =
         answer_placed (calls.depth_late s c long shape l ((late_no_chain (schema_of s).classes c).0 e)) named.eighteen
 
 -- ---- the changes
@@ -178,7 +177,7 @@ module _ (x : List ℕ) (s : Stores) where
           (λ long shape. is_placed (number_of_lem (plain.plain_three x s long shape d)) named.three)
 
       go : InOrder s → (y : ChangeRead) → (read_change x).answer ≡ y → Placed (plain_change x s).answer.number
-      go h (changes.Bad at) e = is_placed (number_of_lem (plain.plain_bad x s h at e)) named.four
+      go h (Err bad) e = is_placed (number_of_lem (plain.plain_bad x s h bad.at e)) named.four
       go h (changes.Read change) e =
           is_placed (plain.number_is x s h change (read_change x).row (carries e))
           (first_placed (change_cases change (read_change x).row (schema_of s)) (plain_cases change (read_change x).row))
@@ -197,7 +196,7 @@ module _ (x : List ℕ) (s : Stores) where
       (λ long d. is_placed (number_of_lem (quick.quick_two x s long d)) named.two) (λ long shape. go long shape (read_change x).answer refl)
     where
       go : LongEnough s → Shape s → (y : ChangeRead) → (read_change x).answer ≡ y → Placed (quick_change x s).answer.number
-      go long shape (changes.Bad at) e = is_placed (number_of_lem (quick.quick_bad x s long shape at e)) named.four
+      go long shape (Err bad) e = is_placed (number_of_lem (quick.quick_bad x s long shape bad.at e)) named.four
       go long shape (changes.Read change) e =
           is_placed (thirty.number_is x s change (read_change x).row (carries e) (has_shape s long shape))
           (first_placed (quick_cases change (read_change x).row (carries e)) (quick_cases_lem change (read_change x).row (carries e)))

@@ -28,7 +28,7 @@ use Rattle.change_rows.specs.Stores.{Applicable, store_after}
 use Rattle.change_asked.specs.Asked.{first_asked}
 use Rattle.change_rows.specs.Rows.{table_for}
 use Rattle.keeper_change.specs.Plain.{plain_change, plain_read, plain_answer}
-use Rattle.change_read.specs.declared.read.ChangeRead.{ChangeRead}
+use Rattle.change_read.specs.ChangeRead.{ChangeRead}
 use Rattle.graph.specs.Graph.{closure_rows}
 use Rattle.change_read.specs.ChangeLaws.{Reads, change_bytes_lem}
 use Rattle.schema.specs.Layout.{store_length, closure_length}

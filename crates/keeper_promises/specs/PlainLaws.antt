@@ -1,11 +1,11 @@
 -- What a plain change gives, case by case.
 use Rattle.std.proofs.Common.{arith, ◌∙◌, subst, subst₂}
 use Rattle.std.proofs.Math.Decide.{ℕ_discrete, dec_le}
-use Rattle.std.specs.Prelude.{◌<◌, ℕ, ◌≤◌, Bool, ◌&&◌, not, true, List, [], ◌↔◌}
+use Rattle.std.specs.Prelude.{◌<◌, ℕ, ◌≤◌, Bool, ◌&&◌, not, true, List, [], ◌↔◌, Err}
 use Rattle.std.proofs.Math.Bool.{cond}
 use Rattle.std.proofs.Math.Path.{◌≡◌, ap, refl, sym, ap₂}
-use Rattle.change_read.specs.declared.read.ChangeRead.TheVariants.{Read, Bad}
-use Rattle.change_read.specs.declared.read.ChangeRead.{ChangeRead}
+use Rattle.change_read.specs.ChangeRead.{Read, Bad}
+use Rattle.change_read.specs.ChangeRead.{ChangeRead}
 use Rattle.change_read.specs.Reading.{read_change, ChangeOut, change_out}
 use Rattle.change_read.specs.declared.read.Change.{Change}
 use Rattle.rules.specs.declared.row.Added.TheVariants.{Nothing}
@@ -202,8 +202,8 @@ module _ (x : List ℕ) (s : Stores) where
 
   -- and from a change that reads
   zero_reads : (y : ChangeRead) → read ≡ y → (plain_change x s).answer.number ≡ 0 → Accepted x m
-  zero_reads (Bad at) e z =
-      let q : ◌≡◌ {A = ℕ} 4 0 = sym (ap (λ (w : Result). w.answer.number) (plain_bad (zero_order z) at e)) ∙ z in absurd (omega arith)
+  zero_reads (Err bad) e z =
+      let q : ◌≡◌ {A = ℕ} 4 0 = sym (ap (λ (w : Result). w.answer.number) (plain_bad (zero_order z) bad.at e)) ∙ z in absurd (omega arith)
   zero_reads (Read change) e z =
       let reads : read_change x ≡ change_out (Read change) carried = ap (λ (y : ChangeRead). change_out y carried) e in
       zero_accepted change carried reads (sym (number_is (zero_order z) change carried reads) ∙ z)

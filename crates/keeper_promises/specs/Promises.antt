@@ -1,10 +1,10 @@
 -- What the calls promise, demand by demand, as types alone; demand 3 has a file of its own (Demand3). The proofs stand in the other files: `demand1` and
 -- `demand2` (PromisesLaws) are members of the two records. `load`, `audit`, `depth`, `write`, `plain_change` and `quick_change` are the definitions that the
 -- contracts of the calls equate with answer and final bytes, for every input.
-use Rattle.std.specs.Prelude.{false, List, ◌⊎◌, ◌↔◌, ◌≡◌, ℕ, ◌≤◌, ◌<◌, drop, length}
+use Rattle.std.specs.Prelude.{false, List, ◌⊎◌, ◌↔◌, ◌≡◌, ℕ, ◌≤◌, ◌<◌, drop, length, Some}
 use Rattle.prelude.specs.Part.{Bytes, part, splice}
 use Rattle.wire.specs.Wire.{field_at}
-use Rattle.wire.specs.declared.FieldRead.TheVariants.{Field}
+use Rattle.wire.specs.FieldRead.{Field}
 use Rattle.schema.specs.declared.number.TableId.{TableId}
 use Rattle.schema.specs.declared.number.TableId.TheVariants.{Attributes, Classes}
 use Rattle.schema.specs.Answers.{RowChanged, answer, passed, done, refused, short_output, field_answer, class_answer, number_answer}
@@ -14,10 +14,9 @@ use Rattle.schema.specs.Order.{order, rank}
 use Rattle.schema.specs.Store.{LongEnough, Stores, stores, result_of, schema_of, closure_at, Schema, table}
 use Rattle.tables.specs.Filled.{empty_stores}
 use Rattle.graph.specs.Graph.{closure_row}
-use Rattle.graph.specs.declared.depth.Depth.TheVariants.{Steps, NotEarlier}
 use Rattle.graph.specs.Depth.{EarlierChain, depth_answer}
-use Rattle.sheet_read.specs.declared.read.SheetRead.{SheetRead}
-use Rattle.sheet_read.specs.declared.read.SheetRead.TheVariants.{Bad, Full, Read}
+use Rattle.sheet_read.specs.SheetRead.{SheetRead}
+use Rattle.sheet_read.specs.SheetRead.{Bad, Full, Read}
 use Rattle.sheet_read.specs.Stopping.{SheetStops}
 use Rattle.sheet_read.specs.Reading.{read_sheet, schema_from, sheet_answer}
 use Rattle.rules_class.specs.Chain.{ChainEnds}
@@ -28,7 +27,7 @@ use Rattle.rules.specs.Judge.{FirstBroken}
 use Rattle.rules.specs.Meets.{Meets, Met, RuleName, rule_number, class_not_live}
 use Rattle.tables_shape.specs.Shape.{StoresFormed}
 use Rattle.tables.specs.Same.{SameRows}
-use Rattle.rows_read.specs.declared.read.RowRead.{RowRead}
+use Rattle.rows_read.specs.RowRead.{RowRead}
 use Rattle.rows_read.specs.Reading.{row_answer}
 use Rattle.rows_read.specs.ObjectClass.{read_row}
 use Rattle.sheet_round_trip.specs.Exact.{ExactSheet}
@@ -37,8 +36,7 @@ use Rattle.keeper.specs.Audit.{audit}
 use Rattle.keeper.specs.Depth.{depth}
 use Rattle.keeper.specs.Write.{sheet_of, write, written}
 use Rattle.change_read.specs.declared.read.Change.{Change}
-use Rattle.change_read.specs.declared.read.ChangeRead.{ChangeRead}
-use Rattle.change_read.specs.declared.read.Tagged.TheVariants.{Known}
+use Rattle.change_read.specs.ChangeRead.{ChangeRead}
 use Rattle.change_read.specs.Carried.{target_of}
 use Rattle.change_read.specs.Stopping.{ChangeStops}
 use Rattle.change_read.specs.Reading.{change_out, read_change, change_answer, change_of, format_of, scratch}
@@ -47,8 +45,9 @@ use Rattle.change_model.specs.Model.{added_by, rows_after}
 use Rattle.change_rows.specs.Rows.{is_addition, number_for, schema_after, table_for}
 use Rattle.keeper_change.specs.Plain.{plain_change}
 use Rattle.keeper_change.specs.Quick.{quick_change}
-use Rattle.change_read.specs.declared.read.ChangeRead.TheVariants as changes
+use Rattle.change_read.specs.ChangeRead as changes
 use Rattle.schema.specs.Refusals as refusal
+use Rattle.std.specs.Prelude.{Some, None}
 
 -- ---- the words
 
@@ -222,7 +221,7 @@ pub record Demand2 : Type 0 where
       → plain_change x s ≡ result_of (field_answer (length x) (field_at x 0 (length x))) s
   -- its value is read as a row is
   pub plain_value : (x : List ℕ) (s : Stores) → InOrder s → (tag start stop : ℕ) (change : Change) → field_at x 0 (length x) ≡ Field tag start stop
-      → change_of tag ≡ Known change → ¬ ((row_answer (value_read change x start stop)).number ≡ 0)
+      → change_of tag ≡ Some change → ¬ ((row_answer (value_read change x start stop)).number ≡ 0)
       → plain_change x s ≡ result_of (row_answer (value_read change x start stop)) s
   -- a target that is no number of its table
   pub plain_target : (x : List ℕ) (s : Stores) → InOrder s → (change : Change) (r : List ℕ) → read_change x ≡ change_out (changes.Read change) r
@@ -268,14 +267,14 @@ pub record Demand2 : Type 0 where
   -- so for a number beyond the limit
   pub depth_beyond : (s : Stores) (c : ℕ) → LongEnough s → Shape s → ¬ ((class_answer (class_read c)).number ≡ 0) → depth s c ≡ class_answer (class_read c)
   pub depth_steps : (s : Stores) (c k : ℕ) → LongEnough s → Shape s → c < (schema_of s).classes.count → EarlierChain (schema_of s).classes c k
-      → depth s c ≡ depth_answer (Steps k)
+      → depth s c ≡ depth_answer (Some k)
   pub depth_late : (s : Stores) (c : ℕ) → LongEnough s → Shape s → c < (schema_of s).classes.count → ((k : ℕ) → ¬ EarlierChain (schema_of s).classes c k)
-      → depth s c ≡ depth_answer NotEarlier
+      → depth s c ≡ depth_answer None
   -- where rule 18 is met every chain of superclasses comes to row 0, in at most as many steps as the number of its class says
   pub chain_ends : (added : Added) (m : Schema) → Met added class_not_live m → (c : ℕ) → c < m.classes.count → ChainEnds m.classes c
   -- so on stores that meet it, in order or not, depth never refuses by 18: it tells the steps of that chain
   pub depth_order : (s : Stores) (c : ℕ) → LongEnough s → Shape s → Met Nothing class_not_live (schema_of s) → c < (schema_of s).classes.count
-      → (ends : ChainEnds (schema_of s).classes c) × (depth s c ≡ depth_answer (Steps ends.steps))
+      → (ends : ChainEnds (schema_of s).classes c) × (depth s c ≡ depth_answer (Some ends.steps))
   -- "Tables, sheet, tables gives the same bytes if in order": written into any output with room, and loaded into any stores
   pub write_load : (s t : Stores) (out : List ℕ) → InOrder s → OfBytes s → LongEnough t → length (sheet_of s) ≤ length out
       → load (part 0 (write s out).answer.place (write s out).output) t ≡ result_of passed (moved s t)

@@ -34,7 +34,7 @@ use Rattle.change_read.specs.declared.carried.OpenList.{OpenList}
 use Rattle.change_read.specs.declared.carried.OpenList.TheVariants.{Auxiliary, Optional, Superior}
 use Rattle.change_read.specs.declared.read.Change.{Change}
 use Rattle.change_read.specs.declared.read.Change.TheVariants.{Add, AddEntry, Deactivate, Reactivate, RemoveEntry, Rename, SetRange}
-use Rattle.change_read.specs.declared.read.ChangeRead.TheVariants.{Read}
+use Rattle.change_read.specs.ChangeRead.{Read}
 use Rattle.change_rows.specs.Rows.{number_for, schema_after}
 use Rattle.change_asked.specs.Asked.{first_asked}
 use Rattle.change_model.proofs.SameLaws.{after_same}

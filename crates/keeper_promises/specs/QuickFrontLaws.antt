@@ -1,5 +1,5 @@
 -- A quick change touches no byte past the lengths, on any stores, in order or not, and leaves stores of bytes such.
-use Rattle.std.specs.Prelude.{List, [], ◌++◌, ◌∷◌, ◌≡◌, ◌<◌, ℕ}
+use Rattle.std.specs.Prelude.{List, [], ◌++◌, ◌∷◌, ◌≡◌, ◌<◌, ℕ, Err}
 use Rattle.std.proofs.Common.{◌∙◌, ap, subst, sym, arith}
 use Rattle.std.proofs.Math.Path.{refl}
 use Rattle.std.proofs.Math.Decide.{ℕ_discrete}
@@ -17,8 +17,8 @@ use Rattle.change_read.specs.ChangeLaws.{Reads}
 use Rattle.change_read.specs.Reading.{change_out, read_change}
 use Rattle.change_read.specs.declared.read.Change.{Change}
 use Rattle.change_read.specs.declared.read.Change.TheVariants.{Add}
-use Rattle.change_read.specs.declared.read.ChangeRead.{ChangeRead}
-use Rattle.change_read.specs.declared.read.ChangeRead.TheVariants.{Bad, Read}
+use Rattle.change_read.specs.ChangeRead.{ChangeRead}
+use Rattle.change_read.specs.ChangeRead.{Bad, Read}
 use Rattle.change_rows.specs.Rows.{schema_after}
 use Rattle.change_asked.specs.Asked.{asked_cases, first_asked}
 use Rattle.change_asked.specs.AskedLaws.{asked_room}
@@ -100,7 +100,7 @@ module _ (x : List ℕ) (bytes : Bytes x) (s : Stores) where
   done_reads z = go (read_change x).answer refl
     where
       go : (y : ChangeRead) → (read_change x).answer ≡ y → (change : Change) × ((read_change x).answer ≡ Read change)
-      go (Bad at) e = let q : ◌≡◌ {A = ℕ} 4 0 = told_number z (Bad at) e in absurd (omega arith)
+      go (Err bad) e = let q : ◌≡◌ {A = ℕ} 4 0 = told_number z (Err bad) e in absurd (omega arith)
       go (Read change) e = (change, e)
 
   pub made : Done → (change : Change) → (read_change x).answer ≡ Read change → Made change

@@ -9,8 +9,8 @@ use Rattle.schema.specs.StoreLaws.{says_short}
 use Rattle.schema.specs.declared.answer.Answer.{Answer}
 use Rattle.tables_shape.proofs.ShapeLaws.{says_formed}
 use Rattle.change_read.specs.Reading.{read_change}
-use Rattle.change_read.specs.declared.read.ChangeRead.{ChangeRead}
-use Rattle.change_read.specs.declared.read.ChangeRead.TheVariants.{Bad}
+use Rattle.change_read.specs.ChangeRead.{ChangeRead}
+use Rattle.change_read.specs.ChangeRead.{Bad}
 use Rattle.schema.specs.Answering.{first_answer}
 use Rattle.keeper.specs.InShape.{InShape, shape_answers}
 use Rattle.schema.specs.AnsweringLaws.{passed_last, refused_any}

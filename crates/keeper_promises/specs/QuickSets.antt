@@ -13,7 +13,7 @@ use Rattle.change_read.specs.Reading.{change_out, read_change}
 use Rattle.change_read.specs.declared.carried.OpenList.TheVariants.{Auxiliary, Optional, Superior}
 use Rattle.change_read.specs.declared.read.Change.{Change}
 use Rattle.change_read.specs.declared.read.Change.TheVariants.{Add, AddEntry, Deactivate, Reactivate, RemoveEntry, Rename, SetRange}
-use Rattle.change_read.specs.declared.read.ChangeRead.TheVariants.{Read}
+use Rattle.change_read.specs.ChangeRead.{Read}
 use Rattle.change_rows.specs.Rows.{schema_after}
 use Rattle.change_asked.specs.Asked.{asked_cases}
 use Rattle.change_model.specs.Model.{changed_cases}

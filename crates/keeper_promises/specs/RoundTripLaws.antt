@@ -21,7 +21,7 @@ use Rattle.rules.proofs.SameLaws.{kept_same}
 use Rattle.sheet_read.specs.Held.{Lent}
 use Rattle.sheet_read.specs.Reading.{Rows, SheetOut, read_sheet, schema_from, sheet_out}
 use Rattle.sheet_read.specs.ReadingLaws.{sheet_sound}
-use Rattle.sheet_read.specs.declared.read.SheetRead.TheVariants.{Read}
+use Rattle.sheet_read.specs.SheetRead.{Read}
 use Rattle.sheet_round_trip.specs.Exact.{ExactSheet}
 use Rattle.sheet_round_trip.specs.Longest.{longest_sheet}
 use Rattle.sheet_round_trip.specs.LongestLaws.{written_longest}

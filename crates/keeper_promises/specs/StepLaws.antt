@@ -1,6 +1,6 @@
 -- One plain change on stores in order, refused or done: the rows that it leaves are the model's, the stores stay in order, every class that was there
 -- demands what it did, and all else stays.
-use Rattle.std.specs.Prelude.{Bool, false, true, List, ◌⊎◌, ◌≡◌, refl, ◌<◌, ◌≤◌, ℕ}
+use Rattle.std.specs.Prelude.{Bool, false, true, List, ◌⊎◌, ◌≡◌, refl, ◌<◌, ◌≤◌, ℕ, Err}
 use Rattle.std.proofs.Common.{inl, inr, ◌∙◌, sym, arith}
 use Rattle.std.proofs.Math.Path.{ap, subst}
 use Rattle.std.proofs.Math.Decide.{dec_lt, ℕ_discrete}
@@ -25,8 +25,8 @@ use Rattle.graph.proofs.SameLaws.{closure_row_same, demands_same}
 use Rattle.graph.proofs.UnreachedLaws.{closure_unreached}
 use Rattle.change_read.specs.Reading.{ChangeOut, read_change}
 use Rattle.change_read.specs.declared.read.Change.{Change}
-use Rattle.change_read.specs.declared.read.ChangeRead.{ChangeRead}
-use Rattle.change_read.specs.declared.read.ChangeRead.TheVariants.{Bad, Read}
+use Rattle.change_read.specs.ChangeRead.{ChangeRead}
+use Rattle.change_read.specs.ChangeRead.{Bad, Read}
 use Rattle.change_rows.specs.Rows.{number_for, schema_after, table_for}
 use Rattle.change_model.specs.Conditions.{DemandDiffers}
 use Rattle.change_model.specs.Model.{answer_to, change_number, rows_after}
@@ -93,7 +93,7 @@ demands_kept t u d c l = go (says_split (says_same_sets attribute_set (demands t
 -- refused, the model's rows stay
 refused_stays : (read : ChangeRead) (r : List ℕ) (m : Schema) → ¬ ((answer_to read r m).number ≡ 0) → rows_after read r m ≡ m
 unfolding rows_after
-refused_stays (Bad at) r m d = refl
+refused_stays (Err bad) r m d = refl
 refused_stays (Read change) r m d =
     rw (says_false (says_eq (change_number change r m) 0) (λ z. d (ap (λ (a : Answer). a.number) (answer_done change r m z))))
 

@@ -1,5 +1,5 @@
 -- Numbers 4 and 6: when load and the change calls give them, and with which table and place.
-use Rattle.std.specs.Prelude.{List, [], ◌∷◌, ◌++◌, ◌↔◌, ◌⊎◌, ◌≡◌, refl, ℕ, ◌≤◌, ◌<◌}
+use Rattle.std.specs.Prelude.{List, [], ◌∷◌, ◌++◌, ◌↔◌, ◌⊎◌, ◌≡◌, refl, ℕ, ◌≤◌, ◌<◌, Err}
 use Rattle.std.proofs.Common.{inl, inr, ⊎_elim, ap, sym, ◌∙◌, arith}
 use Rattle.std.proofs.Math.Decide.{ℕ_discrete}
 use Rattle.prelude.specs.First.{first_of}
@@ -12,13 +12,13 @@ use Rattle.schema.specs.Answers.{answer, passed}
 use Rattle.schema.specs.Order.{rank, position}
 use Rattle.schema.specs.Store.{LongEnough, Result, Schema, Stores, result_of, schema_of}
 use Rattle.schema.specs.StoreLaws.{long_enough, says_short}
-use Rattle.sheet_read.specs.declared.read.SheetRead.{SheetRead}
-use Rattle.sheet_read.specs.declared.read.SheetRead.TheVariants.{Bad, Full, Read}
+use Rattle.sheet_read.specs.SheetRead.{SheetRead}
+use Rattle.sheet_read.specs.SheetRead.{Bad, Full, Read}
 use Rattle.sheet_read.specs.Reading.{read_sheet, schema_from, sheet_answer}
 use Rattle.sheet_read.specs.Stopping.{SheetStops}
 use Rattle.sheet_read.proofs.StoppingLaws.{sheet_stops}
 use Rattle.change_read.specs.declared.read.Change.{Change}
-use Rattle.change_read.specs.declared.read.ChangeRead.{ChangeRead}
+use Rattle.change_read.specs.ChangeRead.{ChangeRead}
 use Rattle.change_read.specs.Reading.{change_answer, change_out, read_change}
 use Rattle.change_read.specs.Stopping.{ChangeStops}
 use Rattle.change_read.specs.StoppingLaws.{change_stops}
@@ -41,7 +41,7 @@ use Rattle.keeper_promises.specs.OrderLaws.{has_shape}
 use Rattle.keeper_promises.specs.PlainLaws.{number_is, order_passes, passes_order, plain_bad, plain_one, plain_three, plain_two}
 use Rattle.keeper_promises.specs.Promises.{InOrder, Shape, SomeShort}
 use Rattle.keeper_promises.specs.QuickLaws.{quick_bad, quick_one, quick_two}
-use Rattle.change_read.specs.declared.read.ChangeRead.TheVariants as changes
+use Rattle.change_read.specs.ChangeRead as changes
 use Rattle.keeper_promises.specs.ThirtyLaws as thirty
 use Rattle.schema.specs.Refusals as refusal
 
@@ -178,7 +178,7 @@ module _ (x : List ℕ) (s : Stores) where
     where
       go : (plain_change x s).answer.number ≡ 4 → InOrder s → (y : ChangeRead) → (read_change x).answer ≡ y → (at : ℕ) × ChangeStops x (changes.Bad at)
       go z h (changes.Read change) e = absurd (not_four z (plain_number h change e))
-      go z h (changes.Bad at) e = (at, (change_stops x (changes.Bad at)).0 e)
+      go z h (Err bad) e = (bad.at, (change_stops x (Err bad)).0 e)
 
       to : (plain_change x s).answer.number ≡ 4 → InOrder s × ((at : ℕ) × ChangeStops x (changes.Bad at))
       to z =
@@ -198,7 +198,7 @@ module _ (x : List ℕ) (s : Stores) where
     where
       go : (quick_change x s).answer.number ≡ 4 → InShape s → (y : ChangeRead) → (read_change x).answer ≡ y → (at : ℕ) × ChangeStops x (changes.Bad at)
       go z h (changes.Read change) e = absurd (not_four z (quick_number_lem h change e))
-      go z h (changes.Bad at) e = (at, (change_stops x (changes.Bad at)).0 e)
+      go z h (Err bad) e = (bad.at, (change_stops x (Err bad)).0 e)
 
       short : (quick_change x s).answer.number ≡ 4 → SomeShort s → ⊥
       short z h = omega (arith, number_of_lem (quick_one x s h))

@@ -9,10 +9,9 @@ use Rattle.schema.specs.ClassRow.{open_optional_of, open_superior_of, superclass
 use Rattle.schema.specs.Numbers.{SameRow}
 use Rattle.schema.specs.Row.{SameArcs, arc_count, arc_of, guid_of, is_defunct, name_of}
 use Rattle.schema.specs.Store.{Schema, Stores, Table, allowed_in, demanded_in, reached_in, schema_of, table}
-use Rattle.schema.specs.declared.attribute.Bound.TheVariants.{Given}
-use Rattle.schema.specs.declared.class.Naming.TheVariants.{By}
 use Rattle.schema.specs.declared.number.TableId.{TableId}
 use Rattle.keeper_promises.specs.PaperTables.{LinkSyntax, RightObjectClass, SignedAtMost, SmallOf, SyntaxPair}
+use Rattle.std.specs.declared.option.Option.TheVariants as option
 
 -- ---- words
 
@@ -89,7 +88,7 @@ pub record AttributeSound (a : Table) (row : List ℕ) : Type 0 where
   pub syntaxes : SyntaxPair (syntax_of row) (om_syntax_of row)
   pub object : om_syntax_of row ≡ 127 → RightObjectClass (syntax_of row) (object_class_of row)
   pub no_object : ¬ (om_syntax_of row ≡ 127) → object_class_of row ≡ []
-  pub range : (l u : ℕ) → range_lower row ≡ Given l → range_upper row ≡ Given u → SignedAtMost l u
+  pub range : (l u : ℕ) → range_lower row ≡ option.Some l → range_upper row ≡ option.Some u → SignedAtMost l u
   -- "An odd linkID without a live attribute holding the number one less; 1 never has one"
   pub forward : link_of row % 2 ≡ 1 → Some a.count (λ j. Usable a row j × ((link_of (a.row j) + 1 ≡ link_of row) × ¬ (link_of (a.row j) ≡ 0)))
   -- "Linked attributes must hold names."
@@ -101,7 +100,7 @@ pub record ClassSound (m : Schema) (c : ℕ) (row : List ℕ) : Type 0 where
   pub mandatory : (b : ℕ) → bit (mandatory_of row) b ≡ 1 → Usable m.attributes row b
   pub fixed_optional : (b : ℕ) → bit (fixed_optional_of row) b ≡ 1 → Usable m.attributes row b
   pub open_optional : (b : ℕ) → bit (open_optional_of row) b ≡ 1 → Usable m.attributes row b
-  pub naming : (b : ℕ) → naming_of row ≡ By (record { 0 = b })
+  pub naming : (b : ℕ) → naming_of row ≡ option.Some (record { 0 = b })
       → Usable m.attributes row b × ((syntax_of (m.attributes.row b) ≡ 12) × (is_single_valued (m.attributes.row b) ≡ true))
   -- so is every class: "19 An auxiliary not of category 0 or 3. 20 A possible superior not of category 0 or 1."
   pub superclass : Usable m.classes row (superclass_of row)

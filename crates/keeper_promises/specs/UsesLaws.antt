@@ -17,10 +17,6 @@ use Rattle.schema.specs.ObjectClassesLaws.{says_object_class_fits}
 use Rattle.schema.specs.Row.{HasArcs, arc_count, arc_of, flag_at, is_defunct}
 use Rattle.schema.specs.RowLaws.{same_arcs}
 use Rattle.schema.specs.Store.{Stores, schema_of, table, table_in, Schema, Table}
-use Rattle.schema.specs.declared.attribute.Bound.{Bound}
-use Rattle.schema.specs.declared.attribute.Bound.TheVariants.{Given, Absent}
-use Rattle.schema.specs.declared.class.Naming.{Naming}
-use Rattle.schema.specs.declared.class.Naming.TheVariants.{By}
 use Rattle.schema.specs.declared.number.TableId.{TableId}
 use Rattle.schema.specs.declared.number.TableId.TheVariants.{Attributes, Classes}
 use Rattle.tables.specs.Live.{Live}
@@ -48,7 +44,8 @@ use Rattle.keeper_promises.specs.Promises.{InOrder, OfBytes}
 use Rattle.keeper_promises.specs.Uses.{AttributeSound, ClassSound, OneName, ReachSound, Reached, RowSound, RowsApart}
 use Rattle.keeper_promises.specs.Uses.{Uses, Active, Usable, itself, by_superclass, by_fixed, by_open}
 use Rattle.keeper_promises.specs.UsesGraphLaws.{kept_sound}
-use Rattle.schema.specs.declared.class.Naming.TheVariants as naming
+use Rattle.schema.specs.declared.number.AttributeNumber.{AttributeNumber}
+use Rattle.std.specs.Prelude.{Option, Some, None}
 
 -- ---- live rows
 
@@ -72,41 +69,41 @@ bit_below at w row n e = go (dec_lt n (w * 8))
 
 -- ---- numbers in a row
 
-number_in : Naming → ℕ
-number_in (By a) = a.0
-number_in naming.Absent = 0
+number_in : Option AttributeNumber → ℕ
+number_in (Some a) = a.0
+number_in None = 0
 
-naming_below : (row : List ℕ) (b : ℕ) → Bytes row → naming_of row ≡ By (record { 0 = b }) → b < 256
+naming_below : (row : List ℕ) (b : ℕ) → Bytes row → naming_of row ≡ Some (record { 0 = b }) → b < 256
 unfolding naming_of number_in
 naming_below row b bytes e = go (flag_at naming_at row) refl
   where
     go : (f : Bool) → flag_at naming_at row ≡ f → b < 256
     go true q =
         let n : get_or row (naming_at + 1) 0 ≡ b =
-        sym (ap (λ (f : Bool). number_in (cond f (By (record { 0 = get_or row (naming_at + 1) 0 })) naming.Absent)) q) ∙ ap number_in e in
+        sym (ap (λ (f : Bool). number_in (cond f (Some (record { 0 = get_or row (naming_at + 1) 0 })) None)) q) ∙ ap number_in e in
         omega (arith, bytes (naming_at + 1))
     go false q =
-        let n : 0 ≡ b = sym (ap (λ (f : Bool). number_in (cond f (By (record { 0 = get_or row (naming_at + 1) 0 })) naming.Absent)) q) ∙ ap number_in e in
+        let n : 0 ≡ b = sym (ap (λ (f : Bool). number_in (cond f (Some (record { 0 = get_or row (naming_at + 1) 0 })) None)) q) ∙ ap number_in e in
         omega arith
 
-end_in : Bound → ℕ
-end_in (Given x) = x
-end_in Absent = 0
+end_in : Option ℕ → ℕ
+end_in (Some x) = x
+end_in None = 0
 
 number_below : (row : List ℕ) (at : ℕ) → Bytes row → big_endian 4 at row < 4294967296
 number_below row at bytes =
     omega (arith, four_bytes at row, two_bytes at row, two_bytes (at + 2) row, bytes at, bytes (at + 1), bytes (at + 2), bytes (at + 2 + 1))
 
-end_below : (row : List ℕ) (at x : ℕ) → Bytes row → bound_at at row ≡ Given x → x < 4294967296
+end_below : (row : List ℕ) (at x : ℕ) → Bytes row → bound_at at row ≡ Some x → x < 4294967296
 unfolding bound_at end_in
 end_below row at x bytes e = go (flag_at at row) refl
   where
     go : (f : Bool) → flag_at at row ≡ f → x < 4294967296
     go true q =
-        let n : big_endian 4 (at + 1) row ≡ x = sym (ap (λ (f : Bool). end_in (cond f (Given (big_endian 4 (at + 1) row)) Absent)) q) ∙ ap end_in e in
+        let n : big_endian 4 (at + 1) row ≡ x = sym (ap (λ (f : Bool). end_in (cond f (Some (big_endian 4 (at + 1) row)) None)) q) ∙ ap end_in e in
         omega (arith, number_below row (at + 1) bytes)
     go false q =
-        let n : 0 ≡ x = sym (ap (λ (f : Bool). end_in (cond f (Given (big_endian 4 (at + 1) row)) Absent)) q) ∙ ap end_in e in
+        let n : 0 ≡ x = sym (ap (λ (f : Bool). end_in (cond f (Some (big_endian 4 (at + 1) row)) None)) q) ∙ ap end_in e in
         omega arith
 
 -- a row whose oMSyntax is not 127 has no oMObjectClass
@@ -210,7 +207,7 @@ module _ (m : Schema) (met : Meets Nothing m) where
           → Usable classes row d × ((category_of (classes.row d) ≡ 0) ⊎ (category_of (classes.row d) ≡ 1))
       superior_fits d below h = fits Superiors (met not_a_superior) c d l below h (inr (inr h))
 
-      naming_fits : (b : ℕ) → naming_of row ≡ By (record { 0 = b })
+      naming_fits : (b : ℕ) → naming_of row ≡ Some (record { 0 = b })
           → Usable m.attributes row b × ((syntax_of (m.attributes.row b) ≡ 12) × (is_single_valued (m.attributes.row b) ≡ true))
       naming_fits b e =
           let u = names_attribute c b l (naming_below row b (bytes c) e) (inr (inr (inr e))) in

@@ -4,3 +4,4 @@ pub mod Room
 pub mod Loaded
 pub mod Vectors
 pub mod ListingLaws
+pub mod Decimal

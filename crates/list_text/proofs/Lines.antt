@@ -1,15 +1,15 @@
 -- The line of a class, piece by piece.
 use mathlib.Core.Bool.{Bool, true, false, cond}
-use mathlib.Core.List.{List, [], ◌∷◌, ◌++◌}
+use mathlib.Core.List.{List, [], ◌∷◌, ◌++◌, append_assoc}
 use mathlib.Core.Path.{◌≡◌, refl, sym, ap, ◌∙◌}
-use Prim.Native.Nat.{ℕ, ◌+◌, ◌≤◌}
+use Prim.Native.Nat.{ℕ, ◌+◌, ◌≤◌, ◌<◌}
 use native.Mathlib.Omega.{arith}
 use lib.Dec.{eqb}
 use lib.ListN.{length, length-append}
-use borrow.Author.Tests.{eq-eqb}
-use Rattle.prelude.specs.SaysLaws.{says_eq, says_false}
-use Rattle.prelude.specs.Written.{WrittenAt}
-use Rattle.prelude.specs.WrittenLaws.{written_as, written_then, written_length}
+use Rattle.std.proofs.Common.{append-nil}
+use borrow.Author.Tests.{eq-eqb, ne_eqb}
+use Rattle.prelude.specs.Concat.{concat_below}
+use Rattle.prelude.specs.ConcatLaws.{concat_more, concat_next_within, concat_none}
 use Rattle.schema.specs.declared.answer.Answer.{Answer}
 use Rattle.schema.specs.Layout.{common_width, name_limit, arc_limit}
 use Rattle.schema.specs.Row.{name_length, name_of, arc_count, arc_of}
@@ -20,15 +20,42 @@ use Rattle.list_text.specs.Text.{ascii, decimal, word, text_line}
 use Rattle.list_text.specs.TextLaws.{word_length}
 use Rattle.list_text.specs.Listing.{Counts, arc_text, identifier_text, class_line, refused_line, ListedClass}
 
+-- ---- text that was put behind other text
+
+module _ (before : List ℕ) where
+  pub put_length : (text : List ℕ) {after : List ℕ} → after ≡ before ++ text → length after ≡ length before + length text
+  put_length text e = ap length e ∙ length-append before text
+
+  pub put_then : (u v : List ℕ) {mid after : List ℕ} → mid ≡ before ++ u → after ≡ mid ++ v → after ≡ before ++ (u ++ v)
+  put_then u v p q = rw (q, p) (simp append_assoc)
+
+  -- by a loop: the first k of n pieces stand there
+  module _ (f : ℕ → List ℕ) where
+    pub put_none : before ≡ before ++ concat_below 0 f
+    put_none = sym (ap (λ (x : List ℕ). before ++ x) (concat_none f) ∙ append-nil before)
+
+    module _ (k : ℕ) {now : List ℕ} (p : now ≡ before ++ concat_below k f) where
+      pub put_more : {after : List ℕ} → after ≡ now ++ f k → after ≡ before ++ concat_below (k + 1) f
+      put_more q = put_then (concat_below k f) (f k) p q ∙ ap (λ (x : List ℕ). before ++ x) (sym (concat_more f k))
+
+      pub put_room : (n limit : ℕ) → k < n → length before + length (concat_below n f) ≤ limit → length now + length (f k) ≤ limit
+      put_room n limit l h = omega (arith, put_length (concat_below k f) p, concat_next_within f k n l)
+
 -- ---- an arc
 
-pub first_arc : (row : List ℕ) (k : ℕ) {n : ℕ} → k ≡ 0 → n ≡ arc_of row k → arc_text row k ≡ decimal n
-unfolding arc_text
-first_arc row k z e = rw (eq-eqb k 0 z, e)
+-- the dot before each but the first
+abbrev pub dot : ℕ → List ℕ
+dot k = cond (eqb k 0) [] (46 ∷ [])
 
-pub later_arc : (row : List ℕ) (k : ℕ) {n : ℕ} → ¬ (k ≡ 0) → n ≡ arc_of row k → arc_text row k ≡ (46 ∷ []) ++ decimal n
+pub arc_dotted : (row : List ℕ) (k : ℕ) {n : ℕ} → n ≡ arc_of row k → arc_text row k ≡ dot k ++ decimal n
 unfolding arc_text
-later_arc row k z e = rw (says_false (says_eq k 0) z, e)
+arc_dotted row k e = rw e
+
+pub dot_later : (k : ℕ) → 0 < k → dot k ≡ 46 ∷ []
+dot_later k l = rw (ne_eqb k 0 (λ (e : k ≡ 0). omega arith))
+
+pub dot_first : (k : ℕ) → k ≤ 0 → dot k ≡ []
+dot_first k l = let z : k ≡ 0 = omega arith in rw (eq-eqb k 0 z)
 
 pub dot_short : (row : List ℕ) (k : ℕ) → length (arc_text row k) ≤ 1 + length (decimal (arc_of row k))
 unfolding arc_text
@@ -52,34 +79,12 @@ module _ (c : ℕ) (v i : List ℕ) (m y : ℕ) where
   five_length =
       ap length five_words ∙ simp (length-append, word_length) (omega arith)
 
-  -- as the code writes it: the identifier and the space behind it apart
-  pub five_written : {at p q r s t next : ℕ} {o a b d e f g : List ℕ} → at + length five ≤ length o
-      → WrittenAt (word (decimal c) 32) at p o a → WrittenAt (word v 32) p q a b → WrittenAt i q r b d → WrittenAt (32 ∷ []) r s d e
-      → WrittenAt (word (decimal m) 32) s t e f → WrittenAt (word (decimal y) 10) t next f g → WrittenAt five at next o g
+  -- as the code puts it: the identifier and the space behind it apart
+  pub five_put : (o : List ℕ) {p q r s t u : List ℕ} → p ≡ o ++ word (decimal c) 32 → q ≡ p ++ word v 32 → r ≡ q ++ i → s ≡ r ++ (32 ∷ [])
+      → t ≡ s ++ word (decimal m) 32 → u ≡ t ++ word (decimal y) 10 → u ≡ o ++ five
   unfolding word
-  five_written {o = o} {a = a} {b = b} {d = d} {e = e} {f = f} h w₁ w₂ w₃ w₄ w₅ w₆ =
-      let l₁ : length a ≡ length o = written_length (omega (arith, five_length, word_length (decimal c) 32)) w₁ in
-      let l₂ : length b ≡ length a = written_length (omega (arith, five_length, w₁.place, word_length (decimal c) 32, word_length v 32)) w₂ in
-      let l₃ : length d ≡ length b = written_length (omega (arith, five_length, w₁.place, w₂.place, word_length (decimal c) 32, word_length v 32)) w₃ in
-      let l₄ : length e ≡ length d = written_length
-      (omega (arith, five_length, w₁.place, w₂.place, w₃.place, word_length (decimal c) 32, word_length v 32)) w₄ in
-      written_as five_words
-      (written_then (omega (arith, five_length, word_length (decimal c) 32)) w₁
-      (written_then (omega (arith, five_length, w₁.place, word_length (decimal c) 32, word_length v 32)) w₂
-      (written_then (omega (arith, five_length, w₁.place, w₂.place, word_length (decimal c) 32, word_length v 32, word_length i 32))
-      (written_then (omega (arith, five_length, w₁.place, w₂.place, word_length (decimal c) 32, word_length v 32)) w₃ w₄)
-      (written_then (omega (
-        arith,
-        five_length,
-        w₁.place,
-        w₂.place,
-        w₃.place,
-        w₄.place,
-        word_length (decimal c) 32,
-        word_length v 32,
-        word_length
-            (decimal m) 32,
-      )) w₅ w₆))))
+  five_put o h₁ h₂ h₃ h₄ h₅ h₆ =
+      rw (h₆, h₅, h₄, h₃, h₂, h₁, five_words) (simp append_assoc)
 
 -- ---- the line of a class
 
@@ -119,25 +124,7 @@ module _ (a : Answer) where
   pub refused_length : length (refused_line a) ≡ 8 + (length (decimal a.number) + 1) + (length (decimal a.table) + 1) + (length (decimal a.place) + 1)
   refused_length = ap length refused_words ∙ simp (length-append, word_length) (unfold ascii in omega arith)
 
-  pub refused_written : {at p q r next : ℕ} {o e f g h v : List ℕ} → at + length (refused_line a) ≤ length o → ascii "refused" ≡ v
-      → WrittenAt (word v 32) at p o e → WrittenAt (word (decimal a.number) 32) p q e f → WrittenAt (word (decimal a.table) 32) q r f g
-      → WrittenAt (word (decimal a.place) 10) r next g h
-      → WrittenAt (refused_line a) at next o h
-  refused_written {o = o} {e = e} {f = f} {v = v} k s w₁ w₂ w₃ w₄ =
-      let seven : length v ≡ 7 = sym (ap length s) ∙ (unfold ascii in refl) in
-      let l₁ : length e ≡ length o = written_length (omega (arith, refused_length, word_length v 32)) w₁ in
-      let l₂ : length f ≡ length e = written_length (omega (arith, refused_length, w₁.place, word_length v 32, word_length (decimal a.number) 32)) w₂ in
-      written_as (refused_words
-      ∙ ap (λ (x : List ℕ). word x 32 ++ (word (decimal a.number) 32 ++ (word (decimal a.table) 32 ++ word (decimal a.place) 10))) s)
-      (written_then (omega (arith, refused_length, word_length v 32)) w₁
-      (written_then (omega (arith, refused_length, w₁.place, word_length v 32, word_length (decimal a.number) 32)) w₂
-      (written_then (omega (
-        arith,
-        refused_length,
-        w₁.place,
-        w₂.place,
-        word_length v 32,
-        word_length (decimal a.number) 32,
-        word_length
-            (decimal a.table) 32,
-      )) w₃ w₄)))
+  pub refused_put : {v p q r s : List ℕ} → ascii "refused" ≡ v → p ≡ word v 32 → q ≡ p ++ word (decimal a.number) 32 → r ≡ q ++ word (decimal a.table) 32
+      → s ≡ r ++ word (decimal a.place) 10 → s ≡ refused_line a
+  refused_put e h₁ h₂ h₃ h₄ =
+      rw (h₄, h₃, h₂, h₁, ← e, refused_words) (simp append_assoc)

@@ -1,6 +1,5 @@
 -- The longest text fits.
 use mathlib.Core.List.{List}
-use mathlib.Core.Path.{◌≡◌, refl}
 use Prim.Native.Nat.{ℕ, ◌+◌, ◌*◌, ◌^◌, ◌≤◌, ◌<◌}
 use native.Mathlib.Omega.{arith}
 use lib.ListN.{length}
@@ -17,9 +16,9 @@ use Rattle.schema.specs.Row.{name_length, name_of, arc_count, arc_of}
 use Rattle.schema.specs.Store.{table_in, closure_at}
 use Rattle.schema.specs.declared.number.TableId.TheVariants.{Classes}
 use Rattle.tables.specs.Shaped.{Bounded, TableShaped}
-use Rattle.list_text.specs.Text.{ascii, decimal}
+use Rattle.list_text.specs.Text.{decimal}
 use Rattle.list_text.specs.TextLaws.{decimal_short}
-use Rattle.list_text.specs.Listing.{kept_count, kept_counts, arc_text, identifier_text, class_line, class_lines, head_line, head_length, line_length}
+use Rattle.list_text.specs.Listing.{kept_count, kept_counts, arc_text, identifier_text, class_line, class_lines, line_length}
 use Rattle.list_text.specs.Listing.{refused_line, text_length}
 use Rattle.list_text.proofs.Lines.{dot_short, class_length, refused_length}
 
@@ -63,10 +62,6 @@ module _ (classes closure : List ℕ) (bytes : Bytes classes) (shaped : TableSha
         line_short,
     shaped.few,
   )
-
-pub head_length_lem : length head_line ≡ head_length
-unfolding head_line ascii
-head_length_lem = refl
 
 pub refused_short : (a : Answer) → a.number < 256 → a.table < 256 → a.place < 2 ^ 64 → length (refused_line a) ≤ text_length
 refused_short a n t p = omega (

@@ -1,15 +1,14 @@
 // The lines of the classes.
-ghost use Rattle.std.specs.Prelude.{◌≡◌, ◌+◌, ◌≤◌, ◌<◌, length};
-ghost use Rattle.prelude.specs.Written.{WrittenAt};
+ghost use Rattle.std.specs.Prelude.{◌≡◌, ◌+◌, ◌≤◌, ◌<◌, ◌++◌, length};
 ghost use Rattle.schema.specs.Numbers.{class_limit};
 ghost use Rattle.schema.specs.Layout.{common_width, arc_limit, attribute_set, closure_width, closure_length};
 ghost use Rattle.schema.specs.Row.{arc_count};
 ghost use Rattle.schema.specs.Store.{table_in};
 ghost use Rattle.schema.specs.declared.number.TableId.TheVariants.{Classes};
 ghost use Rattle.tables.specs.Shaped.{TableShaped};
-ghost use Rattle.list_text.specs.Listing.{kept_count, kept_counts, arc_text, identifier_text, class_line, class_lines, ListedClass};
+ghost use Rattle.list_text.specs.Listing.{kept_count, kept_counts, arc_text, identifier_text, class_line, class_lines, text_length, ListedClass};
 
-use crate::text::{LINE_FEED, SPACE, put_byte, put_decimal, put_number, put_word};
+use crate::text::{LINE_FEED, SPACE, Text};
 use prelude::part::part_of;
 use schema::layout::{ALLOWED, ATTRIBUTE_SET, DEMANDED};
 use schema::number::{ClassNumber, TableId, class_at};
@@ -25,63 +24,51 @@ fn kept_count(closure: &[u8], c: ClassNumber, at: usize) -> usize
     count(part_of(closure_row(closure, c), at, ATTRIBUTE_SET))
 }
 
-// Writes arc k of an object identifier, with a dot before each but the first.
-fn put_arc(row: &[u8], k: usize, out: &mut [u8], at: usize) -> usize
-    requires { (common_width ≤ length row.now) × (k < arc_limit) × (at + length (arc_text row.now k) ≤ length out.old) }
-    ensures { WrittenAt (arc_text row.now k) at result out.old out.new }
+// Puts arc k of an object identifier, with a dot before each but the first.
+fn put_arc(row: &[u8], k: usize, text: &mut Text)
+    requires { (common_width ≤ length row.now) × (k < arc_limit) × (length text.old + length (arc_text row.now k) ≤ text_length) }
+    ensures { text.new ≡ text.old ++ arc_text row.now k }
 {
-    let number = arc(row, k) as usize;
-    if k == 0 {
-        return put_decimal(number, out, at);
+    if k > 0 {
+        text.put_byte(b'.');
     }
-    let next = put_byte(b'.', out, at);
-    put_decimal(number, out, next)
+    text.put_decimal(arc(row, k) as usize);
 }
 
-// Writes an object identifier.
-fn put_identifier(row: &[u8], out: &mut [u8], at: usize) -> usize
-    requires { (common_width ≤ length row.now) × (arc_count row.now ≤ arc_limit) × (at + length (identifier_text row.now) ≤ length out.old) }
-    ensures { WrittenAt (identifier_text row.now) at result out.old out.new }
+// Puts an object identifier.
+fn put_identifier(row: &[u8], text: &mut Text)
+    requires { (common_width ≤ length row.now) × (arc_count row.now ≤ arc_limit) × (length text.old + length (identifier_text row.now) ≤ text_length) }
+    ensures { text.new ≡ text.old ++ identifier_text row.now }
 {
     let n = arc_count(row);
-    let mut next = at;
-    let mut k = 0;
-    while k < n {
-        next = put_arc(row, k, out, next);
-        k += 1;
+    for k in 0..n {
+        put_arc(row, k, text);
     }
-    next
 }
 
-// Writes the line of one class.
-fn put_class(classes: &[u8], closure: &[u8], c: ClassNumber, out: &mut [u8], at: usize) -> usize
+// Puts the line of one class.
+fn put_class(classes: &[u8], closure: &[u8], c: ClassNumber, text: &mut Text)
     requires { ListedClass classes.now closure.now c.0
-        × (at + length (class_line (kept_counts closure.now) (table_in Classes classes.now) c.0) ≤ length out.old) }
-    ensures { WrittenAt (class_line (kept_counts closure.now) (table_in Classes classes.now) c.0) at result out.old
-        out.new }
+        × (length text.old + length (class_line (kept_counts closure.now) (table_in Classes classes.now) c.0) ≤ text_length) }
+    ensures { text.new ≡ text.old ++ class_line (kept_counts closure.now) (table_in Classes classes.now) c.0 }
 {
     let row = class_row(classes, c);
-    let named = put_number(c.0, SPACE, out, at);
-    let identified = put_word(name(row), SPACE, out, named);
-    let behind = put_identifier(row, out, identified);
-    let counted = put_byte(SPACE, out, behind);
-    let last = put_number(kept_count(closure, c, DEMANDED), SPACE, out, counted);
-    put_number(kept_count(closure, c, ALLOWED), LINE_FEED, out, last)
+    text.put_number(c.0, SPACE);
+    text.put_word(name(row), SPACE);
+    put_identifier(row, text);
+    text.put_byte(SPACE);
+    text.put_number(kept_count(closure, c, DEMANDED), SPACE);
+    text.put_number(kept_count(closure, c, ALLOWED), LINE_FEED);
 }
 
-// Writes the lines of all classes, defunct too.
-pub fn put_classes(classes: &[u8], closure: &[u8], out: &mut [u8], at: usize) -> usize
+// Puts the lines of all classes, defunct too.
+pub fn put_classes(classes: &[u8], closure: &[u8], text: &mut Text)
     requires { TableShaped Classes classes.now × (closure_length ≤ length closure.now)
-        × (at + length (class_lines (kept_counts closure.now) (table_in Classes classes.now)) ≤ length out.old) }
-    ensures { WrittenAt (class_lines (kept_counts closure.now) (table_in Classes classes.now)) at result out.old
-        out.new }
+        × (length text.old + length (class_lines (kept_counts closure.now) (table_in Classes classes.now)) ≤ text_length) }
+    ensures { text.new ≡ text.old ++ class_lines (kept_counts closure.now) (table_in Classes classes.now) }
 {
     let n = row_count(TableId::Classes, classes);
-    let mut next = at;
-    let mut c = 0;
-    while c < n {
-        next = put_class(classes, closure, class_at(c), out, next);
-        c += 1;
+    for c in 0..n {
+        put_class(classes, closure, class_at(c), text);
     }
-    next
 }

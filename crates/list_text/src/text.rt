@@ -1,50 +1,85 @@
-// Text written at a place of a lent output. Each function gives the place after what it wrote.
-ghost use Rattle.std.specs.Prelude.{[], ◌∷◌, ◌+◌, ◌≤◌, ◌<◌, length};
-ghost use Rattle.prelude.specs.Written.{WrittenAt};
+// Text in a room of fixed size: what is put goes behind what stands there.
+ghost use Rattle.std.specs.Prelude.{◌≡◌, [], ◌∷◌, ◌+◌, ◌≤◌, ◌<◌, ◌++◌, length};
+ghost use Rattle.list_text.specs.Listing.{text_length};
 ghost use Rattle.list_text.specs.Text.{decimal, word};
 
-use prelude::part::put_bytes;
+use crate::list::TEXT_LENGTH;
+use arrayvec::ArrayVec;
+use itoa::Buffer;
+use std::marker::Model;
 
 pub const SPACE: u8 = 32;
 
 pub const LINE_FEED: u8 = 10;
 
-// Writes one byte.
-pub fn put_byte(b: u8, out: &mut [u8], at: usize) -> usize
-    requires { at < length out.old }
-    ensures { WrittenAt (b ∷ []) at result out.old out.new }
-{
-    out[at] = b;
-    at + 1
+#[derive(Drop)]
+pub struct Text {
+    bytes: ArrayVec<u8, TEXT_LENGTH>,
 }
 
-// Writes a number in decimal: the digits before the last by a call of itself, which ends since the number falls.
-pub fn put_decimal(n: usize, out: &mut [u8], at: usize) -> usize
-    requires { at + length (decimal n) ≤ length out.old }
-    ensures { WrittenAt (decimal n) at result out.old out.new }
-{
-    let last = b'0' + (n % 10) as u8;
-    if n < 10 {
-        return put_byte(last, out, at);
+impl Model for Text {
+    ghost use Rattle.std.specs.Prelude.{ℕ, List};
+
+    ghost Value = { List ℕ };
+
+    ghost view = { λ t. t.bytes.items };
+}
+
+impl Text {
+    pub fn new() -> Text
+        ensures { result ≡ [] }
+    {
+        Text {
+            bytes: ArrayVec::new(),
+        }
     }
-    let next = put_decimal(n / 10, out, at);
-    put_byte(last, out, next)
-}
 
-// Writes a word and the byte behind it.
-pub fn put_word(v: &[u8], behind: u8, out: &mut [u8], at: usize) -> usize
-    requires { at + length (word v.now behind) ≤ length out.old }
-    ensures { WrittenAt (word v.now behind) at result out.old out.new }
-{
-    let next = put_bytes(v, out, at);
-    put_byte(behind, out, next)
-}
+    pub fn as_slice(&self) -> &[u8]
+        ensures value { result.now ≡ self.now }
+        ensures fits { length result.now ≤ text_length }
+    {
+        self.bytes.as_slice()
+    }
 
-// Writes a number and the byte behind it.
-pub fn put_number(n: usize, behind: u8, out: &mut [u8], at: usize) -> usize
-    requires { at + length (word (decimal n) behind) ≤ length out.old }
-    ensures { WrittenAt (word (decimal n) behind) at result out.old out.new }
-{
-    let next = put_decimal(n, out, at);
-    put_byte(behind, out, next)
+    // Puts bytes.
+    pub fn put(&mut self, v: &[u8])
+        requires { length self.old + length v.now ≤ text_length }
+        ensures { self.new ≡ self.old ++ v.now }
+    {
+        self.bytes.try_extend_from_slice(v).unwrap();
+    }
+
+    // Puts one byte.
+    pub fn put_byte(&mut self, b: u8)
+        requires { length self.old < text_length }
+        ensures { self.new ≡ self.old ++ b ∷ [] }
+    {
+        self.bytes.push(b);
+    }
+
+    // Puts a number in decimal.
+    pub fn put_decimal(&mut self, n: usize)
+        requires { length self.old + length (decimal n) ≤ text_length }
+        ensures { self.new ≡ self.old ++ decimal n }
+    {
+        self.put(Buffer::new().format(n).as_bytes());
+    }
+
+    // Puts a word and the byte behind it.
+    pub fn put_word(&mut self, v: &[u8], behind: u8)
+        requires { length self.old + length (word v.now behind) ≤ text_length }
+        ensures { self.new ≡ self.old ++ word v.now behind }
+    {
+        self.put(v);
+        self.put_byte(behind);
+    }
+
+    // Puts a number and the byte behind it.
+    pub fn put_number(&mut self, n: usize, behind: u8)
+        requires { length self.old + length (word (decimal n) behind) ≤ text_length }
+        ensures { self.new ≡ self.old ++ word (decimal n) behind }
+    {
+        self.put_decimal(n);
+        self.put_byte(behind);
+    }
 }

@@ -16,9 +16,7 @@ pub fn read_u16(s: &[u8], at: usize) -> u16
     requires { at + 2 ≤ length s.now }
     ensures { result ≡ big_endian 2 at s.now }
 {
-    let high = byte_at(s, at) as u16;
-    let low = byte_at(s, at + 1) as u16;
-    high * 256 + low
+    u16::from_be_bytes([s[at], s[at + 1]])
 }
 
 // The number of four bytes.
@@ -26,9 +24,7 @@ pub fn read_u32(s: &[u8], at: usize) -> u32
     requires { at + 4 ≤ length s.now }
     ensures { result ≡ big_endian 4 at s.now }
 {
-    let high = read_u16(s, at) as u32;
-    let low = read_u16(s, at + 2) as u32;
-    high * 65536 + low
+    u32::from_be_bytes([s[at], s[at + 1], s[at + 2], s[at + 3]])
 }
 
 // Writes a number as two bytes.
@@ -36,6 +32,5 @@ pub fn write_u16(d: &mut [u8], at: usize, x: u16)
     requires { at + 2 ≤ length d.old }
     ensures { d.new ≡ splice at (big_endian_bytes 2 x) d.old }
 {
-    d[at] = (x / 256 % 256) as u8;
-    d[at + 1] = (x % 256) as u8;
+    d[at..at + 2].copy_from_slice(&x.to_be_bytes());
 }

@@ -34,28 +34,14 @@ pub fn copy_padded(d: &mut [u8], s: &[u8])
 pub fn clear(d: &mut [u8])
     ensures { d.new ≡ zeros (length d.old) }
 {
-    let mut i = 0;
-    while i < d.len() {
-        d[i] = 0;
-        i += 1;
-    }
+    d.fill(0);
 }
 
-// Whether a and b are the same bytes. The lengths come first, then the last bytes: identifiers begin alike and differ at their end.
+// Whether a and b are the same bytes. The last ones come first: identifiers begin alike and differ at their end.
 pub fn same(a: &[u8], b: &[u8]) -> bool
     ensures { result ≡ same_bytes a.now b.now }
 {
-    if a.len() != b.len() {
-        return false;
-    }
-    let mut i = a.len();
-    while 0 < i {
-        i -= 1;
-        if a[i] != b[i] {
-            return false;
-        }
-    }
-    true
+    a.last() == b.last() && a == b
 }
 
 // Whether every byte of s is zero. The first byte tells most cells that have a value; all others are gathered and tested once, since a loop without a
@@ -63,19 +49,10 @@ pub fn same(a: &[u8], b: &[u8]) -> bool
 pub fn is_zero(s: &[u8]) -> bool
     ensures { result ≡ is_zero s.now }
 {
-    if s.len() == 0 {
-        return true;
-    }
-    if s[0] != 0 {
+    if !s.is_empty() && s[0] != 0 {
         return false;
     }
-    let mut all = 0u8;
-    let mut i = 0;
-    while i < s.len() {
-        all = all | s[i];
-        i += 1;
-    }
-    all == 0
+    s.iter().fold(0, |all, b| all | *b) == 0
 }
 
 // Copies bytes to a place, and gives the place after them.

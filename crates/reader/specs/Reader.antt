@@ -1,15 +1,14 @@
 -- What a reader meets at its place. Document 01: "One reader carries the lent sheet and its place."
-use Rattle.std.specs.Prelude.{List, ℕ, eqb, get_or, length}
+use Rattle.std.specs.Prelude.{List, Some, None, Ok, Err, ℕ, eqb, get_or, length}
 use Rattle.wire.specs.Wire.{field_at}
-use Rattle.wire.specs.declared.FieldRead.{FieldRead}
-use Rattle.wire.specs.declared.FieldRead.TheVariants.{Field, End, Bad}
+use Rattle.wire.specs.FieldRead.{FieldRead}
 use Rattle.reader.specs.declared.Step.{Step}
 
 -- the place past a field that was read, and the same place where none was
 unfoldable pub past_read : ℕ → FieldRead → ℕ
-past_read at End = at
-past_read at (Bad _) = at
-past_read at (Field tag start stop) = stop
+past_read at (Ok (Some field)) = field.end
+past_read at (Ok None) = at
+past_read at (Err bad) = at
 
 -- the place past the field that stands at a place
 unfoldable pub past_field : List ℕ → ℕ → ℕ

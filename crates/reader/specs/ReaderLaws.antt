@@ -4,8 +4,7 @@ use Rattle.std.proofs.Common.{sym, ◌∙◌}
 use Rattle.std.proofs.Math.Path.{ap}
 use Rattle.std.proofs.Math.Dec.{eqb}
 use Rattle.wire.specs.Wire.{field_at}
-use Rattle.wire.specs.declared.FieldRead.{FieldRead}
-use Rattle.wire.specs.declared.FieldRead.TheVariants.{Field}
+use Rattle.wire.specs.FieldRead.{FieldRead, Field}
 use Rattle.reader.specs.declared.Step.{Step}
 use Rattle.reader.specs.Reader.{past_read, past_field, step_at}
 

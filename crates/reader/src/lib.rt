@@ -1,6 +1,6 @@
 // A reader. Document 01: "One reader carries the lent sheet and its place."
-// It holds the lent bytes and a place in them. Its functions are thin: each takes it apart and calls a function on slice and number. `step_at` alone
-// makes a reader: it has plain parameters and serves every other caller. `ends_at` and `field_within` are parts of what it gives.
+// It holds the lent bytes and a place in them. `step_at` alone makes a reader: it has plain parameters and serves every other caller. `ends_at` and
+// `field_within` are parts of what it gives.
 #![tactic(auto)]
 
 ghost use Rattle.std.specs.Prelude.{◌≡◌, ◌≤◌, eqb, get_or, length};
@@ -8,7 +8,7 @@ ghost use Rattle.wire.specs.Wire.{field_at};
 ghost use Rattle.reader.specs.Reader.{past_field, step_at};
 
 use prelude::number::byte_at;
-use wire::{FieldRead, field_at, value_of};
+use wire::{BadField, Field, field_at, value_of};
 
 #[derive(Clone, Copy)]
 pub struct Reader<'a> {
@@ -17,94 +17,55 @@ pub struct Reader<'a> {
 }
 
 // What a reader meets at its place: whether it has come to the end, the tag and the field that stand next, the place past the field, and whether the bytes
-// end there.
+// end there. Neither test says whether another part is there: the tag may be read where no whole field stands, and each part has its law (ReaderLaws).
 #[derive(Clone, Copy)]
 pub struct Step {
     pub ended: bool,
     pub tag: u8,
-    pub field: FieldRead,
+    pub field: Result<Option<Field>, BadField>,
     pub next: usize,
     pub last: bool,
 }
 
-// Whether a place is the end of the bytes.
-fn is_end(s: &[u8], at: usize) -> bool
-    ensures { result ≡ eqb at (length s.now) }
-{
-    at == s.len()
-}
-
-// The field that stands at a place.
-fn field_here(s: &[u8], at: usize) -> FieldRead
-    requires { at ≤ length s.now }
-    ensures { result ≡ field_at s.now at (length s.now) }
-{
-    field_at(s, at, s.len())
-}
-
-// The place past it, and the same place where no whole field stands there.
-fn past_field(s: &[u8], at: usize) -> usize
-    requires { at ≤ length s.now }
-    ensures { result ≡ past_field s.now at }
-{
-    let FieldRead::Field {
-        tag: _,
-        start: _,
-        end,
-    } = field_at(s, at, s.len())
-    else {
-        return at;
-    };
-    end
-}
-
-// The byte that stands there: a field's tag, whether the field is whole or not. Behind the bytes it is 0.
-fn tag_here(s: &[u8], at: usize) -> u8
-    ensures { result ≡ get_or s.now at 0 }
-{
-    if at < s.len() {
-        return byte_at(s, at);
+impl<'a> Reader<'a> {
+    // Whether it has come to the end.
+    fn at_end(self) -> bool
+        ensures { result ≡ eqb self.entry.at (length self.entry.bytes.now) }
+    {
+        self.at == self.bytes.len()
     }
-    0
-}
 
-// A reader at a place of the lent bytes.
-fn reader_at<'a>(bytes: &'a [u8], at: usize) -> Reader<'a>
-    ensures { (result.bytes ≡ bytes.entry) × (result.at ≡ at) }
-{
-    Reader { bytes, at }
-}
+    // The byte that stands next: a field's tag, whether the field is whole or not. Behind the bytes it is 0.
+    fn next_tag(self) -> u8
+        ensures { result ≡ get_or self.entry.bytes.now self.entry.at 0 }
+    {
+        if self.at < self.bytes.len() {
+            return byte_at(self.bytes, self.at);
+        }
+        0
+    }
 
-// Whether a reader has come to the end.
-fn at_end<'a>(r: Reader<'a>) -> bool
-    ensures { result ≡ eqb r.entry.at (length r.entry.bytes.now) }
-{
-    is_end(r.bytes, r.at)
-}
+    // The field that stands next.
+    fn next_field(self) -> Result<Option<Field>, BadField>
+        requires { self.at ≤ length self.bytes.now }
+        ensures { result ≡ field_at self.entry.bytes.now self.entry.at (length self.entry.bytes.now) }
+    {
+        field_at(self.bytes, self.at, self.bytes.len())
+    }
 
-// The field that stands next.
-fn next_field<'a>(r: Reader<'a>) -> FieldRead
-    requires { r.at ≤ length r.bytes.now }
-    ensures { result ≡ field_at r.entry.bytes.now r.entry.at (length r.entry.bytes.now) }
-{
-    field_here(r.bytes, r.at)
-}
-
-// The tag that stands next.
-fn next_tag<'a>(r: Reader<'a>) -> u8
-    ensures { result ≡ get_or r.entry.bytes.now r.entry.at 0 }
-{
-    tag_here(r.bytes, r.at)
-}
-
-// The reader past that field.
-fn past<'a>(r: Reader<'a>) -> Reader<'a>
-    requires { r.at ≤ length r.bytes.now }
-    ensures { (result.bytes ≡ r.entry.bytes) × (result.at ≡ past_field r.entry.bytes.now r.entry.at) }
-{
-    Reader {
-        bytes: r.bytes,
-        at: past_field(r.bytes, r.at),
+    // The reader past that field, and where it is if no whole field stands there.
+    fn past(self) -> Reader<'a>
+        requires { self.at ≤ length self.bytes.now }
+        ensures { (result.bytes ≡ self.entry.bytes) × (result.at ≡ past_field self.entry.bytes.now self.entry.at) }
+    {
+        match self.next_field() {
+            Ok(Some(field)) => Reader {
+                bytes: self.bytes,
+                at: field.end,
+            },
+            Ok(None) => self,
+            Err(_) => self,
+        }
     }
 }
 
@@ -113,19 +74,14 @@ pub fn step_at(s: &[u8], at: usize) -> Step
     requires { at ≤ length s.now }
     ensures { result ≡ step_at s.now at }
 {
-    let r = reader_at(s, at);
-    let ended = at_end(r);
-    let tag = next_tag(r);
-    let field = next_field(r);
-    let q = past(r);
-    let next = q.at;
-    let last = at_end(q);
+    let reader = Reader { bytes: s, at };
+    let behind = reader.past();
     Step {
-        ended,
-        tag,
-        field,
-        next,
-        last,
+        ended: reader.at_end(),
+        tag: reader.next_tag(),
+        field: reader.next_field(),
+        next: behind.at,
+        last: behind.at_end(),
     }
 }
 
@@ -134,15 +90,13 @@ pub fn ends_at(s: &[u8], at: usize) -> bool
     requires { at ≤ length s.now }
     ensures { result ≡ eqb at (length s.now) }
 {
-    let step = step_at(s, at);
-    step.ended
+    step_at(s, at).ended
 }
 
 // The field that a reader of the bytes up to end meets at a place.
-pub fn field_within(s: &[u8], at: usize, end: usize) -> FieldRead
+pub fn field_within(s: &[u8], at: usize, end: usize) -> Result<Option<Field>, BadField>
     requires { (at ≤ end) × (end ≤ length s.now) }
     ensures { result ≡ field_at s.now at end }
 {
-    let step = step_at(value_of(s, 0, end), at);
-    step.field
+    step_at(value_of(s, 0, end), at).field
 }

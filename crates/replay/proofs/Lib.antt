@@ -1,5 +1,2 @@
 -- What the proofs of several functions use.
-mod Hashing
-mod Prime
-mod Lending
-mod Ready
+mod Filling

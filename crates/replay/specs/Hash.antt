@@ -1,5 +1,6 @@
 -- FNV-1a with 64 bits.
-use Rattle.std.specs.Prelude.{ℕ, ◌*◌, ◌%◌, ◌^◌, List, [], ◌∷◌, bit_xor}
+use Rattle.std.specs.Prelude.{ℕ, ◌*◌, ◌%◌, ◌^◌, List, bit_xor}
+use Rattle.std.specs.List.{fold}
 
 abbrev pub prime : ℕ
 prime = 1099511628211
@@ -12,9 +13,5 @@ unfoldable pub mixed : ℕ → ℕ → ℕ
 mixed hash byte = bit_xor hash byte * prime % 2 ^ 64
 
 -- and with all bytes of s, the first one first
-unfoldable pub hash_from : ℕ → List ℕ → ℕ
-hash_from hash [] = hash
-hash_from hash (byte ∷ s) = hash_from (mixed hash byte) s
-
-unfoldable pub fnv1a : List ℕ → ℕ
-fnv1a s = hash_from basis s
+abbrev pub fnv1a : List ℕ → ℕ
+fnv1a s = fold mixed basis s

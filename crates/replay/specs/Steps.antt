@@ -1,72 +1,78 @@
--- The steps of a script, read at a place. "Steps, numbers most significant byte first: 01 load (u32 length, sheet), 02 plain change (u32
+-- The steps of a script. "Steps, numbers most significant byte first: 01 load (u32 length, sheet), 02 plain change (u32
 -- length, change), 03 quick change (the same), 04 audit, 05 write (u32 length of the output lent ..), 06 depth (u16), 07 poke (u8 store 0..2, u32
 -- offset, u8 byte), 08 resize (u8 store, u32 length; ..)." A step that is cut, has an unknown code, names no store or asks for more than the longest
 -- stops the player.
-use Rattle.std.specs.Prelude.{ℕ, ◌+◌, ◌-◌, ◌<◌, ◌≤◌, Bool, cond, List, length, ◌==◌, nat_lt, slice_index}
+use Rattle.std.specs.Prelude.{ℕ, cond, List, [], ◌∷◌, length, take, drop, ◌==◌, nat_lt, slice_index, Option, Some, None, option_and_then}
+use denote.Ref.{Bor}
 use Rattle.prelude.specs.BigEndian.{big_endian}
 use Rattle.replay.specs.declared.step.Call.{Call}
 use Rattle.replay.specs.declared.step.Call.TheVariants.{Load, PlainChange, QuickChange}
+use Rattle.replay.specs.declared.step.StoreId.{StoreId}
+use Rattle.replay.specs.declared.step.StoreId.TheVariants.{Attributes, Classes, Closure}
 use Rattle.replay.specs.declared.step.Step.{Step}
 use Rattle.replay.specs.declared.step.Step.TheVariants.{Called, Audit, Write, Depth, Poke, Resize}
-use Rattle.replay.specs.declared.step.Turn.{Turn}
-use Rattle.replay.specs.declared.step.Turn.TheVariants.{On, Stop}
+use Rattle.replay.specs.Size.{size_of}
 
--- 64 KiB: the format allows 1 MiB, but the player has no heap
-abbrev pub longest : ℕ
-longest = 65536
+-- a step as a script says it: of a call that is lent bytes, the bytes themselves
+pub data Said : Type 0 where
+  a_call : Call → List ℕ → Said
+  an_audit : Said
+  a_write : ℕ → Said
+  a_depth : ℕ → Said
+  a_poke : StoreId → ℕ → ℕ → Said
+  a_resize : StoreId → ℕ → Said
 
--- fewer than n bytes are left from at on
-unfoldable pub is_cut : List ℕ → ℕ → ℕ → Bool
-is_cut s at n = nat_lt (length s - at) n
+abbrev pub said : Step → Said
+said (Called call bytes) = a_call call bytes.now
+said Audit = an_audit
+said (Write n) = a_write n
+said (Depth c) = a_depth c
+said (Poke store offset byte) = a_poke store offset byte
+said (Resize store n) = a_resize store n
 
--- a call with its length and so many bytes behind its code
-unfoldable pub called_at : Call → List ℕ → ℕ → Turn
-called_at call s at =
-    cond (is_cut s at 5) Stop
-    (cond (nat_lt (length s - at - 5) (big_endian 4 (at + 1) s)) Stop
-    (On (Called call (at + 5) (at + 5 + big_endian 4 (at + 1) s)) (at + 5 + big_endian 4 (at + 1) s)))
+-- a step and the script behind it, as they are read
+abbrev pub seen : Option (Step × Bor (List ℕ)) → Option (Said × List ℕ)
+seen None = None
+seen (Some r) = Some (said r.0, r.1.now)
 
-abbrev pub audit_at : List ℕ → ℕ → Turn
-audit_at s at = On Audit (at + 1)
+-- "u8 store 0..2"
+abbrev pub store_id : ℕ → Option StoreId
+store_id b = cond (b == 0) (Some Attributes) (cond (b == 1) (Some Classes) (cond (b == 2) (Some Closure) None))
 
-unfoldable pub write_at : List ℕ → ℕ → Turn
-write_at s at = cond (is_cut s at 5) Stop (cond (nat_lt longest (big_endian 4 (at + 1) s)) Stop (On (Write (big_endian 4 (at + 1) s)) (at + 5)))
+-- ---- a step behind its code, and the script behind it
 
-unfoldable pub depth_at : List ℕ → ℕ → Turn
-depth_at s at = cond (is_cut s at 3) Stop (On (Depth (big_endian 2 (at + 1) s)) (at + 3))
+-- a call that is lent n bytes
+abbrev pub lent_in : Call → ℕ → List ℕ → Option (Said × List ℕ)
+lent_in call n s = cond (nat_lt (length s) n) None (Some (a_call call (take n s), drop n s))
 
-unfoldable pub poke_at : List ℕ → ℕ → Turn
-poke_at s at = cond (is_cut s at 7) Stop
-    (cond (nat_lt 2 (slice_index s (at + 1))) Stop (On (Poke (slice_index s (at + 1)) (big_endian 4 (at + 2) s) (slice_index s (at + 6))) (at + 7)))
+abbrev pub called_in : Call → List ℕ → Option (Said × List ℕ)
+called_in call s = cond (nat_lt (length s) 4) None (lent_in call (big_endian 4 0 s) (drop 4 s))
 
-unfoldable pub resize_at : List ℕ → ℕ → Turn
-resize_at s at =
-    cond (is_cut s at 6) Stop
-    (cond (nat_lt 2 (slice_index s (at + 1))) Stop
-    (cond (nat_lt longest (big_endian 4 (at + 2) s)) Stop (On (Resize (slice_index s (at + 1)) (big_endian 4 (at + 2) s)) (at + 6))))
+abbrev pub write_in : List ℕ → Option (Said × List ℕ)
+write_in s = cond (nat_lt (length s) 4) None (option_and_then (λ n. Some (a_write n, drop 4 s)) (size_of (big_endian 4 0 s)))
 
--- the step that begins at a place, by its code
-unfoldable pub turn_at : List ℕ → ℕ → Turn
-turn_at s at =
-    cond (slice_index s at == 1) (called_at Load s at)
-    (cond (slice_index s at == 2) (called_at PlainChange s at)
-    (cond (slice_index s at == 3) (called_at QuickChange s at)
-    (cond (slice_index s at == 4) (audit_at s at)
-    (cond (slice_index s at == 5) (write_at s at)
-    (cond (slice_index s at == 6) (depth_at s at)
-    (cond (slice_index s at == 7) (poke_at s at)
-    (cond (slice_index s at == 8) (resize_at s at) Stop)))))))
+abbrev pub depth_in : List ℕ → Option (Said × List ℕ)
+depth_in s = cond (nat_lt (length s) 2) None (Some (a_depth (big_endian 2 0 s), drop 2 s))
 
--- what a step names lies within the script
-abbrev pub StepWithin : List ℕ → Step → Type 0
-StepWithin s (Called call start stop) = (start ≤ stop) × (stop ≤ length s)
-StepWithin s Audit = Unit {0}
-StepWithin s (Write n) = n ≤ longest
-StepWithin s (Depth c) = Unit {0}
-StepWithin s (Poke store offset byte) = Unit {0}
-StepWithin s (Resize store n) = n ≤ longest
+abbrev pub poke_in : List ℕ → Option (Said × List ℕ)
+poke_in s =
+    cond (nat_lt (length s) 6) None
+    (option_and_then (λ store. Some (a_poke store (big_endian 4 1 s) (slice_index s 5), drop 6 s)) (store_id (slice_index s 0)))
 
--- and the next step begins behind this one
-abbrev pub Within : List ℕ → ℕ → Turn → Type 0
-Within s at (On step next) = (at < next) × (next ≤ length s) × StepWithin s step
-Within s at Stop = Unit {0}
+abbrev pub resize_in : List ℕ → Option (Said × List ℕ)
+resize_in s =
+    cond (nat_lt (length s) 5) None
+    (option_and_then (λ store. option_and_then (λ n. Some (a_resize store n, drop 5 s)) (size_of (big_endian 4 1 s))) (store_id (slice_index s 0)))
+
+-- the step that a script begins with, by its code, and the script behind it
+abbrev pub step_in : List ℕ → Option (Said × List ℕ)
+step_in [] = None
+step_in (code ∷ s) =
+    cond (code == 1) (called_in Load s)
+    (cond (code == 2) (called_in PlainChange s)
+    (cond (code == 3) (called_in QuickChange s)
+    (cond (code == 4) (Some (an_audit, s))
+    (cond (code == 5) (write_in s)
+    (cond (code == 6) (depth_in s)
+    (cond (code == 7) (poke_in s)
+    (cond (code == 8) (resize_in s) None)))))))

@@ -6,7 +6,7 @@ use Rattle.std.proofs.lemmas.Bool.{false≢true}
 use Rattle.prelude.specs.BytesLaws.{drop_bytes}
 use Rattle.prelude.specs.SaysLaws.{says_and, says_eq, says_false, says_test}
 use Rattle.prelude.specs.Part.{part, splice, zeros, Bytes}
-use Rattle.prelude.specs.PartLaws.{zeros_at, zeros_zero, zero_zeros}
+use Rattle.prelude.specs.PartLaws.{part_length, zeros_at, zeros_zero, zero_zeros}
 use Rattle.prelude.specs.SpliceLaws.{part_splice_before, part_splice_same, part_splice_after}
 use Rattle.rows_format.specs.Encodings.{accepts, image, room, stored, sound}
 use Rattle.rows_format.specs.EncodingsLaws.{room_small, Accepts, says_accepts, Holds, says_holds, image_length, stored_image}
@@ -43,6 +43,11 @@ mark_le Never = omega arith
 pub width_small : (r : Column) → Sound r → column_width r ≤ 255
 unfolding column_width
 width_small r s = omega (arith, room_small r.encoding s.encoding, mark_le r.presence)
+
+-- the cell of a column in a row that is long enough
+pub cell_at_length : (r : Column) (row : List ℕ) → Fits (length row) r → length (cell_at r row) ≡ column_width r
+unfolding cell_at
+cell_at_length r row f = part_length r.at (column_width r) row f.within
 
 pub takes_accepts : (r : Column) (v : List ℕ) → takes r v ≡ true → Accepts r.encoding v
 unfolding takes

@@ -5,8 +5,11 @@ use Rattle.rows_format.specs.Encodings.{room, sound, skippable}
 use Rattle.rows_format.specs.Columns.{mark, column_width, clear, sound_column, laid, Fits}
 use Rattle.rows_format.proofs.ColumnsLaws.{laid_at}
 use Rattle.rows_format.specs.Formats.{common_columns, attribute_columns, class_columns, range_columns, name_columns, target_columns, entry_columns}
-use Rattle.rows_format.specs.Formats.{own_columns, columns_of, format_width, no_column}
+use Rattle.rows_format.specs.Formats.{own_columns, columns_of, format_width}
 use Rattle.rows_format.specs.declared.column.Column.{Column}
+use Rattle.rows_format.specs.declared.column.Test.TheVariants.{Any}
+use Rattle.rows_format.specs.declared.column.Encoding.TheVariants.{Plain}
+use Rattle.rows_format.specs.declared.column.Presence.TheVariants.{Required}
 use Rattle.schema.specs.declared.number.TableId.TheVariants.{Attributes, Classes}
 use Rattle.rows_format.specs.declared.format.Format.{Format}
 use Rattle.rows_format.specs.declared.format.Format.TheVariants.{Row, NewRow, Range, Name, Target, Entry}
@@ -24,13 +27,15 @@ format_laid Name = refl
 format_laid Target = refl
 format_laid Entry = refl
 
-pub format_fits : (format : Format) (i : ℕ) → i < length (columns_of format) → Fits (format_width format) (get_or (columns_of format) i no_column)
-format_fits format i l = laid_at (columns_of format) no_column 0 (format_width format) i (format_laid format) l
+-- the column that a loop over a table would give past its end, a column of zeros
+abbrev pub zero_column : Column
+zero_column = record { tag = 0; presence = Required; encoding = Plain 0 Any; at = 0 }
 
--- a column of a format's table, in a row that is long enough
-pub fits_in : (format : Format) (i : ℕ) {r : Column} {n : ℕ} → r ≡ get_or (columns_of format) i no_column → i < length (columns_of format)
-    → format_width format ≤ n → Fits n r
-fits_in format i e l w = let f = format_fits format i l in rw e (record { within = omega (arith, f.within); sound = f.sound })
+-- the column that a loop over a format's table has come to
+pub fits_item : (format : Format) (items : List Column) (i : ℕ) (none : Column) {n : ℕ} → items ≡ columns_of format → i < length items
+    → format_width format ≤ n → Fits n (get_or items i none)
+fits_item format items i none e l w =
+    let f = laid_at items none 0 (format_width format) i (rw e (format_laid format)) l in record { within = omega (arith, f.within); sound = f.sound }
 
 -- no table is long
 pub format_few : (format : Format) → length (columns_of format) ≤ 64

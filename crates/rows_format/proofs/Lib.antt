@@ -1,5 +1,4 @@
 -- Laws that the proofs of the tables cite.
-pub mod Arms
 pub mod ColumnsLaws
 pub mod FormatsLaws
 pub mod ShortLaws

@@ -1,8 +1,9 @@
 // The encodings of fields: which values each takes, and how wide the cell is that stores one.
-ghost use Rattle.std.specs.Prelude.{◌≡◌, ◌≤◌};
+ghost use Rattle.std.specs.Prelude.{◌≡◌, ◌≤◌, length};
 ghost use Rattle.rows_format.specs.Encodings.{room};
-ghost use Rattle.rows_format.specs.Columns.{mark, required, possible, column_width};
+ghost use Rattle.rows_format.specs.Columns.{mark, required, possible, column_width, cell_at, Fits};
 
+use prelude::part::part_of;
 use schema::layout::set_width;
 use schema::number::TableId;
 
@@ -54,62 +55,68 @@ pub struct Column {
     pub at: usize,
 }
 
-// How many bytes a stored value has.
-pub fn room_of(encoding: Encoding) -> usize
-    requires { room encoding ≤ 255 }
-    ensures { result ≡ room encoding }
-{
-    match encoding {
-        Encoding::Plain { len, test: _ } => len,
-        Encoding::Number { table: _ } => 1,
-        Encoding::Counted { least: _, most } => most + 1,
-        Encoding::Arcs { most } => most * 4 + 1,
-        Encoding::Entries { table } => set_width(table),
+impl Encoding {
+    // How many bytes a stored value has.
+    #[tactic(auto, unfolding(crate::specs::Encodings::room))]
+    pub fn room(self) -> usize
+        requires { room self ≤ 255 }
+        ensures { result ≡ room self }
+    {
+        match self {
+            Encoding::Plain { len, .. } => len,
+            Encoding::Number { .. } => 1,
+            Encoding::Counted { most, .. } => most + 1,
+            Encoding::Arcs { most } => most * 4 + 1,
+            Encoding::Entries { table } => set_width(table),
+        }
     }
 }
 
-// How many bytes stand before a stored value.
-pub fn mark_of(presence: Presence) -> usize
-    ensures { result ≡ mark presence }
-{
-    match presence {
-        Presence::Marked => 1,
-        Presence::Required => 0,
-        Presence::Optional => 0,
-        Presence::Never => 0,
+impl Presence {
+    // How many bytes stand before a stored value.
+    #[tactic(auto, unfolding(crate::specs::Columns::mark))]
+    pub fn mark(self) -> usize
+        ensures { result ≡ mark self }
+    {
+        match self {
+            Presence::Marked => 1,
+            _ => 0,
+        }
+    }
+
+    // Whether a field that is not there is missing.
+    #[tactic(auto, unfolding(crate::specs::Columns::required))]
+    pub fn is_required(self) -> bool
+        ensures { result ≡ required self }
+    {
+        matches!(self, Presence::Required)
+    }
+
+    // Whether a field may be there.
+    #[tactic(auto, unfolding(crate::specs::Columns::possible))]
+    pub fn is_possible(self) -> bool
+        ensures { result ≡ possible self }
+    {
+        !matches!(self, Presence::Never)
     }
 }
 
-// How wide the cell of a column is.
-pub fn column_width(column: Column) -> usize
-    requires { column_width column ≤ 255 }
-    ensures { result ≡ column_width column }
-{
-    let presence = column.presence;
-    let encoding = column.encoding;
-    mark_of(presence) + room_of(encoding)
-}
-
-// Whether a field that is not there is missing.
-pub fn is_required(presence: Presence) -> bool
-    ensures { result ≡ required presence }
-{
-    match presence {
-        Presence::Required => true,
-        Presence::Optional => false,
-        Presence::Marked => false,
-        Presence::Never => false,
+impl Column {
+    // The cell of the column in a row.
+    #[tactic(auto, using(crate::proofs::ColumnsLaws::width_small), unfolding(crate::specs::Columns::cell_at))]
+    pub fn cell(self, row: &[u8]) -> &[u8]
+        requires { Fits (length row.now) self }
+        ensures { result.now ≡ cell_at self row.now }
+    {
+        part_of(row, self.at, self.width())
     }
-}
 
-// Whether a field may be there.
-pub fn is_possible(presence: Presence) -> bool
-    ensures { result ≡ possible presence }
-{
-    match presence {
-        Presence::Required => true,
-        Presence::Optional => true,
-        Presence::Marked => true,
-        Presence::Never => false,
+    // How wide the cell of a column is.
+    #[tactic(auto, unfolding(crate::specs::Columns::column_width))]
+    pub fn width(self) -> usize
+        requires { column_width self ≤ 255 }
+        ensures { result ≡ column_width self }
+    {
+        self.presence.mark() + self.encoding.room()
     }
 }

@@ -1,10 +1,6 @@
 // The tables. specs/Formats.antt has them as document 01 writes them.
-ghost use Rattle.std.specs.Prelude.{◌≡◌, ◌++◌, length, get_or};
-ghost use Rattle.schema.specs.declared.number.TableId.TheVariants.{Attributes, Classes};
-ghost use Rattle.rows_format.specs.Formats.{column, bytes, no_column, common_columns, may_be_defunct, never_defunct, attribute_columns};
-ghost use Rattle.rows_format.specs.Formats.{class_columns, range_columns, name_columns, target_columns, entry_columns, own_columns, columns_of};
-ghost use Rattle.rows_format.specs.Formats.{format_width};
-ghost use Rattle.rows_format.specs.declared.column.Column.{Column};
+ghost use Rattle.std.specs.Prelude.{◌≡◌};
+ghost use Rattle.rows_format.specs.Formats.{columns_of, format_width};
 
 use crate::column::{Column, Encoding, Presence, Test};
 use schema::layout::{
@@ -51,322 +47,174 @@ pub const ENTRY: usize = LIST + 1;
 
 pub const ENTRY_WIDTH: usize = ENTRY + 2;
 
-fn required(tag: u8, encoding: Encoding, at: usize) -> Column
-    ensures { result ≡ column Presence.Required tag encoding at }
-{
-    Column {
-        tag,
-        presence: Presence::Required,
-        encoding,
-        at,
-    }
-}
-
-fn optional(tag: u8, encoding: Encoding, at: usize) -> Column
-    ensures { result ≡ column Presence.Optional tag encoding at }
-{
-    Column {
-        tag,
-        presence: Presence::Optional,
-        encoding,
-        at,
-    }
-}
-
-fn marked(tag: u8, encoding: Encoding, at: usize) -> Column
-    ensures { result ≡ column Presence.Marked tag encoding at }
-{
-    Column {
-        tag,
-        presence: Presence::Marked,
-        encoding,
-        at,
-    }
-}
-
-fn never(tag: u8, encoding: Encoding, at: usize) -> Column
-    ensures { result ≡ column Presence.Never tag encoding at }
-{
-    Column {
-        tag,
-        presence: Presence::Never,
-        encoding,
-        at,
-    }
+// One column of a table. A constant's value calls no function in Rattle, so a macro writes it out.
+macro_rules! column {
+    ($presence:ident, $tag:literal, $encoding:expr, $at:expr) => {
+        Column {
+            tag: $tag,
+            presence: Presence::$presence,
+            encoding: $encoding,
+            at: $at,
+        }
+    };
 }
 
 // Bytes as they are.
-fn bytes(len: usize) -> Encoding
-    ensures { result ≡ bytes len }
-{
-    Encoding::Plain {
-        len,
-        test: Test::Any,
-    }
+macro_rules! bytes {
+    ($len:expr) => {
+        Encoding::Plain {
+            len: $len,
+            test: Test::Any,
+        }
+    };
 }
 
-fn no_column() -> Column
-    ensures { result ≡ no_column }
-{
-    never(0, bytes(0), 0)
+const NAME_BYTES: Encoding = Encoding::Counted {
+    least: 0,
+    most: NAME_LIMIT,
+};
+
+const IDENTIFIER_ARCS: Encoding = Encoding::Arcs { most: ARC_LIMIT };
+
+const OBJECT_CLASS_BYTES: Encoding = Encoding::Counted {
+    least: 1,
+    most: OBJECT_CLASS_LIMIT,
+};
+
+const NOT_ZERO: Encoding = Encoding::Plain {
+    len: 4,
+    test: Test::NotZero,
+};
+
+const CATEGORY_BYTE: Encoding = Encoding::Plain {
+    len: 1,
+    test: Test::Below { limit: 4 },
+};
+
+const LIST_TAG: Encoding = Encoding::Plain {
+    len: 1,
+    test: Test::OpenList,
+};
+
+const ATTRIBUTE_NUMBER: Encoding = Encoding::Number {
+    table: TableId::Attributes,
+};
+
+const CLASS_NUMBER: Encoding = Encoding::Number {
+    table: TableId::Classes,
+};
+
+const ATTRIBUTE_SET: Encoding = Encoding::Entries {
+    table: TableId::Attributes,
+};
+
+const CLASS_SET: Encoding = Encoding::Entries {
+    table: TableId::Classes,
+};
+
+// 05 in a row of a sheet, and in an addition.
+const MAY_BE_DEFUNCT: Column = column!(Marked, 5, bytes!(0), DEFUNCT);
+
+const NEVER_DEFUNCT: Column = column!(Never, 5, bytes!(1), DEFUNCT);
+
+// A row: what every row begins with, 05 as given, and the columns of its own table.
+macro_rules! row {
+    ($defunct:expr, $($own:expr),+) => {
+        [
+            column!(Required, 1, NAME_BYTES, NAME),
+            column!(Required, 2, IDENTIFIER_ARCS, IDENTIFIER),
+            column!(Required, 3, bytes!(GUID_WIDTH), GUID),
+            column!(Required, 4, bytes!(4), FLAGS),
+            $defunct,
+            $($own),+
+        ]
+    };
 }
 
-// 05 in a row of a sheet.
-fn may_be_defunct() -> Column
-    ensures { result ≡ may_be_defunct }
-{
-    marked(5, bytes(0), DEFUNCT)
+macro_rules! attribute_row {
+    ($defunct:expr) => {
+        row![
+            $defunct,
+            column!(Required, 6, bytes!(1), SYNTAX),
+            column!(Required, 7, bytes!(1), OM_SYNTAX),
+            column!(Optional, 8, OBJECT_CLASS_BYTES, OBJECT_CLASS),
+            column!(Marked, 9, bytes!(0), SINGLE_VALUED),
+            column!(Marked, 10, bytes!(4), RANGE_LOWER),
+            column!(Marked, 11, bytes!(4), RANGE_UPPER),
+            column!(Optional, 12, NOT_ZERO, LINK),
+            column!(Optional, 13, NOT_ZERO, MAPI)
+        ]
+    };
 }
 
-// 05 in an addition.
-fn never_defunct() -> Column
-    ensures { result ≡ never_defunct }
-{
-    never(5, bytes(1), DEFUNCT)
+macro_rules! class_row {
+    ($defunct:expr) => {
+        row![
+            $defunct,
+            column!(Required, 16, CATEGORY_BYTE, CATEGORY),
+            column!(Required, 17, CLASS_NUMBER, SUPERCLASS),
+            column!(Marked, 18, ATTRIBUTE_NUMBER, NAMING),
+            column!(Optional, 19, ATTRIBUTE_SET, MANDATORY),
+            column!(Optional, 20, ATTRIBUTE_SET, FIXED_OPTIONAL),
+            column!(Optional, 21, ATTRIBUTE_SET, OPEN_OPTIONAL),
+            column!(Optional, 22, CLASS_SET, FIXED_AUXILIARY),
+            column!(Optional, 23, CLASS_SET, OPEN_AUXILIARY),
+            column!(Optional, 24, CLASS_SET, FIXED_SUPERIOR),
+            column!(Optional, 25, CLASS_SET, OPEN_SUPERIOR)
+        ]
+    };
 }
 
-// What every row begins with.
-fn common_column(i: usize, defunct: Column) -> Column
-    ensures { result ≡ get_or (common_columns defunct) i no_column }
-{
-    match i {
-        0 => required(
-            1,
-            Encoding::Counted {
-                least: 0,
-                most: NAME_LIMIT,
-            },
-            NAME,
-        ),
-        1 => required(2, Encoding::Arcs { most: ARC_LIMIT }, IDENTIFIER),
-        2 => required(3, bytes(GUID_WIDTH), GUID),
-        3 => required(4, bytes(4), FLAGS),
-        4 => defunct,
-        _ => no_column(),
-    }
-}
+static ATTRIBUTE_ROW: [Column; 13] = attribute_row!(MAY_BE_DEFUNCT);
 
-// How many fields every row begins with.
-const COMMON: usize = 5;
+static CLASS_ROW: [Column; 15] = class_row!(MAY_BE_DEFUNCT);
 
-fn attribute_column(i: usize) -> Column
-    ensures { result ≡ get_or attribute_columns i no_column }
-{
-    match i {
-        0 => required(6, bytes(1), SYNTAX),
-        1 => required(7, bytes(1), OM_SYNTAX),
-        2 => optional(
-            8,
-            Encoding::Counted {
-                least: 1,
-                most: OBJECT_CLASS_LIMIT,
-            },
-            OBJECT_CLASS,
-        ),
-        3 => marked(9, bytes(0), SINGLE_VALUED),
-        4 => marked(10, bytes(4), RANGE_LOWER),
-        5 => marked(11, bytes(4), RANGE_UPPER),
-        6 => optional(
-            12,
-            Encoding::Plain {
-                len: 4,
-                test: Test::NotZero,
-            },
-            LINK,
-        ),
-        7 => optional(
-            13,
-            Encoding::Plain {
-                len: 4,
-                test: Test::NotZero,
-            },
-            MAPI,
-        ),
-        _ => no_column(),
-    }
-}
+static NEW_ATTRIBUTE_ROW: [Column; 13] = attribute_row!(NEVER_DEFUNCT);
 
-// A set of attributes, and one of classes.
-fn attribute_set(tag: u8, at: usize) -> Column
-    ensures { result ≡ column Presence.Optional tag (Encoding.Entries Attributes) at }
-{
-    optional(
-        tag,
-        Encoding::Entries {
-            table: TableId::Attributes,
-        },
-        at,
-    )
-}
+static NEW_CLASS_ROW: [Column; 15] = class_row!(NEVER_DEFUNCT);
 
-fn class_set(tag: u8, at: usize) -> Column
-    ensures { result ≡ column Presence.Optional tag (Encoding.Entries Classes) at }
-{
-    optional(
-        tag,
-        Encoding::Entries {
-            table: TableId::Classes,
-        },
-        at,
-    )
-}
+// 20 in a change: the row it changes.
+const TARGET_NUMBER: Column = column!(Required, 32, bytes!(2), TARGET);
 
-fn class_column(i: usize) -> Column
-    ensures { result ≡ get_or class_columns i no_column }
-{
-    match i {
-        0 => required(
-            16,
-            Encoding::Plain {
-                len: 1,
-                test: Test::Below { limit: 4 },
-            },
-            CATEGORY,
-        ),
-        1 => required(
-            17,
-            Encoding::Number {
-                table: TableId::Classes,
-            },
-            SUPERCLASS,
-        ),
-        2 => marked(
-            18,
-            Encoding::Number {
-                table: TableId::Attributes,
-            },
-            NAMING,
-        ),
-        3 => attribute_set(19, MANDATORY),
-        4 => attribute_set(20, FIXED_OPTIONAL),
-        5 => attribute_set(21, OPEN_OPTIONAL),
-        6 => class_set(22, FIXED_AUXILIARY),
-        7 => class_set(23, OPEN_AUXILIARY),
-        8 => class_set(24, FIXED_SUPERIOR),
-        9 => class_set(25, OPEN_SUPERIOR),
-        _ => no_column(),
-    }
-}
+static NEW_RANGE: [Column; 3] = [
+    TARGET_NUMBER,
+    column!(Marked, 10, bytes!(4), NEW_LOWER),
+    column!(Marked, 11, bytes!(4), NEW_UPPER),
+];
 
-// The rest of a row.
-fn own_column(table: TableId, i: usize) -> Column
-    ensures { result ≡ get_or (own_columns table) i no_column }
-{
-    match table {
-        TableId::Attributes => attribute_column(i),
-        TableId::Classes => class_column(i),
-    }
-}
+static RENAMING: [Column; 2] = [TARGET_NUMBER, column!(Required, 1, NAME_BYTES, NEW_NAME)];
 
-fn row_column(table: TableId, i: usize, defunct: Column) -> Column
-    ensures { result ≡ get_or (common_columns defunct ++ own_columns table) i no_column }
-{
-    if i < COMMON {
-        return common_column(i, defunct);
-    }
-    own_column(table, i - COMMON)
-}
+static TARGET_ALONE: [Column; 1] = [TARGET_NUMBER];
 
-fn range_column(i: usize) -> Column
-    ensures { result ≡ get_or range_columns i no_column }
-{
-    match i {
-        0 => required(32, bytes(2), TARGET),
-        1 => marked(10, bytes(4), NEW_LOWER),
-        2 => marked(11, bytes(4), NEW_UPPER),
-        _ => no_column(),
-    }
-}
+static LIST_ENTRY: [Column; 3] = [
+    TARGET_NUMBER,
+    column!(Required, 33, LIST_TAG, LIST),
+    column!(Required, 34, bytes!(2), ENTRY),
+];
 
-fn name_column(i: usize) -> Column
-    ensures { result ≡ get_or name_columns i no_column }
-{
-    match i {
-        0 => required(32, bytes(2), TARGET),
-        1 => required(
-            1,
-            Encoding::Counted {
-                least: 0,
-                most: NAME_LIMIT,
-            },
-            NEW_NAME,
-        ),
-        _ => no_column(),
-    }
-}
-
-fn target_column(i: usize) -> Column
-    ensures { result ≡ get_or target_columns i no_column }
-{
-    match i {
-        0 => required(32, bytes(2), TARGET),
-        _ => no_column(),
-    }
-}
-
-fn entry_column(i: usize) -> Column
-    ensures { result ≡ get_or entry_columns i no_column }
-{
-    match i {
-        0 => required(32, bytes(2), TARGET),
-        1 => required(
-            33,
-            Encoding::Plain {
-                len: 1,
-                test: Test::OpenList,
-            },
-            LIST,
-        ),
-        2 => required(34, bytes(2), ENTRY),
-        _ => no_column(),
-    }
-}
-
-// Column i of a format.
-pub fn column_of(format: Format, i: usize) -> Column
-    ensures { result ≡ get_or (columns_of format) i no_column }
+// The columns of a format.
+pub fn columns(format: Format) -> &'static [Column]
+    ensures { result.now ≡ columns_of format }
 {
     match format {
-        Format::Row(table) => row_column(table, i, may_be_defunct()),
-        Format::NewRow(table) => row_column(table, i, never_defunct()),
-        Format::Range => range_column(i),
-        Format::Name => name_column(i),
-        Format::Target => target_column(i),
-        Format::Entry => entry_column(i),
-    }
-}
-
-// How many columns a row has.
-fn row_columns(table: TableId) -> usize
-    ensures { (defunct : Column) → result ≡ length (common_columns defunct ++ own_columns table) }
-{
-    match table {
-        TableId::Attributes => COMMON + 8,
-        TableId::Classes => COMMON + 10,
-    }
-}
-
-// How many columns a format has.
-pub fn column_count(format: Format) -> usize
-    ensures { result ≡ length (columns_of format) }
-{
-    match format {
-        Format::Row(table) => row_columns(table),
-        Format::NewRow(table) => row_columns(table),
-        Format::Range => 3,
-        Format::Name => 2,
-        Format::Target => 1,
-        Format::Entry => 3,
+        Format::Row(TableId::Attributes) => &ATTRIBUTE_ROW,
+        Format::Row(TableId::Classes) => &CLASS_ROW,
+        Format::NewRow(TableId::Attributes) => &NEW_ATTRIBUTE_ROW,
+        Format::NewRow(TableId::Classes) => &NEW_CLASS_ROW,
+        Format::Range => &NEW_RANGE,
+        Format::Name => &RENAMING,
+        Format::Target => &TARGET_ALONE,
+        Format::Entry => &LIST_ENTRY,
     }
 }
 
 // How many bytes the row has that a value is read into.
+#[tactic(auto, unfolding(crate::specs::Formats::format_width))]
 pub fn format_width(format: Format) -> usize
     ensures { result ≡ format_width format }
 {
     match format {
-        Format::Row(table) => row_width(table),
-        Format::NewRow(table) => row_width(table),
+        Format::Row(table) | Format::NewRow(table) => row_width(table),
         Format::Range => RANGE_WIDTH,
         Format::Name => NAME_WIDTH,
         Format::Target => TARGET_WIDTH,

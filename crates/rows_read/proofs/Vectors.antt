@@ -20,8 +20,8 @@ use Rattle.rows_format.specs.Encodings.{passes, accepts, image, room}
 use Rattle.rows_format.specs.Columns.{lead, mark, required, possible, column_width, takes, cell_of}
 use Rattle.rows_format.specs.Formats.{common_columns, attribute_columns, class_columns}
 use Rattle.rows_format.specs.Formats.{columns_of, format_width, own_columns}
-use Rattle.rows_read.specs.declared.read.RowRead.{RowRead}
-use Rattle.rows_read.specs.declared.read.RowRead.TheVariants.{Bad}
+use Rattle.rows_read.specs.RowRead.{RowRead}
+use Rattle.rows_read.specs.RowRead.{Bad}
 use Rattle.rows_read.specs.Reading.{turn_of, took_of, row_of, onward, read_by}
 use Rattle.rows_read.specs.ObjectClass.{object_class_cell, settled, finished, finish, read_row, finished_row}
 

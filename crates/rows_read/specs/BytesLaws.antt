@@ -1,6 +1,6 @@
 -- A row that is read from bytes holds bytes, whatever the answer: each column stores a value that fits its cell, and the first values of
 -- oMObjectClass are bytes.
-use Rattle.std.specs.Prelude.{Bool, true, false, ◌≡◌, eqb, ltb, length, get_or}
+use Rattle.std.specs.Prelude.{Bool, true, false, Some, None, Ok, Err, ◌≡◌, eqb, ltb, length, get_or}
 use mathlib.Core.List.{List, [], ◌∷◌}
 use Rattle.std.proofs.Math.Path.{refl}
 use Prim.Native.Nat.{ℕ, ◌+◌, ◌-◌, ◌*◌, ◌≤◌, ◌<◌}
@@ -29,10 +29,8 @@ use Rattle.rows_format.proofs.ColumnsLaws.{laid_cons}
 use Rattle.rows_format.specs.Formats.{columns_of, format_width}
 use Rattle.rows_format.proofs.FormatsLaws.{format_laid}
 use Rattle.rows_format.proofs.BytesLaws.{cell_bytes}
-use Rattle.rows_read.specs.declared.field.Turn.{Turn}
-use Rattle.rows_read.specs.declared.field.Turn.TheVariants.{Taken, Passed, Refused}
-use Rattle.rows_read.specs.declared.read.RowRead.{RowRead}
-use Rattle.rows_read.specs.declared.read.RowRead.TheVariants.{Read, Bad}
+use Rattle.wire.specs.FieldRead.{FieldRead}
+use Rattle.rows_read.specs.RowRead.{RowRead, Read}
 use Rattle.rows_read.specs.Reading.{turn_of, took_of, row_of, Out, onward, read_by}
 use Rattle.rows_read.specs.ReadingLaws.{is_taken}
 use Rattle.rows_read.specs.ObjectClass.{is_object, object_class_cell, settled, finished, finish, read_row, finished_row}
@@ -45,15 +43,16 @@ module _ (s : List ℕ) (bytes : Bytes s) (end : ℕ) where
       → (at : ℕ) (m : Bool) (row : List ℕ) → Bytes row
       → Bytes (read_by s end (r ∷ rs) at m row).row
   unfolding read_by onward took_of row_of
-  turn_bytes r rs sound rest at m row b = go (turn_of s r (field_at s at end)) refl
+  turn_bytes r rs sound rest at m row b = go (turn_of s at r (field_at s at end)) refl
     where
-      go : (t : Turn) → turn_of s r (field_at s at end) ≡ t → Bytes (onward (read_by s end rs) at (took_of r at m t) (row_of s r row t)).row
-      go Refused p = b
-      go Passed p = rest at _ (splice r.at (zeros (column_width r)) row) (splice_bytes r.at (zeros (column_width r)) row (zeros_bytes (column_width r)) b)
-      go (Taken start stop) p =
-          let v : List ℕ = part start (stop - start) s in
-          rest stop m (splice r.at (cell_of r v) row)
-          (splice_bytes r.at (cell_of r v) row (cell_bytes r v sound (part_bytes start (stop - start) s bytes) (is_taken s r at end start stop p).takes) b)
+      go : (t : FieldRead) → turn_of s at r (field_at s at end) ≡ t → Bytes (onward (read_by s end rs) (took_of r at m t) (row_of s r row t)).row
+      go (Err bad) p = b
+      go (Ok None) p = rest at _ (splice r.at (zeros (column_width r)) row) (splice_bytes r.at (zeros (column_width r)) row (zeros_bytes (column_width r)) b)
+      go (Ok (Some f)) p =
+          let v : List ℕ = part f.start (f.end - f.start) s in
+          rest f.end m (splice r.at (cell_of r v) row)
+          (splice_bytes r.at (cell_of r v) row
+          (cell_bytes r v sound (part_bytes f.start (f.end - f.start) s bytes) (is_taken s r at end f.tag f.start f.end p).takes) b)
 
   fields_bytes : (columns : List Column) (o n : ℕ) → laid columns o n ≡ true → (at : ℕ) (m : Bool) (row : List ℕ) → Bytes row
       → Bytes (read_by s end columns at m row).row
@@ -125,4 +124,4 @@ read_bytes format s start stop row bytes b = go fields.answer
 
     go : (a : RowRead) → Bytes (finish format a fields.row).row
     go Read = finished_bytes format fields.row kept
-    go (Bad at) = kept
+    go (Err bad) = kept

@@ -1,4 +1,5 @@
 -- Reading a row by its table, the default of oMObjectClass, the encoding of a row, and the round trips.
+pub mod RowRead
 pub mod Reading
 pub mod ReadingLaws
 pub mod Unfit

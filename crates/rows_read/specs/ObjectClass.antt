@@ -1,5 +1,5 @@
 -- oMObjectClass. Document 01, rule 27: "Absent, the first is stored. With any other oMSyntax it is read and dropped."
-use Rattle.std.specs.Prelude.{Bool, false, cond, not, ◌||◌, List, [], ℕ, ◌+◌, eqb, length}
+use Rattle.std.specs.Prelude.{Bool, false, cond, not, ◌||◌, List, [], Err, ℕ, ◌+◌, eqb, length}
 use Rattle.prelude.specs.Part.{splice}
 use Rattle.schema.specs.Layout.{object_class_limit, object_class_at}
 use Rattle.schema.specs.ObjectClasses.{first_object_class}
@@ -11,8 +11,8 @@ use Rattle.rows_format.specs.declared.format.Format.{Format}
 use Rattle.rows_format.specs.declared.format.Format.TheVariants.{Row, NewRow, Range, Name, Target, Entry}
 use Rattle.rows_format.specs.Encodings.{image}
 use Rattle.rows_format.specs.Formats.{columns_of}
-use Rattle.rows_read.specs.declared.read.RowRead.{RowRead}
-use Rattle.rows_read.specs.declared.read.RowRead.TheVariants.{Read, Bad}
+use Rattle.rows_read.specs.RowRead.{RowRead}
+use Rattle.rows_read.specs.RowRead.{Read}
 use Rattle.rows_read.specs.Reading.{Out, out, read_by}
 
 -- oMSyntax 127
@@ -59,7 +59,7 @@ finished Entry row = row
 
 unfoldable pub finish : Format → RowRead → List ℕ → Out
 finish format Read row = out Read (finished format row)
-finish format (Bad at) row = out (Bad at) row
+finish format (Err bad) row = out (Err bad) row
 
 -- the value s[start..end) read as a row of a format
 unfoldable pub read_row : Format → List ℕ → ℕ → ℕ → List ℕ → Out

@@ -1,5 +1,5 @@
 -- Laws of the default of oMObjectClass: each case of it, for the code; and that a settled row is left as it is.
-use Rattle.std.specs.Prelude.{Bool, true, false, cond, List, [], ◌≡◌, refl, ℕ, ◌+◌, ◌≤◌, eqb, length}
+use Rattle.std.specs.Prelude.{Bool, true, false, cond, List, [], Err, ◌≡◌, refl, ℕ, ◌+◌, ◌≤◌, eqb, length}
 use Rattle.std.proofs.Common.{arith}
 use Rattle.prelude.specs.Part.{splice, zeros, padded}
 use Rattle.prelude.specs.PartLaws.{padded_length}
@@ -12,8 +12,9 @@ use Rattle.schema.specs.AttributeRow.{syntax_of, om_syntax_of, object_class_leng
 use Rattle.rows_format.specs.Encodings.{image}
 use Rattle.rows_format.specs.declared.format.Format.{Format}
 use Rattle.rows_format.specs.Formats.{columns_of}
-use Rattle.rows_read.specs.declared.read.RowRead.{RowRead}
-use Rattle.rows_read.specs.declared.read.RowRead.TheVariants.{Read, Bad}
+use Rattle.wire.specs.declared.BadField.{BadField}
+use Rattle.rows_read.specs.RowRead.{RowRead}
+use Rattle.rows_read.specs.RowRead.{Read}
 use Rattle.rows_read.specs.Reading.{Out, read_by}
 use Rattle.rows_read.specs.ObjectClass.{object_class_width, is_object, object_class_cell, settled, finished, finish, read_row}
 
@@ -62,8 +63,8 @@ module _ (format : Format) (s : List ℕ) (start end : ℕ) (row : List ℕ) whe
   abbrev fields_read : Out
   fields_read = read_by s end (columns_of format) start false row
 
-  pub finish_bad : {a : RowRead} {p : ℕ} {row' : List ℕ} → (a ≡ fields_read.answer) × (row' ≡ fields_read.row) → a ≡ Bad p
-      → (Bad p ≡ (read_row format s start end row).answer) × (row' ≡ (read_row format s start end row).row)
+  pub finish_bad : {a : RowRead} {bad : BadField} {row' : List ℕ} → (a ≡ fields_read.answer) × (row' ≡ fields_read.row) → a ≡ Err bad
+      → (Err bad ≡ (read_row format s start end row).answer) × (row' ≡ (read_row format s start end row).row)
   unfolding read_row finish
   finish_bad e h = (rw (← e.0, h), rw (← e.0, h) e.1)
 

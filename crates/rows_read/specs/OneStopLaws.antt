@@ -13,8 +13,8 @@ use Rattle.rows_read.specs.Stopping.{FieldCut, column_at, value_at, ColumnStands
 use Rattle.rows_read.specs.Stopping.AcceptedTo.{none, more}
 use Rattle.rows_read.specs.Stopping.Unacceptable.{cut, unknown, late, wrong}
 use Rattle.rows_read.specs.Stopping.ValueStops.{read, missing, refused}
-use Rattle.rows_read.specs.declared.read.RowRead.{RowRead}
-use Rattle.rows_read.specs.declared.read.RowRead.TheVariants.{Read, Bad}
+use Rattle.rows_read.specs.RowRead.{RowRead}
+use Rattle.rows_read.specs.RowRead.{Read, Bad}
 
 -- ---- tags that differ
 

@@ -6,7 +6,7 @@ use Rattle.prelude.specs.BigEndian.{big_endian}
 use Rattle.wire.specs.Wire.{field_at, value_end}
 use Rattle.wire.specs.WireLaws.{field_end, field_short, field_past, field_whole}
 use Rattle.rows_read.specs.Stopping.{FieldStands, FieldCut}
-use Rattle.wire.specs.declared.FieldRead.TheVariants as fields
+use Rattle.wire.specs.FieldRead as fields
 
 -- a field that stands there is read there, one that is cut is bad at its tag
 pub field_stands : {s : List ℕ} {end at tag stop : ℕ} → FieldStands s end at tag stop → field_at s at end ≡ fields.Field tag (at + 3) stop

@@ -1,5 +1,5 @@
 -- What the reader accepts is well-formed, and is written as the bytes that were read: by one way through the table, for any table.
-use Rattle.std.specs.Prelude.{Bool, cond, ◌||◌, ◌≡◌, refl, eqb}
+use Rattle.std.specs.Prelude.{Bool, cond, ◌||◌, Some, None, Ok, Err, ◌≡◌, refl, eqb}
 use Rattle.std.proofs.Math.Bool.{true, false}
 use mathlib.Core.List.{List, [], ◌∷◌}
 use Rattle.std.proofs.Math.Path.{sym, ap}
@@ -19,9 +19,9 @@ use Rattle.rows_format.specs.declared.column.Column.{Column}
 use Rattle.rows_format.specs.Columns.{required, column_width, cell_of, cell_at, has_value, value_of, well_formed_cell, well_formed_by, write_by, laid}
 use Rattle.rows_format.proofs.ColumnsLaws.{Laid, laid_cons, laid_le, takes_accepts, cell_length, taken_cell, absent_value, absent_formed}
 use Rattle.rows_format.proofs.ColumnsLaws.{formed_both, field_none, field_some}
-use Rattle.rows_read.specs.declared.field.Turn.{Turn}
-use Rattle.rows_read.specs.declared.field.Turn.TheVariants.{Taken, Passed, Refused}
-use Rattle.rows_read.specs.declared.read.RowRead.TheVariants.{Read, Bad}
+use Rattle.wire.specs.FieldRead.{FieldRead}
+use Rattle.wire.specs.FieldRead as fields
+use Rattle.rows_read.specs.RowRead.{Read, Bad}
 use Rattle.rows_read.specs.Reading.{turn_of, took_of, row_of, Out, out, onward, read_by}
 use Rattle.rows_read.specs.ReadingLaws.{is_taken}
 
@@ -87,12 +87,12 @@ module _ (s : List ℕ) (end : ℕ) (r : Column) (rs : List Column) (o n at : �
       }
 
   -- a column that took its field
-  back_taken : (start stop : ℕ) → Bytes s → end ≤ length s → turn_of s r (field_at s at end) ≡ Taken start stop
+  back_taken : (tag start stop : ℕ) → Bytes s → end ≤ length s → turn_of s at r (field_at s at end) ≡ fields.Field tag start stop
       → Back s end rs (o + column_width r) stop m (splice r.at (cell_of r (part start (stop - start) s)) row) new → Back s end (r ∷ rs) o at m row new
   unfolding write_by
-  back_taken start stop bytes le t b =
+  back_taken tag start stop bytes le t b =
       let v : List ℕ = part start (stop - start) s in
-      let k = is_taken s r at end start stop t in
+      let k = is_taken s r at end tag start stop t in
       let w = taken_cell r v l.sound (part_bytes start (stop - start) s bytes) k.takes in
       let c = cell_stays (cell_of r v) w.long b.before b.long in
       let has : has_value r.presence (cell_at r new) ≡ true = ap (has_value r.presence) c.0 ∙ w.has in
@@ -124,18 +124,18 @@ turn_by : (s : List ℕ) (end : ℕ) (r : Column) (rs : List Column) (o n at : �
     → ((cell : List ℕ) → length cell ≡ column_width r → n ≤ length (splice r.at cell row))
     → read_by s end (r ∷ rs) at m row ≡ out Read new → Back s end (r ∷ rs) o at m row new
 unfolding read_by onward took_of row_of
-turn_by s end r rs o n at m row new l fits bytes le rest still e = go (turn_of s r (field_at s at end)) refl e
+turn_by s end r rs o n at m row new l fits bytes le rest still e = go (turn_of s at r (field_at s at end)) refl e
   where
-    go : (t : Turn) → turn_of s r (field_at s at end) ≡ t → onward (read_by s end rs) at (took_of r at m t) (row_of s r row t) ≡ out Read new
+    go : (t : FieldRead) → turn_of s at r (field_at s at end) ≡ t → onward (read_by s end rs) (took_of r at m t) (row_of s r row t) ≡ out Read new
         → Back s end (r ∷ rs) o at m row new
-    go Refused p q = absurd (refused at row new q)
-    go Passed p q = back_passed s end r rs o n at m row new l fits
+    go (Err bad) p q = absurd (refused bad.at row new q)
+    go (Ok None) p q = back_passed s end r rs o n at m row new l fits
         (rest at _ _ new bytes le l.rest (still (zeros (column_width r)) (zeros_length (column_width r))) q)
-    go (Taken start stop) p q =
-        let k = is_taken s r at end start stop p in
-        let v : List ℕ = part start (stop - start) s in
-        back_taken s end r rs o n at m row new l fits start stop bytes le p
-        (rest stop m _ new bytes le l.rest (still (cell_of r v) (cell_length r v (takes_accepts r v k.takes))) q)
+    go (Ok (Some f)) p q =
+        let k = is_taken s r at end f.tag f.start f.end p in
+        let v : List ℕ = part f.start (f.end - f.start) s in
+        back_taken s end r rs o n at m row new l fits f.tag f.start f.end bytes le p
+        (rest f.end m _ new bytes le l.rest (still (cell_of r v) (cell_length r v (takes_accepts r v k.takes))) q)
 
 pub read_back : (s : List ℕ) (end : ℕ) (columns : List Column) (o n at : ℕ) (m : Bool) (row new : List ℕ) → Bytes s → end ≤ length s
     → laid columns o n ≡ true → n ≤ length row

@@ -1,49 +1,47 @@
 -- Laws of reading by a table: what a column makes of each field in front, and a turn and the end of the way through a table.
-use Rattle.std.specs.Prelude.{Bool, false, cond, ◌||◌, List, ◌≡◌, ℕ, ◌+◌, ◌-◌, ◌≤◌, ◌<◌, eqb, length, get_or, drop}
+use Rattle.std.specs.Prelude.{Bool, false, cond, ◌||◌, List, Some, None, Ok, Err, ◌≡◌, ℕ, ◌+◌, ◌-◌, ◌≤◌, ◌<◌, eqb, length, get_or, drop}
 use Rattle.std.proofs.Math.Bool.{true}
-use Rattle.std.proofs.Math.Path.{refl}
+use Rattle.std.proofs.Math.Path.{refl, ap}
 use Rattle.std.proofs.Common.{sym, ◌∙◌, add-one, arith, drop_of_length-le}
 use Rattle.std.proofs.Math.Seq.{drop-cons}
 use borrow.Author.Tests.{eq-eqb, ne_eqb, eqb-true}
 use Rattle.prelude.specs.Part.{part, splice, zeros}
 use Rattle.wire.specs.Wire.{field_at}
-use Rattle.wire.specs.WireLaws.{Whole, field_is}
-use Rattle.wire.specs.declared.FieldRead.{FieldRead}
+use Rattle.wire.specs.WireLaws.{Whole, one_field, field_is}
+use Rattle.wire.specs.FieldRead.{FieldRead}
+use Rattle.wire.specs.declared.BadField.{BadField}
+use Rattle.rows_read.specs.declared.field.Progress.{Progress}
 use Rattle.rows_format.specs.declared.column.Column.{Column}
 use Rattle.rows_format.specs.Columns.{required, column_width, takes, cell_of}
-use Rattle.rows_read.specs.declared.field.Turn.{Turn}
-use Rattle.rows_read.specs.declared.field.Turn.TheVariants.{Taken, Passed, Refused}
-use Rattle.rows_read.specs.declared.field.Took.{Took}
-use Rattle.rows_read.specs.declared.field.Took.TheVariants.{Next, Stop}
-use Rattle.rows_read.specs.declared.read.RowRead.TheVariants.{Read, Bad}
-use Rattle.rows_read.specs.Reading.{turn_of, took_of, row_of, out, onward, read_by}
-use Rattle.wire.specs.declared.FieldRead.TheVariants as fields
+use Rattle.rows_read.specs.RowRead.{Read, Bad}
+use Rattle.rows_read.specs.Reading.{turn_of, Took, next, took_of, row_of, out, onward, read_by}
+use Rattle.wire.specs.FieldRead as fields
 
 -- ---- what a column makes of the field in front
 
 module _ (s : List ℕ) (r : Column) (at end : ℕ) where
-  abbrev pub turn : Turn
-  turn = turn_of s r (field_at s at end)
+  abbrev pub turn : FieldRead
+  turn = turn_of s at r (field_at s at end)
 
-  pub turn_end : {f : FieldRead} → f ≡ field_at s at end → f ≡ fields.End → Passed ≡ turn
+  pub turn_end : {f : FieldRead} → f ≡ field_at s at end → f ≡ fields.End → fields.End ≡ turn
   unfolding turn_of
   turn_end e h = rw (← e, h)
 
-  pub turn_bad : {f : FieldRead} {p : ℕ} → f ≡ field_at s at end → f ≡ fields.Bad p → Refused ≡ turn
+  pub turn_bad : {f : FieldRead} {p : ℕ} → f ≡ field_at s at end → f ≡ fields.Bad p → fields.Bad at ≡ turn
   unfolding turn_of
   turn_bad e h = rw (← e, h)
 
-  pub turn_other : {f : FieldRead} {tag start stop : ℕ} → f ≡ field_at s at end → f ≡ fields.Field tag start stop → ¬ (tag ≡ r.tag) → Passed ≡ turn
+  pub turn_other : {f : FieldRead} {tag start stop : ℕ} → f ≡ field_at s at end → f ≡ fields.Field tag start stop → ¬ (tag ≡ r.tag) → fields.End ≡ turn
   unfolding turn_of
   turn_other e h d = rw (← e, h, ne_eqb _ _ d)
 
   pub turn_taken : {f : FieldRead} {tag start stop : ℕ} → f ≡ field_at s at end → f ≡ fields.Field tag start stop → tag ≡ r.tag
-      → takes r (part start (stop - start) s) ≡ true → Taken start stop ≡ turn
+      → takes r (part start (stop - start) s) ≡ true → fields.Field tag start stop ≡ turn
   unfolding turn_of
   turn_taken e h t k = rw (← e, h, eq-eqb _ _ t, k)
 
   pub turn_refused : {f : FieldRead} {tag start stop : ℕ} → f ≡ field_at s at end → f ≡ fields.Field tag start stop → tag ≡ r.tag
-      → takes r (part start (stop - start) s) ≡ false → Refused ≡ turn
+      → takes r (part start (stop - start) s) ≡ false → fields.Bad at ≡ turn
   unfolding turn_of
   turn_refused e h t k = rw (← e, h, eq-eqb _ _ t, k)
 
@@ -53,58 +51,60 @@ module _ (s : List ℕ) (r : Column) (at end : ℕ) where
     pub whole : Whole s at end r.tag start stop
     pub takes : takes r (part start (stop - start) s) ≡ true
 
-  pub is_taken : (start stop : ℕ) → turn ≡ Taken start stop → IsTaken start stop
+  pub is_taken : (tag start stop : ℕ) → turn ≡ fields.Field tag start stop → IsTaken start stop
   unfolding turn_of
-  is_taken start stop e = go (field_at s at end) refl e
+  is_taken of start stop e = go (field_at s at end) refl e
     where
       made : field_at s at end ≡ fields.Field r.tag start stop → takes r (part start (stop - start) s) ≡ true → IsTaken start stop
       made f t = record { field = f; whole = field_is s at end r.tag start stop f; takes = t }
 
       pass : (tag a b : ℕ) (x y : Bool) → eqb tag r.tag ≡ x → takes r (part a (b - a) s) ≡ y → field_at s at end ≡ fields.Field tag a b
-          → cond x (cond y (Taken a b) Refused) Passed ≡ Taken start stop → IsTaken start stop
+          → cond x (cond y (fields.Field tag a b) (fields.Bad at)) fields.End ≡ fields.Field of start stop → IsTaken start stop
       pass tag a b false y p q f e = let no : ◌≡◌ {A = ℕ} 0 1 = cc in absurd (omega arith)
       pass tag a b true false p q f e = let no : ◌≡◌ {A = ℕ} 0 1 = cc in absurd (omega arith)
       pass tag a b true true p q f e =
-          let ea : a ≡ start = cc in
-          let eb : b ≡ stop = cc in
-          made (rw (eqb-true tag r.tag p, ea, eb) at f) (rw (ea, eb) at q)
+          let same = one_field e in
+          made (rw (eqb-true tag r.tag p, same.1, same.2) at f) (rw (same.1, same.2) at q)
 
-      go : (f : FieldRead) → field_at s at end ≡ f → turn_of s r f ≡ Taken start stop → IsTaken start stop
-      go fields.End p e = let no : ◌≡◌ {A = ℕ} 0 1 = cc in absurd (omega arith)
-      go (fields.Bad b) p e = let no : ◌≡◌ {A = ℕ} 0 1 = cc in absurd (omega arith)
-      go (fields.Field tag a b) p e = pass tag a b (eqb tag r.tag) (takes r (part a (b - a) s)) refl refl p e
+      go : (f : FieldRead) → field_at s at end ≡ f → turn_of s at r f ≡ fields.Field of start stop → IsTaken start stop
+      go (Ok None) p e = let no : ◌≡◌ {A = ℕ} 0 1 = cc in absurd (omega arith)
+      go (Err bad) p e = let no : ◌≡◌ {A = ℕ} 0 1 = cc in absurd (omega arith)
+      go (Ok (Some f)) p e = pass f.tag f.start f.end (eqb f.tag r.tag) (takes r (part f.start (f.end - f.start) s)) refl refl p e
 
 -- ---- where reading goes on, and the row
 
 module _ (s : List ℕ) (r : Column) (at end : ℕ) (missing : Bool) (row : List ℕ) where
   abbrev pub Stepped : Took → List ℕ → Type 0
-  Stepped t row' = (t ≡ took_of r at missing (turn_of s r (field_at s at end))) × (row' ≡ row_of s r row (turn_of s r (field_at s at end)))
+  Stepped t row' = (t ≡ took_of r at missing (turn_of s at r (field_at s at end))) × (row' ≡ row_of s r row (turn_of s at r (field_at s at end)))
 
-  pub stepped_refused : {t : Turn} → t ≡ turn_of s r (field_at s at end) → t ≡ Refused → Stepped Stop row
+  pub stepped_refused : {t : FieldRead} {bad : BadField} → t ≡ turn_of s at r (field_at s at end) → t ≡ Err bad → Stepped (Err bad) row
   unfolding took_of row_of
   stepped_refused e h = (rw (← e, h), rw (← e, h))
 
-  pub stepped_passed : {t : Turn} → t ≡ turn_of s r (field_at s at end) → t ≡ Passed
-      → Stepped (Next at (required r.presence || missing)) (splice r.at (zeros (column_width r)) row)
+  pub stepped_passed : {t : FieldRead} → t ≡ turn_of s at r (field_at s at end) → t ≡ fields.End
+      → Stepped (next at (required r.presence || missing)) (splice r.at (zeros (column_width r)) row)
   unfolding took_of row_of
   stepped_passed e h = (rw (← e, h), rw (← e, h))
 
-  pub stepped_taken : {t : Turn} {start stop : ℕ} → t ≡ turn_of s r (field_at s at end) → t ≡ Taken start stop
-      → Stepped (Next stop missing) (splice r.at (cell_of r (part start (stop - start) s)) row)
+  pub stepped_taken : {t : FieldRead} {tag start stop : ℕ} → t ≡ turn_of s at r (field_at s at end) → t ≡ fields.Field tag start stop
+      → Stepped (next stop missing) (splice r.at (cell_of r (part start (stop - start) s)) row)
   unfolding took_of row_of
   stepped_taken e h = (rw (← e, h), rw (← e, h))
 
 -- the next place is within the fields
-pub took_within : (s : List ℕ) (r : Column) (at end : ℕ) (missing : Bool) {t : Took} {next : ℕ} {m : Bool} → t
-    ≡ took_of r at missing (turn_of s r (field_at s at end)) → t ≡ Next next m
-    → at ≤ end → next ≤ end
+pub took_within : (s : List ℕ) (r : Column) (at end : ℕ) (missing : Bool) {t : Took} {progress : Progress} → t
+    ≡ took_of r at missing (turn_of s at r (field_at s at end)) → t ≡ Ok progress
+    → at ≤ end → progress.at ≤ end
 unfolding took_of
-took_within s r at end missing {t} {next} {m} e h l = go (turn_of s r (field_at s at end)) refl (sym e ∙ h)
+took_within s r at end missing {t} {progress} e h l = go (turn_of s at r (field_at s at end)) refl (sym e ∙ h)
   where
-    go : (u : Turn) → turn_of s r (field_at s at end) ≡ u → took_of r at missing u ≡ Next next m → next ≤ end
-    go (Taken start stop) p q = let z : next ≡ stop = cc in omega (arith, (is_taken s r at end start stop p).whole.within)
-    go Passed p q = let z : next ≡ at = cc in omega arith
-    go Refused p q = let no : ◌≡◌ {A = ℕ} 0 1 = cc in absurd (omega arith)
+    place : {p : Progress} → ◌≡◌ {A = Took} (Ok p) (Ok progress) → p.at ≡ progress.at
+    place {p} e = let same : p ≡ progress = cc in ap (λ (x : Progress). x.at) same
+
+    go : (u : FieldRead) → turn_of s at r (field_at s at end) ≡ u → took_of r at missing u ≡ Ok progress → progress.at ≤ end
+    go (Ok (Some f)) p q = omega (arith, place q, (is_taken s r at end f.tag f.start f.end p).whole.within)
+    go (Ok None) p q = omega (arith, place q)
+    go (Err bad) p q = let no : ◌≡◌ {A = ℕ} 0 1 = cc in absurd (omega arith)
 
 -- ---- a turn of the way through a table, and its end
 
@@ -113,19 +113,19 @@ module _ (table : List Column) (none : Column) (s : List ℕ) (end i at : ℕ) (
   this = get_or table i none
 
   read_turn : i < length table → read_by s end (drop i table) at missing row
-      ≡ onward (read_by s end (drop (i + 1) table)) at (took_of this at missing (turn_of s this (field_at s at end)))
-      (row_of s this row (turn_of s this (field_at s at end)))
+      ≡ onward (read_by s end (drop (i + 1) table)) (took_of this at missing (turn_of s at this (field_at s at end)))
+      (row_of s this row (turn_of s at this (field_at s at end)))
   unfolding read_by
   read_turn h = rw (add-one i, drop-cons table i none h)
 
-  pub read_next : {r : Column} {t : Took} {next : ℕ} {m : Bool} {row' : List ℕ} → i < length table → r ≡ this → Stepped s r at end missing row t row'
-      → t ≡ Next next m
-      → read_by s end (drop i table) at missing row ≡ read_by s end (drop (i + 1) table) next m row'
+  pub read_next : {r : Column} {t : Took} {progress : Progress} {row' : List ℕ} → i < length table → r ≡ this
+      → Stepped s r at end missing row t row' → t ≡ Ok progress
+      → read_by s end (drop i table) at missing row ≡ read_by s end (drop (i + 1) table) progress.at progress.missing row'
   unfolding onward
   read_next h q e k = rw (read_turn h, ← q, ← e.0, ← e.1, k)
 
-  pub read_stop : {r : Column} {t : Took} {row' : List ℕ} → i < length table → r ≡ this → Stepped s r at end missing row t row' → t ≡ Stop
-      → read_by s end (drop i table) at missing row ≡ out (Bad at) row'
+  pub read_stop : {r : Column} {t : Took} {bad : BadField} {row' : List ℕ} → i < length table → r ≡ this → Stepped s r at end missing row t row'
+      → t ≡ Err bad → read_by s end (drop i table) at missing row ≡ out (Err bad) row'
   unfolding onward
   read_stop h q e k = rw (read_turn h, ← q, ← e.0, ← e.1, k)
 

@@ -1,6 +1,6 @@
 -- The round trips of whole rows. What the reader accepts is well-formed, and is written as the bytes that were read, an attribute row where 08 stands
 -- exactly where oMSyntax is 127; a well-formed row that is written is read back.
-use Rattle.std.specs.Prelude.{true, ◌≡◌, refl, length, drop}
+use Rattle.std.specs.Prelude.{true, Err, ◌≡◌, refl, length, drop}
 use Rattle.std.proofs.Math.Bool.{false}
 use mathlib.Core.List.{List, [], ◌++◌}
 use Rattle.std.proofs.Math.Path.{sym, ap}
@@ -14,8 +14,8 @@ use Rattle.rows_format.specs.Columns.{well_formed_by, write_by}
 use Rattle.rows_format.specs.Formats.{columns_of, format_width}
 use Rattle.rows_format.proofs.FormatsLaws.{format_laid, format_distinct}
 use Rattle.rows_format.specs.declared.format.Format.TheVariants.{NewRow, Row}
-use Rattle.rows_read.specs.declared.read.RowRead.{RowRead}
-use Rattle.rows_read.specs.declared.read.RowRead.TheVariants.{Read, Bad}
+use Rattle.rows_read.specs.RowRead.{RowRead}
+use Rattle.rows_read.specs.RowRead.{Read}
 use Rattle.rows_read.specs.Reading.{Out, out, read_by}
 use Rattle.rows_read.specs.ReadBackLaws.{read_back}
 use Rattle.rows_read.specs.WriteReadLaws.{write_read}
@@ -47,7 +47,7 @@ row_read_lem format s start end row new e = go o.answer refl e
 
     go : (a : RowRead) → o.answer ≡ a → finish format a o.row ≡ out Read new → (o ≡ out Read o.row) × (new ≡ finished format o.row)
     go Read p q = (λ i. record { answer = p i; row = o.row }, sym (ap (λ (x : Out). x.row) q))
-    go (Bad at) p q = let a : Bad at ≡ Read = ap (λ (x : Out). x.answer) q in let no : ◌≡◌ {A = ℕ} 0 1 = cc in absurd (omega arith)
+    go (Err bad) p q = let a : Err bad ≡ Read = ap (λ (x : Out). x.answer) q in let no : ◌≡◌ {A = ℕ} 0 1 = cc in absurd (omega arith)
 
 module _ (t : TableId) (s : List ℕ) (start end : ℕ) (row new : List ℕ) (bytes : Bytes s) (le : end ≤ length s) (fits : row_width t ≤ length row) where
   abbrev raw : List ℕ

@@ -9,8 +9,8 @@ use Rattle.rows_format.specs.declared.column.Column.{Column}
 use Rattle.rows_format.specs.declared.column.Presence.TheVariants.{Required}
 use Rattle.rows_format.specs.Formats.{no_column}
 use Rattle.rows_read.specs.Unfit.{UnfitField}
-use Rattle.rows_read.specs.declared.read.RowRead.{RowRead}
-use Rattle.rows_read.specs.declared.read.RowRead.TheVariants.{Read, Bad}
+use Rattle.rows_read.specs.RowRead.{RowRead}
+use Rattle.rows_read.specs.RowRead.{Read, Bad}
 
 -- ---- fields
 

@@ -1,6 +1,6 @@
 -- Reading a value stops where `ValueStops` says and as it says. Each turn of reading keeps what is known of the fields so far (`SoFar`), and its end is
 -- one of the three cases; a value stops in one way only (OneStopLaws), so that what holds of a value is what reading comes to.
-use Rattle.std.specs.Prelude.{Bool, true, false, ◌||◌, ◌&&◌, ◌⊎◌, ◌↔◌, ◌≡◌, refl, ℕ, zero, suc, ◌+◌, ◌≤◌, ◌<◌, leb, length, drop}
+use Rattle.std.specs.Prelude.{Bool, true, false, Err, ◌||◌, ◌&&◌, ◌⊎◌, ◌↔◌, ◌≡◌, refl, ℕ, zero, suc, ◌+◌, ◌≤◌, ◌<◌, leb, length, drop}
 use Rattle.std.proofs.Common.{true≢false, inl, inr, ⊎_elim, sym, ◌∙◌, add-one, arith}
 use mathlib.Core.List.Memᴰ
 use mathlib.Core.List.{List, [], ◌∷◌, Memᴰ}
@@ -23,7 +23,6 @@ use Rattle.rows_format.proofs.FormatsLaws.{distinct, format_distinct}
 use Rattle.rows_read.specs.Unfit.{UnfitField}
 use Rattle.rows_read.specs.UnfitLaws.{unfit_field}
 use Rattle.rows_read.specs.Reading.{Out, read_by, turn_of}
-use Rattle.rows_read.specs.declared.field.Turn.TheVariants.{Passed, Refused}
 use Rattle.rows_read.specs.ReadingLaws.{turn_end, turn_bad, turn_other, turn_taken, turn_refused, stepped_refused, stepped_passed, stepped_taken}
 use Rattle.rows_read.specs.ReadingLaws.{read_next, read_stop, read_leftover, read_missing, read_whole}
 use Rattle.rows_read.specs.PlaceLaws.{Place, ends, is_cut_lem, stands, place}
@@ -33,9 +32,9 @@ use Rattle.rows_read.specs.Stopping.{FieldStands, column_at, value_at, ColumnSta
 use Rattle.rows_read.specs.Stopping.AcceptedTo.{none, more}
 use Rattle.rows_read.specs.Stopping.Unacceptable.{cut, unknown, late, wrong}
 use Rattle.rows_read.specs.Stopping.ValueStops.{read, missing, refused}
-use Rattle.rows_read.specs.declared.read.RowRead.{RowRead}
-use Rattle.rows_read.specs.declared.read.RowRead.TheVariants.{Read, Bad}
-use Rattle.wire.specs.declared.FieldRead.TheVariants as fields
+use Rattle.rows_read.specs.RowRead.{RowRead}
+use Rattle.rows_read.specs.RowRead.{Read, Bad}
+use Rattle.wire.specs.FieldRead as fields
 
 -- ---- columns
 
@@ -169,11 +168,11 @@ module _ (cs : List Column) (s : List ℕ) (end start : ℕ) where
       r : Column
       r = column_at cs k
 
-      pass : Passed ≡ turn_of s r (field_at s at end) → ((stop : ℕ) → ¬ (ColumnStands cs s end at k stop)) → Stops (read_by s end (drop k cs) at lacking row)
+      pass : fields.End ≡ turn_of s at r (field_at s at end) → ((stop : ℕ) → ¬ (ColumnStands cs s end at k stop)) → Stops (read_by s end (drop k cs) at lacking row)
       pass t d = rw (read_next cs no_column s end k at lacking row l refl (stepped_passed s r at end lacking row t refl) refl, add-one k)
           (rest _ _ _ _ (so_passed h l d))
 
-      refuse : Refused ≡ turn_of s r (field_at s at end) → Unacceptable cs s end at taken → Stops (read_by s end (drop k cs) at lacking row)
+      refuse : fields.Bad at ≡ turn_of s at r (field_at s at end) → Unacceptable cs s end at taken → Stops (read_by s end (drop k cs) at lacking row)
       refuse t u = rw (read_stop cs no_column s end k at lacking row l refl (stepped_refused s r at end lacking row t refl) refl) (refused h.accepted u)
 
       own : {stop : ℕ} → ColumnStands cs s end at k stop → field_at s at end ≡ fields.Field r.tag (at + 3) stop
@@ -221,7 +220,7 @@ table_stops cs d s end start row l answer = let stops = reading_stops cs s end s
 finish_answer : (format : Format) (answer : RowRead) (row : List ℕ) → (finish format answer row).answer ≡ answer
 unfolding finish
 finish_answer format Read row = refl
-finish_answer format (Bad at) row = refl
+finish_answer format (Err bad) row = refl
 
 -- for the formats
 pub value_stops : (format : Format) (s : List ℕ) (end start : ℕ) (row : List ℕ) → start ≤ end → (answer : RowRead)

@@ -16,18 +16,16 @@ pub fn rises(v: &[u8], table: TableId) -> bool
     ensures { result ≡ rises_below (limit table) 0 (entries v.now) }
 {
     let mut low = 0;
-    let mut i = 0;
-    while i < v.len() {
-        let n = read_u16(v, i) as usize;
+    // By number, not by chunks of two: no law ties the bytes of a chunk to the entries.
+    for k in 0..v.len() / 2 {
+        let n = read_u16(v, 2 * k) as usize;
         if n < low {
             return false;
         }
-        if is_number(table, n) {
-            low = n + 1;
-            i += 2;
-        } else {
+        if !is_number(table, n) {
             return false;
         }
+        low = n + 1;
     }
     true
 }
@@ -38,10 +36,7 @@ pub fn store_entries(v: &[u8], cell: &mut [u8])
     ensures { cell.new ≡ set_of (length cell.old) (among (entries v.now)) }
 {
     clear(cell);
-    let mut i = 0;
-    while i < v.len() {
-        let n = read_u16(v, i) as usize;
-        insert(cell, n);
-        i += 2;
+    for k in 0..v.len() / 2 {
+        insert(cell, read_u16(v, 2 * k) as usize);
     }
 }

@@ -1,32 +1,21 @@
 // One field of a table: what a column makes of the field in front, and its cell in the row.
-ghost use Rattle.std.specs.Prelude.{true, ◌||◌, ◌≡◌, ◌≤◌, length};
+ghost use Rattle.std.specs.Prelude.{true, ◌≡◌, ◌≤◌, length};
 ghost use Rattle.prelude.specs.Part.{splice, zeros};
 ghost use Rattle.wire.specs.Wire.{field_at};
-ghost use Rattle.rows_format.specs.Columns.{required, column_width, takes, cell_of, Sound, Fits};
+ghost use Rattle.rows_format.specs.Columns.{column_width, takes, cell_of, Sound, Fits};
 ghost use Rattle.rows_read.specs.Reading.{turn_of, took_of, row_of};
 
 use crate::value::{accepts, store_value};
 use prelude::part::clear;
 use reader::field_within;
-use rows_format::column::{Column, Presence, column_width, is_possible, is_required, mark_of};
-use wire::{FieldRead, value_of};
+use rows_format::column::Column;
+use wire::{BadField, Field, value_of};
 
-// What a column makes of the field in front.
+// Where reading goes on, and whether a required field is missing so far.
 #[derive(Clone, Copy)]
-pub enum Turn {
-    // Its own field: the value is the bytes from start up to end.
-    Taken { start: usize, end: usize },
-    // Nothing, or the field of another column.
-    Passed,
-    // A field that cannot be accepted.
-    Refused,
-}
-
-// Where reading goes on, with whether a required field is missing so far; or the refusal.
-#[derive(Clone, Copy)]
-pub enum Took {
-    Next { at: usize, missing: bool },
-    Stop,
+pub struct Progress {
+    pub at: usize,
+    pub missing: bool,
 }
 
 // Whether the column's field may have the value v.
@@ -35,36 +24,28 @@ fn takes(column: Column, v: &[u8]) -> bool
 {
     let presence = column.presence;
     let encoding = column.encoding;
-    if is_possible(presence) {
+    if presence.is_possible() {
         accepts(encoding, v)
     } else {
         false
     }
 }
 
-// What the column makes of the field at a place of the fields that end at end.
-pub fn turn_of(s: &[u8], at: usize, end: usize, column: Column) -> Turn
+// What the column makes of the field at a place of the fields that end at end: its own it takes, that of another column it leaves there.
+pub fn turn_of(s: &[u8], at: usize, end: usize, column: Column) -> Result<Option<Field>, BadField>
     requires { (at ≤ end) × (end ≤ length s.now) }
-    ensures { result ≡ turn_of s.now column (field_at s.now at end) }
+    ensures { result ≡ turn_of s.now at column (field_at s.now at end) }
 {
-    if at == end {
-        return Turn::Passed;
-    }
-    let FieldRead::Field {
-        tag,
-        start,
-        end: stop,
-    } = field_within(s, at, end)
-    else {
-        return Turn::Refused;
+    let Some(field) = field_within(s, at, end)? else {
+        return Ok(None);
     };
-    if tag != column.tag {
-        return Turn::Passed;
+    if field.tag != column.tag {
+        return Ok(None);
     }
-    if takes(column, value_of(s, start, stop)) {
-        Turn::Taken { start, end: stop }
+    if takes(column, value_of(s, field.start, field.end)) {
+        Ok(Some(field))
     } else {
-        Turn::Refused
+        Err(BadField { at })
     }
 }
 
@@ -75,7 +56,7 @@ fn store_cell(column: Column, v: &[u8], cell: &mut [u8])
 {
     let presence = column.presence;
     let encoding = column.encoding;
-    if mark_of(presence) == 1 {
+    if presence.mark() == 1 {
         cell[0] = 1;
         store_value(encoding, v, &mut cell[1..]);
     } else {
@@ -89,7 +70,7 @@ fn put_cell(column: Column, v: &[u8], row: &mut [u8])
     ensures { row.new ≡ splice column.at (cell_of column v.now) row.old }
 {
     let at = column.at;
-    let stop = at + column_width(column);
+    let stop = at + column.width();
     store_cell(column, v, &mut row[at..stop]);
 }
 
@@ -99,42 +80,31 @@ fn clear_cell(column: Column, row: &mut [u8])
     ensures { row.new ≡ splice column.at (zeros (column_width column)) row.old }
 {
     let at = column.at;
-    let stop = at + column_width(column);
+    let stop = at + column.width();
     clear(&mut row[at..stop]);
 }
 
-// A column whose field is not there: it is missing where it is required.
-fn passed(at: usize, missing: bool, presence: Presence) -> Took
-    ensures { result ≡ Took.Next at (required presence || missing) }
-{
-    if is_required(presence) {
-        return Took::Next { at, missing: true };
-    }
-    Took::Next { at, missing }
-}
-
-// Takes the field of a column into the row, if it stands at a place of the fields that end at end.
+// Takes the field of a column into the row, if it stands at the place of the fields that end at end. Where it does not, it is missing if it is required.
 pub fn take_field(
     s: &[u8],
-    at: usize,
+    progress: Progress,
     end: usize,
     column: Column,
-    missing: bool,
     row: &mut [u8],
-) -> Took
-    requires { (at ≤ end) × (end ≤ length s.now) × Fits (length row.old) column }
-    ensures { (result ≡ took_of column at missing (turn_of s.now column (field_at s.now at end)))
-        × (row.new ≡ row_of s.now column row.old (turn_of s.now column (field_at s.now at end))) }
+) -> Result<Progress, BadField>
+    requires { (progress.at ≤ end) × (end ≤ length s.now) × Fits (length row.old) column }
+    ensures { (result ≡ took_of column progress.at progress.missing (turn_of s.now progress.at column (field_at s.now progress.at end)))
+        × (row.new ≡ row_of s.now column row.old (turn_of s.now progress.at column (field_at s.now progress.at end))) }
 {
-    let turn = turn_of(s, at, end, column);
-    let Turn::Taken { start, end: stop } = turn else {
-        let Turn::Passed = turn else {
-            return Took::Stop;
-        };
+    let at = progress.at;
+    let Some(field) = turn_of(s, at, end, column)? else {
         clear_cell(column, row);
-        let presence = column.presence;
-        return passed(at, missing, presence);
+        let missing = column.presence.is_required() || progress.missing;
+        return Ok(Progress { at, missing });
     };
-    put_cell(column, value_of(s, start, stop), row);
-    Took::Next { at: stop, missing }
+    put_cell(column, value_of(s, field.start, field.end), row);
+    Ok(Progress {
+        at: field.end,
+        missing: progress.missing,
+    })
 }

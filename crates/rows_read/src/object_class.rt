@@ -4,10 +4,10 @@ ghost use Rattle.schema.specs.ObjectClasses.{first_object_class};
 ghost use Rattle.schema.specs.Layout.{attribute_width};
 ghost use Rattle.rows_read.specs.ObjectClass.{object_class_cell, settled, is_settled};
 
-use prelude::part::{clear, part_of, row_of};
+use prelude::part::{clear, copy_padded};
 use schema::attribute::{om_syntax, syntax};
 use schema::layout::{OBJECT_CLASS, OBJECT_CLASS_LIMIT, SINGLE_VALUED};
-use schema::object_classes::{ENTRY_COUNT, ENTRY_WIDTH, first_entry, object_classes};
+use schema::object_classes::first_object_class;
 
 // How wide the cell is: a count and the bytes.
 const CELL: usize = OBJECT_CLASS_LIMIT + 1;
@@ -16,13 +16,10 @@ const CELL: usize = OBJECT_CLASS_LIMIT + 1;
 fn first_cell(syntax: u8) -> [u8; CELL]
     ensures { result ≡ object_class_cell (first_object_class syntax) }
 {
+    let first = first_object_class(syntax);
     let mut cell = [0u8; CELL];
-    let table = object_classes();
-    let i = first_entry(&table, syntax);
-    if i < ENTRY_COUNT {
-        let entry = row_of(&table, 0, ENTRY_WIDTH, i);
-        cell.copy_from_slice(part_of(entry, 1, CELL));
-    }
+    cell[0] = first.len() as u8;
+    copy_padded(&mut cell[1..], first);
     cell
 }
 

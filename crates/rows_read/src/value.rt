@@ -20,16 +20,11 @@ pub fn first_byte(v: &[u8]) -> u8
 fn is_open_list(b: u8) -> bool
     ensures { result ≡ (eqb b 21 || (eqb b 23 || eqb b 25)) }
 {
-    if b == 0x15 {
-        return true;
-    }
-    if b == 0x17 {
-        return true;
-    }
-    b == 0x19
+    matches!(b, 0x15 | 0x17 | 0x19)
 }
 
 // Whether bytes pass what is asked of them.
+#[tactic(auto, unfolding(rows_format::specs::Encodings::passes))]
 pub fn passes(test: Test, v: &[u8]) -> bool
     ensures { result ≡ passes test v.now }
 {
@@ -42,27 +37,17 @@ pub fn passes(test: Test, v: &[u8]) -> bool
 }
 
 // Whether a field of the encoding may have the value v.
+#[tactic(auto, unfolding(rows_format::specs::Encodings::accepts))]
 pub fn accepts(encoding: Encoding, v: &[u8]) -> bool
     ensures { result ≡ accepts encoding v.now }
 {
     let n = v.len();
     match encoding {
-        Encoding::Plain { len, test } => { if n == len { passes(test, v) } else { false } }
-        Encoding::Number { table } => {
-            if n == 2 {
-                is_number(table, read_u16(v, 0) as usize)
-            } else {
-                false
-            }
-        }
-        Encoding::Counted { least, most } => { if n < least { false } else { n <= most } }
-        Encoding::Arcs { most } => { if n % 4 == 0 { n / 4 <= most } else { false } }
-        Encoding::Entries { table } => {
-            if n == 0 {
-                return false;
-            }
-            if n % 2 == 0 { rises(v, table) } else { false }
-        }
+        Encoding::Plain { len, test } => n == len && passes(test, v),
+        Encoding::Number { table } => n == 2 && is_number(table, read_u16(v, 0) as usize),
+        Encoding::Counted { least, most } => least <= n && n <= most,
+        Encoding::Arcs { most } => n % 4 == 0 && n / 4 <= most,
+        Encoding::Entries { table } => n != 0 && n % 2 == 0 && rises(v, table),
     }
 }
 
@@ -81,20 +66,10 @@ pub fn store_value(encoding: Encoding, v: &[u8], cell: &mut [u8])
     ensures { cell.new ≡ image encoding v.now }
 {
     match encoding {
-        Encoding::Plain { len: _, test: _ } => {
-            cell.copy_from_slice(v);
-        }
-        Encoding::Number { table: _ } => {
-            cell[0] = read_u16(v, 0) as u8;
-        }
-        Encoding::Counted { least: _, most: _ } => {
-            store_counted(v.len() as u8, v, cell);
-        }
-        Encoding::Arcs { most: _ } => {
-            store_counted((v.len() / 4) as u8, v, cell);
-        }
-        Encoding::Entries { table: _ } => {
-            store_entries(v, cell);
-        }
+        Encoding::Plain { .. } => cell.copy_from_slice(v),
+        Encoding::Number { .. } => cell[0] = read_u16(v, 0) as u8,
+        Encoding::Counted { .. } => store_counted(v.len() as u8, v, cell),
+        Encoding::Arcs { .. } => store_counted((v.len() / 4) as u8, v, cell),
+        Encoding::Entries { .. } => store_entries(v, cell),
     }
 }

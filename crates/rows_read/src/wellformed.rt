@@ -3,15 +3,15 @@ ghost use Rattle.std.specs.Prelude.{true, ◌≡◌, ◌≤◌, length, drop};
 ghost use Rattle.prelude.specs.Part.{is_zero};
 ghost use Rattle.schema.specs.Layout.{row_width};
 ghost use Rattle.rows_format.specs.Encodings.{room, holds, sound};
-ghost use Rattle.rows_format.specs.Columns.{column_width, has_value, well_formed_cell, well_formed_by, Sound};
+ghost use Rattle.rows_format.specs.Columns.{cell_at, has_value, well_formed_cell, well_formed_by, Fits};
 ghost use Rattle.rows_format.specs.Formats.{columns_of, format_width};
 ghost use Rattle.rows_read.specs.WellFormed.{is_finished, well_formed};
 
 use crate::object_class::is_settled;
 use crate::value::{first_byte, passes};
-use prelude::part::{is_zero, part_of};
-use rows_format::column::{Column, Encoding, Presence, column_width, mark_of};
-use rows_format::format::{Format, column_count, column_of};
+use prelude::part::is_zero;
+use rows_format::column::{Column, Encoding, Presence};
+use rows_format::format::{Format, columns};
 use schema::number::{TableId, is_number};
 use sets::is_empty;
 
@@ -24,37 +24,28 @@ fn is_zero_from(cell: &[u8], at: usize) -> bool
 }
 
 // Whether a cell can hold a value of the encoding.
+#[tactic(auto, unfolding(rows_format::specs::Encodings::holds, rows_format::specs::Encodings::room))]
 fn holds(encoding: Encoding, cell: &[u8]) -> bool
     requires { (sound encoding ≡ true) × (length cell.now ≡ room encoding) }
     ensures { result ≡ holds encoding cell.now }
 {
     match encoding {
-        Encoding::Plain { len: _, test } => passes(test, cell),
+        Encoding::Plain { test, .. } => passes(test, cell),
         Encoding::Number { table } => is_number(table, first_byte(cell) as usize),
         Encoding::Counted { least, most } => {
             let n = first_byte(cell) as usize;
-            if n < least {
-                return false;
-            }
-            if n <= most {
-                is_zero_from(cell, n + 1)
-            } else {
-                false
-            }
+            least <= n && n <= most && is_zero_from(cell, n + 1)
         }
         Encoding::Arcs { most } => {
             let n = first_byte(cell) as usize;
-            if n <= most {
-                is_zero_from(cell, n * 4 + 1)
-            } else {
-                false
-            }
+            n <= most && is_zero_from(cell, n * 4 + 1)
         }
-        Encoding::Entries { table: _ } => !is_empty(cell),
+        Encoding::Entries { .. } => !is_empty(cell),
     }
 }
 
 // Whether a cell has a value.
+#[tactic(auto, unfolding(rows_format::specs::Columns::has_value))]
 pub fn has_value(presence: Presence, cell: &[u8]) -> bool
     ensures { result ≡ has_value presence cell.now }
 {
@@ -67,15 +58,14 @@ pub fn has_value(presence: Presence, cell: &[u8]) -> bool
 }
 
 // Whether the cell of a column is one that the reader could have stored.
-fn cell_formed(column: Column, cell: &[u8]) -> bool
-    requires { Sound column × (length cell.now ≡ column_width column) }
-    ensures { result ≡ well_formed_cell column cell.now }
+#[tactic(auto, using(rows_format::proofs::ColumnsLaws::cell_at_length), unfolding(rows_format::specs::Columns::well_formed_cell, rows_format::specs::Columns::column_width))]
+fn cell_formed(column: Column, row: &[u8]) -> bool
+    requires { Fits (length row.now) column }
+    ensures { result ≡ well_formed_cell column (cell_at column row.now) }
 {
-    let presence = column.presence;
-    let encoding = column.encoding;
-    if has_value(presence, cell) {
-        let at = mark_of(presence);
-        holds(encoding, &cell[at..])
+    let cell = column.cell(row);
+    if has_value(column.presence, cell) {
+        holds(column.encoding, &cell[column.presence.mark()..])
     } else {
         is_zero(cell)
     }
@@ -86,13 +76,8 @@ fn cells_formed(format: Format, row: &[u8]) -> bool
     requires { format_width format ≤ length row.now }
     ensures { result ≡ well_formed_by (columns_of format) row.now }
 {
-    let count = column_count(format);
-    let mut i = 0;
-    while i < count {
-        let column = column_of(format, i);
-        if cell_formed(column, part_of(row, column.at, column_width(column))) {
-            i += 1;
-        } else {
+    for column in columns(format) {
+        if !cell_formed(*column, row) {
             return false;
         }
     }
@@ -100,6 +85,7 @@ fn cells_formed(format: Format, row: &[u8]) -> bool
 }
 
 // Whether oMObjectClass is as the other fields of the row ask.
+#[tactic(auto, unfolding(crate::specs::WellFormed::is_finished))]
 fn is_finished(table: TableId, row: &[u8]) -> bool
     requires { row_width table ≤ length row.now }
     ensures { result ≡ is_finished table row.now }
@@ -111,13 +97,10 @@ fn is_finished(table: TableId, row: &[u8]) -> bool
 }
 
 // Whether the reader could have stored a row of a table.
+#[tactic(auto, unfolding(crate::specs::WellFormed::well_formed, rows_format::specs::Formats::format_width))]
 pub fn well_formed(table: TableId, row: &[u8]) -> bool
     requires { row_width table ≤ length row.now }
     ensures { result ≡ well_formed table row.now }
 {
-    if cells_formed(Format::Row(table), row) {
-        is_finished(table, row)
-    } else {
-        false
-    }
+    cells_formed(Format::Row(table), row) && is_finished(table, row)
 }

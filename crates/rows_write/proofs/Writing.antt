@@ -23,9 +23,11 @@ use Rattle.rows_format.specs.Entries.{entry_bytes}
 use Rattle.rows_format.specs.EntriesLaws.{entry_length, members_count}
 use Rattle.rows_format.specs.Encodings.{stored, room, holds, sound}
 use Rattle.rows_format.specs.EncodingsLaws.{room_small, Holds, says_holds, stored_short}
+use Rattle.rows_format.specs.declared.format.Format.{Format}
+use Rattle.rows_format.specs.Formats.{columns_of}
 use Rattle.rows_format.specs.Columns.{mark, column_width, cell_at, has_value, value_of, well_formed_cell, well_formed_by, field_of, Sound, Fits}
-use Rattle.rows_format.proofs.ColumnsLaws.{formed_at, field_none, field_some, width_small}
-use Rattle.rows_read.proofs.Checking.{rest_of, cell_cut}
+use Rattle.rows_format.proofs.ColumnsLaws.{cell_at_length, formed_at, field_none, field_some, width_small}
+use Rattle.rows_read.proofs.Checking.{rest_of}
 
 -- ---- a cell that holds a value of a encoding
 
@@ -111,18 +113,15 @@ rest_holding r cell {m = m} s l f e t q =
 pub field_short : (r : Column) (row : List ℕ) → Fits (length row) r → length (field_of r row) ≤ 65538
 field_short r row k = omega (arith, field_bound r row, width_small r k.sound)
 
--- the cell of a column, cut by a width that was computed
+-- the cell of a column, as it was found
 pub record CellOf (r : Column) (row cell : List ℕ) : Type 0 where
   pub same : cell ≡ cell_at r row
   pub long : length cell ≡ column_width r
   pub formed : well_formed_cell r cell ≡ true
 
-pub cell_of_lem : (r : Column) (row cell : List ℕ) {w : ℕ} → w ≡ column_width r → cell ≡ part r.at w row → Fits (length row) r
-    → well_formed_cell r (cell_at r row) ≡ true → CellOf r row cell
-cell_of_lem r row cell e q k f =
-    let same : cell ≡ cell_at r row = cell_cut r row cell e q in
-    let long : length (cell_at r row) ≡ column_width r = unfold cell_at in part_length r.at (column_width r) row k.within in
-    record { same = same; long = ap length same ∙ long; formed = ap (well_formed_cell r) same ∙ f }
+pub cell_of_lem : (r : Column) (row cell : List ℕ) → cell ≡ cell_at r row → Fits (length row) r → well_formed_cell r (cell_at r row) ≡ true
+    → CellOf r row cell
+cell_of_lem r row cell e k f = record { same = e; long = ap length e ∙ cell_at_length r row k; formed = ap (well_formed_cell r) e ∙ f }
 
 pub mark_within : (r : Column) (row cell : List ℕ) {m : ℕ} → CellOf r row cell → m ≡ mark r.presence → m ≤ length cell
 unfolding column_width
@@ -142,7 +141,7 @@ field_has r row cell s c e t q =
 pub field_hasnt : (r : Column) (row cell : List ℕ) {h : Bool} → CellOf r row cell → h ≡ has_value r.presence cell → h ≡ false → field_of r row ≡ []
 field_hasnt r row cell c e t = field_none r row (ap (has_value r.presence) (sym c.same) ∙ sym e ∙ t)
 
--- column i of a table, in a well-formed row
-pub formed_column : (table : List Column) (none : Column) (row : List ℕ) (i : ℕ) {r : Column} → r ≡ get_or table i none → well_formed_by table row ≡ true
-    → i < length table → well_formed_cell r (cell_at r row) ≡ true
-formed_column table none row i e f l = rw e (formed_at table none row i f l)
+-- the column that a loop over a format's table has come to, in a well-formed row
+pub formed_item : (format : Format) (items : List Column) (i : ℕ) (none : Column) (row : List ℕ) → items ≡ columns_of format → i < length items
+    → well_formed_by (columns_of format) row ≡ true → well_formed_cell (get_or items i none) (cell_at (get_or items i none) row) ≡ true
+formed_item format items i none row e l f = formed_at items none row i (rw e f) l

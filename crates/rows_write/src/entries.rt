@@ -13,11 +13,11 @@ fn write_entry(cell: &[u8], n: usize, out: &mut [u8], at: usize) -> usize
     ensures { (result ≡ at + length (entry_bytes (cond (member cell.now n) (n ∷ []) [])))
         × (out.new ≡ splice at (entry_bytes (cond (member cell.now n) (n ∷ []) [])) out.old) }
 {
-    if has(cell, n) {
-        write_u16(out, at, n as u16);
-        return at + 2;
+    if !has(cell, n) {
+        return at;
     }
-    at
+    write_u16(out, at, n as u16);
+    at + 2
 }
 
 // Writes the members of a set at a place.
@@ -27,9 +27,7 @@ pub fn write_entries(cell: &[u8], out: &mut [u8], at: usize)
 {
     let end = cell.len() * 8;
     let mut to = at;
-    let mut n = 0;
-    while n < end {
+    for n in 0..end {
         to = write_entry(cell, n, out, to);
-        n += 1;
     }
 }

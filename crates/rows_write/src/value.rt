@@ -16,11 +16,11 @@ pub fn value_length(encoding: Encoding, cell: &[u8]) -> usize
     ensures { result ≡ length (stored encoding cell.now) }
 {
     match encoding {
-        Encoding::Plain { len: _, test: _ } => cell.len(),
-        Encoding::Number { table: _ } => 2,
-        Encoding::Counted { least: _, most: _ } => first_byte(cell) as usize,
-        Encoding::Arcs { most: _ } => (first_byte(cell) as usize) * 4,
-        Encoding::Entries { table: _ } => count(cell) * 2,
+        Encoding::Plain { .. } => cell.len(),
+        Encoding::Number { .. } => 2,
+        Encoding::Counted { .. } => first_byte(cell) as usize,
+        Encoding::Arcs { .. } => (first_byte(cell) as usize) * 4,
+        Encoding::Entries { .. } => count(cell) * 2,
     }
 }
 
@@ -31,18 +31,18 @@ pub fn write_value(encoding: Encoding, cell: &[u8], out: &mut [u8], at: usize)
     ensures { out.new ≡ splice at (stored encoding cell.now) out.old }
 {
     match encoding {
-        Encoding::Plain { len: _, test: _ } => {
+        Encoding::Plain { .. } => {
             put_bytes(cell, out, at);
         }
-        Encoding::Number { table: _ } => write_u16(out, at, first_byte(cell) as u16),
-        Encoding::Counted { least: _, most: _ } => {
+        Encoding::Number { .. } => write_u16(out, at, first_byte(cell) as u16),
+        Encoding::Counted { .. } => {
             let n = first_byte(cell) as usize;
             put_bytes(part_of(cell, 1, n), out, at);
         }
-        Encoding::Arcs { most: _ } => {
+        Encoding::Arcs { .. } => {
             let n = (first_byte(cell) as usize) * 4;
             put_bytes(part_of(cell, 1, n), out, at);
         }
-        Encoding::Entries { table: _ } => write_entries(cell, out, at),
+        Encoding::Entries { .. } => write_entries(cell, out, at),
     }
 }

@@ -7,9 +7,8 @@ ghost use Rattle.rows_format.specs.Columns.{cell_at, well_formed_cell, well_form
 ghost use Rattle.rows_format.specs.Formats.{columns_of, format_width};
 
 use crate::value::{value_length, write_value};
-use prelude::part::part_of;
-use rows_format::column::{Column, Encoding, column_width, mark_of};
-use rows_format::format::{Format, column_count, column_of};
+use rows_format::column::{Column, Encoding};
+use rows_format::format::{Format, columns};
 use rows_read::wellformed::has_value;
 use wire::{HEADER, write_header};
 
@@ -32,14 +31,11 @@ fn field_length(column: Column, row: &[u8]) -> usize
     requires { Fits (length row.now) column × (well_formed_cell column (cell_at column row.now) ≡ true) }
     ensures { result ≡ length (field_of column row.now) }
 {
-    let presence = column.presence;
-    let encoding = column.encoding;
-    let cell = part_of(row, column.at, column_width(column));
-    if has_value(presence, cell) {
-        let m = mark_of(presence);
-        return HEADER + value_length(encoding, &cell[m..]);
+    let cell = column.cell(row);
+    if !has_value(column.presence, cell) {
+        return 0;
     }
-    0
+    HEADER + value_length(column.encoding, &cell[column.presence.mark()..])
 }
 
 // Writes the field of a column, if the row has it, and gives the place after it.
@@ -49,14 +45,17 @@ fn write_field(column: Column, row: &[u8], out: &mut [u8], at: usize) -> usize
     ensures { (result ≡ at + length (field_of column row.now))
         × (out.new ≡ splice at (field_of column row.now) out.old) }
 {
-    let presence = column.presence;
-    let encoding = column.encoding;
-    let cell = part_of(row, column.at, column_width(column));
-    if has_value(presence, cell) {
-        let m = mark_of(presence);
-        return put_field(column.tag, encoding, &cell[m..], out, at);
+    let cell = column.cell(row);
+    if !has_value(column.presence, cell) {
+        return at;
     }
-    at
+    put_field(
+        column.tag,
+        column.encoding,
+        &cell[column.presence.mark()..],
+        out,
+        at,
+    )
 }
 
 // How long the value of a row is, written.
@@ -64,12 +63,10 @@ pub fn row_length(format: Format, row: &[u8]) -> usize
     requires { (format_width format ≤ length row.now) × (well_formed_by (columns_of format) row.now ≡ true) }
     ensures { result ≡ length (write_by (columns_of format) row.now) }
 {
-    let count = column_count(format);
     let mut n = 0;
-    let mut i = 0;
-    while i < count {
-        n += field_length(column_of(format, i), row);
-        i += 1;
+    // No `sum`: what bounds it is a law of each column's field, not of the list.
+    for column in columns(format) {
+        n += field_length(*column, row);
     }
     n
 }
@@ -81,12 +78,9 @@ pub fn write_row(format: Format, row: &[u8], out: &mut [u8], at: usize) -> usize
     ensures { (result ≡ at + length (write_by (columns_of format) row.now))
         × (out.new ≡ splice at (write_by (columns_of format) row.now) out.old) }
 {
-    let count = column_count(format);
     let mut next = at;
-    let mut i = 0;
-    while i < count {
-        next = write_field(column_of(format, i), row, out, next);
-        i += 1;
+    for column in columns(format) {
+        next = write_field(*column, row, out, next);
     }
     next
 }

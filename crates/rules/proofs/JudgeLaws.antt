@@ -1,18 +1,29 @@
 -- What the judge's answer is: its number is the first rule that some row breaks; 0 exactly where no row breaks any; the place is the lowest row.
-use Rattle.std.specs.Prelude.{Bool, true, false, ◌||◌, List, [], ◌∷◌, ◌↔◌, ◌⊎◌, ◌≡◌, refl, ℕ, ◌+◌, ◌≤◌, ◌<◌, length, get_or, drop}
-use Rattle.std.proofs.Common.{inl, inr, sym, ap, ap₂, subst, ◌∙◌, arith}
-use Rattle.prelude.specs.SaysLaws.{says_true, says_false, says_lt, neither}
-use Rattle.prelude.specs.BelowLaws.{first_some, any_none, any_false, first_any}
+use Rattle.std.specs.Prelude.{Bool, true, false, ◌||◌, List, [], ◌∷◌, ◌↔◌, ◌⊎◌, ◌≡◌, refl, ℕ, ◌+◌, ◌≤◌, ◌<◌, length, get_or}
+use Rattle.std.specs.Prelude.{drop, map, Option, None, Some, Result, Ok, Err, is_err}
+use Rattle.std.proofs.Common.{inl, inr, ⊎_elim, sym, ap, ap₂, subst, ◌∙◌, arith}
+use Rattle.std.proofs.lemmas.Bool.{false≢true}
+use Rattle.std.proofs.lemmas.List.{get_or-map, length-map}
+use Rattle.prelude.specs.SaysLaws.{says_true, says_false, says_lt, neither, true_or_false}
+use Rattle.prelude.specs.BelowLaws.{first_some, first_absent, any_none, any_false, first_any}
 use Rattle.prelude.specs.First.{◌when◌, first_of, NoneHolds}
 use Rattle.prelude.specs.FirstLaws.{first_hit, first_miss, first_none, zero_iff_none}
 use Rattle.schema.specs.declared.answer.Answer.{Answer}
 use Rattle.schema.specs.declared.number.TableId.{TableId}
 use Rattle.schema.specs.declared.number.TableId.TheVariants.{Attributes, Classes}
 use Rattle.schema.specs.Answers.{broken_by, passed, table_number}
+use Rattle.schema.specs.declared.number.RowId.{RowId}
+use Rattle.schema.specs.declared.refusal.Refusal.{Refusal}
+use Rattle.schema.specs.declared.refusal.Refusal.TheVariants.{ShortStore}
+use Rattle.schema.specs.Numbers.{number_of, table_of}
+use Rattle.schema.specs.Refused.{refusal_number}
+use Rattle.schema.specs.RefusedLaws.{number_some}
 use Rattle.schema.specs.Store.{Schema, table}
+use Rattle.rules.specs.declared.judge.Broken.{Broken}
 use Rattle.rules.specs.declared.row.Added.{Added}
 use Rattle.rules.specs.Rules.{Rule, schema_rules, no_rule, numbered, rules_of, Each}
 use Rattle.rules.specs.RulesLaws.{rules_next, rules_end, numbered_number, nonzero}
+use Rattle.rules.specs.Found.{row_found, row_answer, judge_answer}
 use Rattle.rules.specs.Judge.{breaks_in, first_row, judge_table, judge_rule, judge_rules, judged, broken, broken_cases, Kept, AllKept, Lowest, FirstBroken}
 
 -- ---- one rule, by case
@@ -182,6 +193,73 @@ module _ (rs : List Rule) (ns : List ℕ) (m : Schema) (i : ℕ) where
 
   pub judge_over : length ns ≤ i → judge_rules (rules_of rs (drop i ns)) m ≡ passed
   judge_over l = ap (λ (x : List Rule). judge_rules x m) (rules_end rs ns i l) ∙ judge_none m
+
+-- ---- one refusal after the other, as the code goes
+
+-- the lowest row of a table, as the code finds it
+module _ (r : Rule) (m : Schema) (t : TableId) {o : Option ℕ} (found : o ≡ row_found r m t) where
+  pub found_row : (k : ℕ) → o ≡ Some k → (k ≡ first_row r m t) × (k < (table t m).count)
+  found_row k e = ⊎_elim some none (true_or_false (breaks_in r m t))
+    where
+      some : breaks_in r m t ≡ true → (k ≡ first_row r m t) × (k < (table t m).count)
+      some b =
+          let same : Some k ≡ Some (first_row r m t) = sym e ∙ found ∙ rw b refl in
+          let is : k ≡ first_row r m t = cc same in
+          (is, omega (arith, (first_some (r.breaks m t) (table t m).count b).0))
+
+      none : breaks_in r m t ≡ false → (k ≡ first_row r m t) × (k < (table t m).count)
+      none b = let same : Some k ≡ None = sym e ∙ found ∙ rw b refl in absurd (cc same)
+
+  pub found_no_row : o ≡ None → (table t m).count ≤ first_row r m t
+  found_no_row e = ⊎_elim some none (true_or_false (breaks_in r m t))
+    where
+      some : breaks_in r m t ≡ true → (table t m).count ≤ first_row r m t
+      some b = let same : None ≡ Some (first_row r m t) = sym e ∙ found ∙ rw b refl in absurd (cc same)
+
+      none : breaks_in r m t ≡ false → (table t m).count ≤ first_row r m t
+      none b = omega (arith, first_absent (r.breaks m t) (table t m).count b)
+
+-- rule i of an order
+module _ (rs : List Rule) (order : List Refusal) (m : Schema) (i : ℕ) (there : i < length order) where
+  abbrev kind : Refusal
+  kind = get_or order i ShortStore
+
+  number_there : i < length (map refusal_number order)
+  number_there = omega (arith, length-map order refusal_number)
+
+  its_number : get_or (map refusal_number order) i 0 ≡ refusal_number kind
+  its_number = get_or-map refusal_number order i ShortStore 0 there
+
+  its_answer : (o : Option RowId) → row_answer (refusal_number kind) o ≡ judge_rule (numbered rs (refusal_number kind)) m passed
+      → row_answer (refusal_number kind) o ≡ judge_rule (numbered rs (get_or (map refusal_number order) i 0)) m passed
+  its_answer o a = a ∙ ap (λ n. judge_rule (numbered rs n) m passed) (sym its_number)
+
+  pub broken_found : {o : Option RowId} (id : RowId) → row_answer (refusal_number kind) o ≡ judge_rule (numbered rs (refusal_number kind)) m passed
+      → o ≡ Some id → broken_by (refusal_number kind) (table_of id) (number_of id) ≡ judge_rules (rules_of rs (drop i (map refusal_number order))) m
+  broken_found {o} id a e =
+      let b : broken_by (refusal_number kind) (table_of id) (number_of id) ≡ judge_rule (numbered rs (get_or (map refusal_number order) i 0)) m passed =
+      sym (ap (row_answer (refusal_number kind)) e) ∙ its_answer o a in
+      b ∙ sym (judge_found rs (map refusal_number order) m i number_there (λ z. no_table (table_of id) (ap (λ (x : Answer). x.table) b ∙ z)))
+    where
+      no_table : (t : TableId) → ¬ (table_number t ≡ 0)
+      no_table Attributes e = omega arith
+      no_table Classes e = omega arith
+
+  pub broken_next : {o : Option RowId} → row_answer (refusal_number kind) o ≡ judge_rule (numbered rs (refusal_number kind)) m passed → o ≡ None
+      → judge_rules (rules_of rs (drop i (map refusal_number order))) m ≡ judge_rules (rules_of rs (drop (i + 1) (map refusal_number order))) m
+  broken_next {o} a e =
+      judge_next rs (map refusal_number order) m i number_there
+      (ap (λ (x : Answer). x.table) (sym (its_answer o a) ∙ ap (row_answer (refusal_number kind)) e))
+
+-- ---- what the judge found, by whether it found a row
+
+pub found_number : {A : Type 0} (r : Result A Broken) → is_err r ≡ true → ¬ ((judge_answer r).number ≡ 0)
+found_number (Ok x) e z = absurd (false≢true e)
+found_number (Err b) e z = number_some b.rule z
+
+pub sound_number : {A : Type 0} (r : Result A Broken) → is_err r ≡ false → (judge_answer r).number ≡ 0
+sound_number (Ok x) e = refl
+sound_number (Err b) e = absurd (false≢true (sym e))
 
 -- ---- rules 12 to 29
 

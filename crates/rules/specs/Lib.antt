@@ -2,6 +2,7 @@
 pub mod Rules
 pub mod RulesLaws
 pub mod Judge
+pub mod Found
 pub mod Clear
 pub mod Meets
 pub mod RowChange

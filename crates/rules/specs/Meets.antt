@@ -3,7 +3,6 @@ use Rattle.std.specs.Prelude.{List, ◌⊎◌, ◌≡◌, ℕ, ◌<◌, ◌%◌}
 use Rattle.prelude.specs.Below.{Some}
 use Rattle.schema.specs.declared.number.TableId.{TableId}
 use Rattle.schema.specs.declared.number.TableId.TheVariants.{Attributes, Classes}
-use Rattle.schema.specs.declared.class.Naming.TheVariants.{By}
 use Rattle.schema.specs.Numbers.{class_limit, limit, SameRow}
 use Rattle.schema.specs.Row.{name_of, identifier_of, guid_of}
 use Rattle.schema.specs.AttributeRow.{syntax_of, om_syntax_of, object_class_of, range_lower, range_upper, link_of, mapi_of}
@@ -26,6 +25,7 @@ use Rattle.rules_class.specs.declared.category.Inheritance.TheVariants.{Structur
 use Rattle.rules.specs.declared.row.Added.{Added}
 use Rattle.rules.specs.declared.row.Added.TheVariants.{Nothing, Class, Entry}
 use Rattle.schema.specs.Refusals as refusal
+use Rattle.std.specs.declared.option.Option.TheVariants as option
 
 -- no two rows agree in something
 abbrev pub Apart : Schema → (List ℕ → List ℕ → Type 0) → Type 0
@@ -119,7 +119,7 @@ Met added abstract_under_other m = Legal AbstractUnderOther m
 Met added auxiliary_under_structural m = Legal AuxiliaryUnderStructural m
 Met added structural_under_auxiliary m = Legal StructuralUnderAuxiliary m
 -- 23 a naming attribute that is there can name
-Met added naming_unfit m = (k : ℕ) → k < m.classes.count → (n : ℕ) → naming_of (m.classes.row k) ≡ By (record { 0 = n }) → n < m.attributes.count
+Met added naming_unfit m = (k : ℕ) → k < m.classes.count → (n : ℕ) → naming_of (m.classes.row k) ≡ option.Some (record { 0 = n }) → n < m.attributes.count
     → CanName (m.attributes.row n)
 -- 24 no two attributes have one mAPIID
 Met added mapi_taken m = NumbersApart m mapi_of

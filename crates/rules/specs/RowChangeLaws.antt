@@ -30,7 +30,7 @@ use Rattle.rules_attribute.specs.Syntax.{syntax_wrong, object_class_wrong}
 use Rattle.rules_attribute.specs.Links.{is_back_link, is_forward_of, forward_missing, link_syntax_wrong}
 use Rattle.rules_attribute.proofs.LinksLaws.{forward_stays, no_back_link}
 use Rattle.rules_class.specs.Live.{not_live, class_wrong, naming_wrong, lists_itself, superclass_late}
-use Rattle.rules_class.specs.Category.{category_wrong, inheritance_number, inheritance_wrong}
+use Rattle.rules_class.specs.Category.{category_wrong, answer_number, inheritance_wrong}
 use Rattle.rules_class.proofs.StayLaws.{named_there, not_live_stays, naming_stays, category_stays, inheritance_stays}
 use Rattle.rules.specs.declared.row.Added.{Added}
 use Rattle.rules.specs.declared.row.Added.TheVariants.{Nothing, Class, Entry}
@@ -174,7 +174,7 @@ module _ (k : ℕ) (m n : Schema) where
     inheritance_kept number e Attributes h q j l d = absurd (apart q)
     inheritance_kept number e Classes h q j l d =
         let before = h.changed.own.old j l d in
-        ap (λ x. eqb (inheritance_number x) number)
+        ap (λ x. eqb (answer_number x) number)
         (inheritance_stays h.changed.own j before d (class_was j before) h.fixed)
         ∙ e j before
 

@@ -7,9 +7,8 @@ use Rattle.std.specs.Int.Signed.{lt_z, lt_z_yes}
 use Rattle.prelude.specs.Says.{Says}
 use Rattle.prelude.specs.SaysLaws.{says_lt, says_same, says_iff, says_true, says_false}
 use Rattle.schema.specs.AttributeRow.{range_lower, range_upper}
-use Rattle.schema.specs.declared.attribute.Bound.{Bound}
-use Rattle.schema.specs.declared.attribute.Bound.TheVariants.{Given, Absent}
 use Rattle.rules_attribute.specs.Range.{signed, biased, ends_crossed, range_wrong, EndsCrossed}
+use Rattle.std.specs.Prelude.{Option, Some, None}
 
 -- ---- with integers
 
@@ -20,21 +19,21 @@ says_less a b = go (lt_z a b) refl
     go true e = record { holds = λ q. lt_z_yes (rw e tt); passes = λ h. refl }
     go false e = record { holds = λ q. absurd (false≢true q); passes = λ h. absurd (subst T e h.lt) }
 
-pub says_crossed : (l u : Bound) → Says (ends_crossed l u) (EndsCrossed l u)
+pub says_crossed : (l u : Option ℕ) → Says (ends_crossed l u) (EndsCrossed l u)
 unfolding ends_crossed
-says_crossed (Given l) (Given u) =
+says_crossed (Some l) (Some u) =
     says_iff (says_less (signed u) (signed l))
     (λ h. record { lower = l; upper = u; lower_given = refl; upper_given = refl; crossed = h }, λ h. same h.lower_given h.upper_given h.crossed)
   where
-    same : {m n : ℕ} → Given l ≡ Given m → Given u ≡ Given n → signed n <ℤ signed m → signed u <ℤ signed l
+    same : {m n : ℕ} → Some l ≡ Some m → Some u ≡ Some n → signed n <ℤ signed m → signed u <ℤ signed l
     same {m} {n} p q h = let e : l ≡ m = cc in let f : u ≡ n = cc in rw (e, f) h
-says_crossed (Given l) Absent = record { holds = λ q. absurd (false≢true q); passes = λ h. absurd (never h.upper_given) }
+says_crossed (Some l) None = record { holds = λ q. absurd (false≢true q); passes = λ h. absurd (never h.upper_given) }
   where
-    never : {n : ℕ} → Absent ≡ Given n → ⊥
+    never : {n : ℕ} → None ≡ Some n → ⊥
     never q = let z : ◌≡◌ {A = ℕ} 0 1 = cc in omega arith
-says_crossed Absent u = record { holds = λ q. absurd (false≢true q); passes = λ h. absurd (never h.lower_given) }
+says_crossed None u = record { holds = λ q. absurd (false≢true q); passes = λ h. absurd (never h.lower_given) }
   where
-    never : {n : ℕ} → Absent ≡ Given n → ⊥
+    never : {n : ℕ} → None ≡ Some n → ⊥
     never q = let z : ◌≡◌ {A = ℕ} 0 1 = cc in omega arith
 
 -- rule 25

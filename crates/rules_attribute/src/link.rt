@@ -13,19 +13,13 @@ use schema::store::{attribute_row, row_count};
 use tables::live::is_live;
 
 // Whether a row holds the number one less than a back link's.
+#[tactic(auto, unfolding(crate::specs::Links::is_forward_of))]
 pub fn is_forward_of(back: &[u8], row: &[u8]) -> bool
     requires { (attribute_width ≤ length back.now) × (attribute_width ≤ length row.now) }
     ensures { result ≡ is_forward_of back.now row.now }
 {
     let n = link(row);
-    if n == 0 {
-        return false;
-    }
-    let b = link(back);
-    if b == 0 {
-        return false;
-    }
-    n == b - 1
+    n != 0 && link(back).checked_sub(1) == Some(n)
 }
 
 // Whether attribute j is the forward link of a back link, and live for it.
@@ -33,10 +27,8 @@ fn is_live_forward(attributes: &[u8], back: &[u8], j: AttributeNumber) -> bool
     requires { TableShaped Attributes attributes.now × (attribute_width ≤ length back.now) × (j.0 < (table_in Attributes attributes.now).count) }
     ensures { result ≡ is_live_forward (table_in Attributes attributes.now) back.now j.0 }
 {
-    if !is_forward_of(back, attribute_row(attributes, j)) {
-        return false;
-    }
-    is_live(attributes, back, RowId::Attribute(j))
+    is_forward_of(back, attribute_row(attributes, j))
+        && is_live(attributes, back, RowId::Attribute(j))
 }
 
 // Whether some attribute is the forward link of a back link, and live for it.
@@ -45,50 +37,33 @@ fn has_forward(attributes: &[u8], back: &[u8]) -> bool
     ensures { result ≡ has_forward (table_in Attributes attributes.now) back.now }
 {
     let n = row_count(TableId::Attributes, attributes);
-    let mut j = 0;
-    while j < n {
-        if is_live_forward(attributes, back, attribute_at(j)) {
-            return true;
-        }
-        j += 1;
-    }
-    false
+    (0..n).any(|j| is_live_forward(attributes, back, attribute_at(j)))
 }
 
 // Whether a row breaks rule 29.
+#[tactic(auto, unfolding(crate::specs::Links::forward_missing, crate::specs::Links::is_back_link))]
 pub fn forward_missing(attributes: &[u8], row: &[u8]) -> bool
     requires { TableShaped Attributes attributes.now × (attribute_width ≤ length row.now) }
     ensures { result ≡ forward_missing (table_in Attributes attributes.now) row.now }
 {
-    if link(row) % 2 != 1 {
-        return false;
-    }
-    !has_forward(attributes, row)
+    link(row) % 2 == 1 && !has_forward(attributes, row)
 }
 
 // Whether the syntax of a row is one that its linkID needs.
+#[tactic(auto, unfolding(crate::specs::Links::link_syntax_fits, crate::specs::Links::is_back_link))]
 fn link_syntax_fits(row: &[u8]) -> bool
     requires { attribute_width ≤ length row.now }
     ensures { result ≡ link_syntax_fits row.now }
 {
     let n = link(row);
-    if n == 0 {
-        return true;
-    }
-    let held = syntax(row);
     if n % 2 == 1 {
-        return held == 1;
+        return syntax(row) == 1;
     }
-    if held == 1 {
-        return true;
-    }
-    if held == 7 {
-        return true;
-    }
-    held == 14
+    n == 0 || matches!(syntax(row), 1 | 7 | 14)
 }
 
 // Whether a row breaks rule 45.
+#[tactic(auto, unfolding(crate::specs::Links::link_syntax_wrong))]
 pub fn link_syntax_wrong(row: &[u8]) -> bool
     requires { attribute_width ≤ length row.now }
     ensures { result ≡ link_syntax_wrong row.now }

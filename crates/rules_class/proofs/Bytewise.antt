@@ -1,22 +1,19 @@
--- A test of all numbers byte by byte, and bytes that can be passed over.
+-- Bytes of a row's lists, and those of them that can be passed over.
 use mathlib.Core.Bool.{Bool, true, false, not, ◌&&◌, ◌||◌, true≢false}
 use mathlib.Core.List.{List}
 use mathlib.Core.Path.{◌≡◌, refl, sym, ap, ap₂, ◌∙◌}
-use Prim.Native.Nat.{ℕ, zero, suc, ◌+◌, ◌*◌, ◌/◌, ◌≤◌, ◌<◌}
-use native.Mathlib.Nat.{add-zero, add-suc}
+use Prim.Native.Nat.{ℕ, ◌+◌, ◌*◌, ◌/◌, ◌≤◌, ◌<◌}
 use native.Mathlib.Omega.{arith}
 use lib.Dec.{eqb}
-use lib.ListN.{get_or}
-use Rattle.prelude.specs.Below.{any_below}
-use Rattle.prelude.specs.BelowLaws.{any_false}
+use lib.ListN.{length, get_or}
+use Rattle.prelude.specs.Part.{part}
+use Rattle.prelude.specs.PartLaws.{part_length}
 use Rattle.prelude.specs.SaysLaws.{says_eq, says_false}
 use Rattle.sets.specs.Sets.{member}
 use Rattle.sets.specs.SetsLaws.{digit_bit, no_digit, says_member}
 use Rattle.sets.specs.Sets.{digit}
 use Rattle.schema.specs.ClassRow.{superclass_of, naming_of, mandatory_of, fixed_optional_of, open_optional_of, fixed_auxiliary_of, open_auxiliary_of}
 use Rattle.schema.specs.ClassRow.{fixed_superior_of, open_superior_of}
-use Rattle.schema.specs.declared.class.Naming.{Naming}
-use Rattle.schema.specs.declared.class.Naming.TheVariants.{By, Absent}
 use Rattle.schema.specs.declared.number.TableId.{TableId}
 use Rattle.schema.specs.declared.number.TableId.TheVariants.{Attributes, Classes}
 use Rattle.schema.specs.Numbers.{limit}
@@ -28,44 +25,19 @@ use Rattle.tables.specs.declared.named.ClassList.TheVariants.{Auxiliaries, Super
 use Rattle.rules_class.specs.Blank.{blank, lists_none, named_elsewhere, names_none}
 use Rattle.rules_class.specs.Category.{other_category, wrongly_listed}
 use Rattle.rules_class.specs.Live.{names_dead}
+use Rattle.schema.specs.declared.number.AttributeNumber.{AttributeNumber}
+use Rattle.std.specs.Prelude.{Option, Some, None}
 
--- ---- byte by byte
-
-any_add : (a b : ℕ) (p : ℕ → Bool) → any_below (a + b) p ≡ any_below a p || any_below b (λ i. p (a + i))
-unfolding any_below
-any_add a zero p = ap (λ (n : ℕ). any_below n p) (add-zero a) ∙ last (any_below a p)
-  where
-    last : (x : Bool) → x ≡ x || false
-    last true = refl
-    last false = refl
-any_add a (suc b) p =
-    ap (λ (n : ℕ). any_below n p) (add-suc a b) ∙ ap (λ (x : Bool). x || p (a + b)) (any_add a b p)
-    ∙ assoc (any_below a p) (any_below b (λ i. p (a + i))) (p (a + b))
-  where
-    assoc : (x y z : Bool) → (x || y) || z ≡ x || (y || z)
-    assoc true y z = refl
-    assoc false y z = refl
-
-pub any_bytes : (n : ℕ) (p : ℕ → Bool) → any_below n (λ at. any_below 8 (λ i. p (at * 8 + i))) ≡ any_below (n * 8) p
-unfolding any_below
-any_bytes zero p = refl
-any_bytes (suc n) p =
-    let e : n * 8 + 8 ≡ suc n * 8 = omega arith in
-    ap (λ (x : Bool). x || any_below 8 (λ i. p (n * 8 + i))) (any_bytes n p) ∙ sym (any_add (n * 8) 8 p) ∙ ap (λ (m : ℕ). any_below m p) e
+-- ---- bytes
 
 -- the rows of a table fill whole bytes
 pub whole_bytes : (t : TableId) → limit t / 8 * 8 ≡ limit t
 whole_bytes Attributes = omega arith
 whole_bytes Classes = omega arith
 
-pub limit_small : (t : TableId) → limit t ≤ 256
-limit_small Attributes = omega arith
-limit_small Classes = omega arith
-
--- the numbers of a byte that begins below the limit are below it
-pub in_byte : (t : TableId) (at i : ℕ) → at * 8 < limit t → i < 8 → at * 8 + i < limit t
-in_byte Attributes at i l k = omega arith
-in_byte Classes at i l k = omega arith
+-- a byte of a part of a row
+pub in_part : (from n : ℕ) (row : List ℕ) {s : List ℕ} {at : ℕ} → s ≡ part from n row → from + n ≤ length row → at < n → at < length s
+in_part from n row e h l = omega (arith, ap length e, part_length from n row h)
 
 -- ---- bytes that are zero
 
@@ -98,10 +70,10 @@ module _ (at i : ℕ) (l : i < 8) where
       here : x ≡ at * 8 + i → eqb (x / 8) at ≡ true
       here q = (says_eq (x / 8) at).passes (omega (arith, q, l))
 
-  named_elsewhere_lem : (named : Naming) → named_elsewhere named at ≡ true → named_by named (at * 8 + i) ≡ false
+  named_elsewhere_lem : (named : Option AttributeNumber) → named_elsewhere named at ≡ true → named_by named (at * 8 + i) ≡ false
   unfolding named_elsewhere named_by
-  named_elsewhere_lem (By n) e = elsewhere n.0 e
-  named_elsewhere_lem Absent e = refl
+  named_elsewhere_lem (Some n) e = elsewhere n.0 e
+  named_elsewhere_lem None e = refl
 
   names_none_lem : (t : TableId) (row : List ℕ) → names_none t row at ≡ true → names t row (at * 8 + i) ≡ false
   unfolding names_none names lists
@@ -126,14 +98,12 @@ module _ (at i : ℕ) (l : i < 8) where
       (ap₂ ◌||◌ (blank_none (fixed_auxiliary_of row) (open_auxiliary_of row) (first_true a (b && d) e))
       (blank_none (fixed_superior_of row) (open_superior_of row) (first_true b d (second_true a (b && d) e))))
 
--- such a byte holds nothing that breaks a rule
-pub none_wrong : (kind : ClassList) (t : Table) (row : List ℕ) (at : ℕ) → lists_none kind row at ≡ true
-    → any_below 8 (λ i. wrongly_listed kind t row (at * 8 + i)) ≡ false
+-- no number of such a byte breaks a rule
+pub none_wrong : (kind : ClassList) (t : Table) (row : List ℕ) (at i : ℕ) → i < 8 → lists_none kind row at ≡ true
+    → wrongly_listed kind t row (at * 8 + i) ≡ false
 unfolding wrongly_listed
-none_wrong kind t row at e =
-    any_false (λ i. wrongly_listed kind t row (at * 8 + i)) 8 (λ i l. ap (λ (x : Bool). x && other_category kind t (at * 8 + i)) (lists_none_lem at i l kind row e))
+none_wrong kind t row at i l e = ap (λ (x : Bool). x && other_category kind t (at * 8 + i)) (lists_none_lem at i l kind row e)
 
-pub none_dead : (u : TableId) (t : Table) (row : List ℕ) (at : ℕ) → names_none u row at ≡ true → any_below 8 (λ i. names_dead u t row (at * 8 + i)) ≡ false
+pub none_dead : (u : TableId) (t : Table) (row : List ℕ) (at i : ℕ) → i < 8 → names_none u row at ≡ true → names_dead u t row (at * 8 + i) ≡ false
 unfolding names_dead
-none_dead u t row at e =
-    any_false (λ i. names_dead u t row (at * 8 + i)) 8 (λ i l. ap (λ (x : Bool). x && not (live t row (at * 8 + i))) (names_none_lem at i l u row e))
+none_dead u t row at i l e = ap (λ (x : Bool). x && not (live t row (at * 8 + i))) (names_none_lem at i l u row e)

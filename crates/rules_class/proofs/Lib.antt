@@ -1,5 +1,4 @@
 -- Laws that the proofs of this crate cite.
-pub mod Dead
 pub mod Bytewise
 pub mod CategoryLaws
 pub mod StayLaws

@@ -9,8 +9,6 @@ use Rattle.schema.specs.Row.{is_defunct}
 use Rattle.schema.specs.AttributeRow.{syntax_of, is_single_valued}
 use Rattle.schema.specs.ClassRow.{category_of, superclass_of}
 use Rattle.schema.specs.Store.{Table}
-use Rattle.schema.specs.declared.class.Naming.{Naming}
-use Rattle.schema.specs.declared.class.Naming.TheVariants.{By}
 use Rattle.schema.specs.declared.number.TableId.TheVariants.{Classes}
 use Rattle.schema.specs.declared.number.TableId.{TableId}
 use Rattle.tables.specs.Live.{Live}
@@ -24,6 +22,8 @@ use Rattle.rules_class.specs.Live.{class_wrong, naming_wrong, SuperclassEarly, C
 use Rattle.rules_class.specs.LiveLaws.{says_class_wrong, says_naming_wrong, says_not_live}
 use Rattle.rules_class.specs.Category.{category_wrong, inheritance, inheritance_of, root_inheritance, CategoryWrong}
 use Rattle.rules_class.proofs.CategoryLaws.{says_category_wrong, inheritance_root, inheritance_at}
+use Rattle.schema.specs.declared.number.AttributeNumber.{AttributeNumber}
+use Rattle.std.specs.Prelude.{Option, Some}
 
 -- ---- what a row names, where the table of it was changed
 
@@ -50,7 +50,7 @@ not_live_stays {k} {t} {u} h of row ok e =
 -- rule 23 needs: the changed attribute has its syntax as before, and is single-valued as before; and the named attribute was there (17)
 pub naming_stays : {k : ℕ} {a u : Table} → ChangedAt k a u
     → (k < a.count → (syntax_of (u.row k) ≡ syntax_of (a.row k)) × (is_single_valued (u.row k) ≡ is_single_valued (a.row k)))
-    → (named : Naming) → ((n : ℕ) → named ≡ By (record { 0 = n }) → n < u.count → n < a.count) → naming_wrong a named ≡ false → naming_wrong u named ≡ false
+    → (named : Option AttributeNumber) → ((n : ℕ) → ◌≡◌ {A = Option AttributeNumber} named (Some (record { 0 = n })) → n < u.count → n < a.count) → naming_wrong a named ≡ false → naming_wrong u named ≡ false
 naming_stays {k} {a} {u} h same named there e =
     says_false (says_naming_wrong u named)
     (λ bad. says_fails (says_naming_wrong a named) e

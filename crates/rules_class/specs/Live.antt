@@ -4,14 +4,15 @@ use Rattle.prelude.specs.Below.{any_below, Some}
 use Rattle.schema.specs.AttributeRow.{syntax_of, is_single_valued}
 use Rattle.schema.specs.ClassRow.{superclass_of}
 use Rattle.schema.specs.Store.{Table}
-use Rattle.schema.specs.declared.class.Naming.{Naming}
-use Rattle.schema.specs.declared.class.Naming.TheVariants.{By, Absent}
 use Rattle.schema.specs.declared.number.TableId.{TableId}
 use Rattle.schema.specs.declared.number.TableId.TheVariants.{Classes}
 use Rattle.schema.specs.Numbers.{limit}
 use Rattle.tables.specs.Live.{live, Live}
 use Rattle.tables.specs.declared.named.ClassList.TheVariants.{Auxiliaries, Superiors}
 use Rattle.tables.specs.Named.{names, Names, lists}
+use Rattle.std.specs.declared.option.Option.TheVariants as option
+use Rattle.schema.specs.declared.number.AttributeNumber.{AttributeNumber}
+use Rattle.std.specs.Prelude.{Option}
 
 -- ---- the rules
 
@@ -35,9 +36,9 @@ unfoldable pub lists_itself : Table → ℕ → Bool
 lists_itself c k = lists Auxiliaries (c.row k) k || lists Superiors (c.row k) k
 
 -- "23 The naming attribute isn't 2.5.5.12 and single-valued." One that has no row breaks 17 and not this
-unfoldable pub naming_wrong : Table → Naming → Bool
-naming_wrong a (By n) = ltb n.0 a.count && not (eqb (syntax_of (a.row n.0)) 12 && is_single_valued (a.row n.0))
-naming_wrong a Absent = false
+unfoldable pub naming_wrong : Table → Option AttributeNumber → Bool
+naming_wrong a (option.Some n) = ltb n.0 a.count && not (eqb (syntax_of (a.row n.0)) 12 && is_single_valued (a.row n.0))
+naming_wrong a option.None = false
 
 -- ---- the same as statements
 
@@ -56,8 +57,8 @@ SuperclassEarly k row = ((k ≡ 0) × (superclass_of row ≡ 0)) ⊎ (superclass
 abbrev pub CanName : List ℕ → Type 0
 CanName row = (syntax_of row ≡ 12) × (is_single_valued row ≡ true)
 
-pub record NamingWrong (a : Table) (named : Naming) : Type 0 where
+pub record NamingWrong (a : Table) (named : Option AttributeNumber) : Type 0 where
   pub attribute : ℕ
-  pub by : named ≡ By (record { 0 = attribute })
+  pub by : ◌≡◌ {A = Option AttributeNumber} named (option.Some (record { 0 = attribute }))
   pub there : attribute < a.count
   pub wrong : ¬ (CanName (a.row attribute))

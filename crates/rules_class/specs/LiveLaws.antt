@@ -8,8 +8,6 @@ use Rattle.prelude.specs.BelowLaws.{says_any}
 use Rattle.schema.specs.AttributeRow.{syntax_of, is_single_valued}
 use Rattle.schema.specs.ClassRow.{superclass_of}
 use Rattle.schema.specs.Store.{Table}
-use Rattle.schema.specs.declared.class.Naming.{Naming}
-use Rattle.schema.specs.declared.class.Naming.TheVariants.{By, Absent}
 use Rattle.schema.specs.declared.number.TableId.TheVariants.{Classes}
 use Rattle.schema.specs.declared.number.TableId.{TableId}
 use Rattle.schema.specs.Numbers.{limit}
@@ -19,6 +17,8 @@ use Rattle.tables.specs.Named.{Lists}
 use Rattle.tables.proofs.NamedLaws.{says_lists, says_names}
 use Rattle.rules_class.specs.Live.{superclass_late, class_wrong, lists_itself, naming_wrong, SuperclassEarly, NamingWrong, CanName, NamesDead}
 use Rattle.rules_class.specs.Live.{NotLive, names_dead, not_live}
+use Rattle.schema.specs.declared.number.AttributeNumber.{AttributeNumber}
+use Rattle.std.specs.Prelude.{Option, Some, None}
 
 -- ---- the rules
 
@@ -57,16 +57,16 @@ unfolding lists_itself
 says_lists_itself c k = says_or (says_lists Auxiliaries (c.row k) k) (says_lists Superiors (c.row k) k)
 
 -- rule 23
-pub says_naming_wrong : (a : Table) (named : Naming) → Says (naming_wrong a named) (NamingWrong a named)
+pub says_naming_wrong : (a : Table) (named : Option AttributeNumber) → Says (naming_wrong a named) (NamingWrong a named)
 unfolding naming_wrong
-says_naming_wrong a (By n) =
+says_naming_wrong a (Some n) =
     says_iff (says_and (says_lt n.0 a.count) (says_not (says_and (says_eq (syntax_of (a.row n.0)) 12) (says_test (is_single_valued (a.row n.0))))))
     (λ h. record { attribute = n.0; by = refl; there = h.0; wrong = h.1 }, λ h. back h.attribute h.by (h.there, h.wrong))
   where
-    back : (m : ℕ) → By n ≡ By (record { 0 = m }) → (m < a.count) × ¬ (CanName (a.row m))
+    back : (m : ℕ) → ◌≡◌ {A = Option AttributeNumber} (Some n) (Some (record { 0 = m })) → (m < a.count) × ¬ (CanName (a.row m))
         → (n.0 < a.count) × ¬ (CanName (a.row n.0))
     back m e h = let q : n ≡ record { 0 = m } = cc in rw q h
-says_naming_wrong a Absent = record { holds = λ e. absurd (false≢true e); passes = λ h. never h.attribute h.by }
+says_naming_wrong a None = record { holds = λ e. absurd (false≢true e); passes = λ h. never h.attribute h.by }
   where
-    never : (m : ℕ) → Absent ≡ By (record { 0 = m }) → false ≡ true
+    never : (m : ℕ) → ◌≡◌ {A = Option AttributeNumber} None (Some (record { 0 = m })) → false ≡ true
     never m e = cc

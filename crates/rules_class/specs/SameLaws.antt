@@ -10,8 +10,6 @@ use Rattle.schema.specs.Numbers.{class_limit, limit}
 use Rattle.schema.specs.AttributeRow.{syntax_of, is_single_valued}
 use Rattle.schema.specs.ClassRow.{category_of, superclass_of}
 use Rattle.schema.specs.Store.{Table}
-use Rattle.schema.specs.declared.class.Naming.{Naming}
-use Rattle.schema.specs.declared.class.Naming.TheVariants.{By, Absent}
 use Rattle.schema.specs.declared.number.TableId.TheVariants.{Classes}
 use Rattle.schema.specs.declared.number.TableId.{TableId}
 use Rattle.tables.specs.Same.{Same}
@@ -19,10 +17,11 @@ use Rattle.tables.specs.SameLaws.{row_same, live_same}
 use Rattle.tables.specs.declared.named.ClassList.{ClassList}
 use Rattle.tables.specs.declared.named.ClassList.TheVariants.{Auxiliaries, Superiors}
 use Rattle.tables.specs.Named.{lists, names}
-use Rattle.rules_class.specs.declared.category.Inheritance.TheVariants.{Sound}
 use Rattle.rules_class.specs.Live.{superclass_late, class_wrong, lists_itself, naming_wrong, names_dead, not_live}
-use Rattle.rules_class.specs.Category.{class88, list_category, category_wrong, inheritance, root_inheritance, inheritance_of, inheritance_number}
+use Rattle.rules_class.specs.Category.{class88, list_category, category_wrong, inheritance, root_inheritance, inheritance_of, answer_number}
 use Rattle.rules_class.specs.Category.{inheritance_wrong, other_category, wrongly_listed}
+use Rattle.schema.specs.declared.number.AttributeNumber.{AttributeNumber}
+use Rattle.std.specs.Prelude.{Option, Some, None}
 
 module _ {t u : Table} (s : Same t u) where
   -- ---- of any row
@@ -41,10 +40,10 @@ module _ {t u : Table} (s : Same t u) where
       (row_same s n (λ b r. b && not (eqb (category_of r) class88 || eqb (category_of r) (list_category kind))) (λ x y. refl)))
 
   -- rule 23
-  pub naming_wrong_same : (named : Naming) → naming_wrong t named ≡ naming_wrong u named
+  pub naming_wrong_same : (named : Option AttributeNumber) → naming_wrong t named ≡ naming_wrong u named
   unfolding naming_wrong
-  naming_wrong_same (By n) = row_same s n.0 (λ b r. b && not (eqb (syntax_of r) 12 && is_single_valued r)) (λ x y. refl)
-  naming_wrong_same Absent = refl
+  naming_wrong_same (Some n) = row_same s n.0 (λ b r. b && not (eqb (syntax_of r) 12 && is_single_valued r)) (λ x y. refl)
+  naming_wrong_same None = refl
 
   -- ---- of a row that is there
 
@@ -65,10 +64,10 @@ module _ {t u : Table} (s : Same t u) where
     unfolding inheritance_of
     inheritance_of_same =
         ap (λ (r : List ℕ). cond (eqb k 0) (root_inheritance (category_of r))
-        (cond (ltb (superclass_of r) t.count) (inheritance (category_of r) (category_of (t.row (superclass_of r)))) Sound)) (s.rows k l)
+        (cond (ltb (superclass_of r) t.count) (inheritance (category_of r) (category_of (t.row (superclass_of r)))) None)) (s.rows k l)
         ∙ ap (cond (eqb k 0) (root_inheritance (category_of (u.row k))))
-        (row_same s (superclass_of (u.row k)) (λ b r. cond b (inheritance (category_of (u.row k)) (category_of r)) Sound) (λ x y. refl))
+        (row_same s (superclass_of (u.row k)) (λ b r. cond b (inheritance (category_of (u.row k)) (category_of r)) None) (λ x y. refl))
 
     pub inheritance_wrong_same : (number : ℕ) → inheritance_wrong number t k ≡ inheritance_wrong number u k
     unfolding inheritance_wrong
-    inheritance_wrong_same number = ap (λ i. eqb (inheritance_number i) number) inheritance_of_same
+    inheritance_wrong_same number = ap (λ i. eqb (answer_number i) number) inheritance_of_same

@@ -6,36 +6,52 @@ ghost use Rattle.schema.specs.Layout.{class_set, class_width};
 ghost use Rattle.schema.specs.Store.{table_in};
 ghost use Rattle.schema.specs.declared.number.TableId.TheVariants.{Classes};
 ghost use Rattle.tables.specs.Shaped.{TableShaped};
-ghost use Rattle.rules_class.specs.Category.{list_category, other_category, wrongly_listed, category_wrong, inheritance, root_inheritance};
+ghost use Rattle.rules_class.specs.Category.{category_number, Decodes, list_category, other_category, wrongly_listed, category_wrong, inheritance};
 ghost use Rattle.rules_class.specs.Blank.{lists_none};
-ghost use Rattle.rules_class.specs.Category.{inheritance_of, inheritance_number, inheritance_wrong};
+ghost use Rattle.rules_class.specs.Category.{root_inheritance, inheritance_of, answer_number, inheritance_wrong};
 
-use crate::blank::is_blank;
+use crate::blank::{any_by_bytes, is_blank};
 use schema::class::{
     category, fixed_auxiliary, fixed_superior, open_auxiliary, open_superior, superclass,
 };
 use schema::layout::CLASS_SET;
-use schema::number::{ClassNumber, ClassRead, TableId, class_at};
-use schema::refusal::{
-    ABSTRACT_UNDER_OTHER, AUXILIARY_UNDER_STRUCTURAL, DONE, ROOT_NOT_ABSTRACT,
-    STRUCTURAL_UNDER_AUXILIARY,
-};
+use schema::number::{ClassNumber, TableId, class_at};
+use schema::refusal::{DONE, Refusal};
 use schema::store::{class_row, row_count};
 use tables::named::{ClassList, is_listed};
 
 // "category (0 88 class, 1 structural, 2 abstract, 3 auxiliary)"
-const CLASS_88: u8 = 0;
+#[derive(Clone, Copy, PartialEq, Eq)]
+pub enum Category {
+    Class88,
+    Structural,
+    Abstract,
+    Auxiliary,
+}
 
-const STRUCTURAL: u8 = 1;
+// A byte that stands for no category.
+#[derive(Clone, Copy, PartialEq, Eq)]
+pub struct NoCategory(pub u8);
 
-const ABSTRACT: u8 = 2;
+impl TryFrom<u8> for Category {
+    type Error = NoCategory;
 
-const AUXILIARY: u8 = 3;
+    ghost try_from_gives = { Decodes };
+
+    fn try_from(byte: u8) -> Result<Self, NoCategory> {
+        match byte {
+            0 => Ok(Category::Class88),
+            1 => Ok(Category::Structural),
+            2 => Ok(Category::Abstract),
+            3 => Ok(Category::Auxiliary),
+            _ => Err(NoCategory(byte)),
+        }
+    }
+}
 
 // Which of rules 21, 38, 39 and 40 a class breaks.
-#[derive(Clone, Copy)]
+#[derive(Clone, Copy, PartialEq, Eq)]
 pub enum Inheritance {
-    Sound,
     RootNotAbstract,
     AbstractUnderOther,
     AuxiliaryUnderStructural,
@@ -43,16 +59,17 @@ pub enum Inheritance {
 }
 
 // The category, beside 88 class, that the classes of a list may have.
-fn list_category(kind: ClassList) -> u8
-    ensures { result ≡ list_category kind }
+fn list_category(kind: ClassList) -> Category
+    ensures { category_number result ≡ list_category kind }
 {
     match kind {
-        ClassList::Auxiliaries => AUXILIARY,
-        ClassList::Superiors => STRUCTURAL,
+        ClassList::Auxiliaries => Category::Auxiliary,
+        ClassList::Superiors => Category::Structural,
     }
 }
 
 // Whether a class that is there has neither of the two categories that a list's classes may have.
+#[tactic(auto, unfolding(crate::specs::Category::other_category))]
 fn has_other_category(kind: ClassList, classes: &[u8], c: ClassNumber) -> bool
     requires { TableShaped Classes classes.now × (c.0 < class_limit) }
     ensures { result ≡ other_category kind (table_in Classes classes.now) c.0 }
@@ -60,25 +77,23 @@ fn has_other_category(kind: ClassList, classes: &[u8], c: ClassNumber) -> bool
     if row_count(TableId::Classes, classes) <= c.0 {
         return false;
     }
-    let own = category(class_row(classes, c));
-    if own == CLASS_88 {
-        return false;
+    match Category::try_from(category(class_row(classes, c))) {
+        Ok(own) => own != Category::Class88 && own != list_category(kind),
+        Err(_) => true,
     }
-    own != list_category(kind)
 }
 
 // Whether a list of the row holds the class, which has a category that it may not have there.
+#[tactic(auto, unfolding(crate::specs::Category::wrongly_listed))]
 fn is_wrongly_listed(kind: ClassList, classes: &[u8], row: &[u8], c: ClassNumber) -> bool
     requires { TableShaped Classes classes.now × (class_width ≤ length row.now) × (c.0 < class_limit) }
     ensures { result ≡ wrongly_listed kind (table_in Classes classes.now) row.now c.0 }
 {
-    if !is_listed(kind, row, c) {
-        return false;
-    }
-    has_other_category(kind, classes, c)
+    is_listed(kind, row, c) && has_other_category(kind, classes, c)
 }
 
 // Whether no list of the kind holds one of the eight classes of a byte.
+#[tactic(auto, unfolding(crate::specs::Blank::lists_none))]
 fn lists_none(kind: ClassList, row: &[u8], at: usize) -> bool
     requires { (class_width ≤ length row.now) × (at < class_set) }
     ensures { result ≡ lists_none kind row.now at }
@@ -89,76 +104,49 @@ fn lists_none(kind: ClassList, row: &[u8], at: usize) -> bool
     }
 }
 
-// Whether a list of the kind wrongly holds one of the eight classes of a byte.
-fn wrong_in(kind: ClassList, classes: &[u8], row: &[u8], at: usize) -> bool
-    requires { TableShaped Classes classes.now × (class_width ≤ length row.now) × (at < class_set) }
-    ensures { result ≡ any_below 8 (λ i. wrongly_listed kind (table_in Classes classes.now) row.now (at * 8 + i)) }
-{
-    if lists_none(kind, row, at) {
-        return false;
-    }
-    let mut i = 0;
-    while i < 8 {
-        if is_wrongly_listed(kind, classes, row, class_at(at * 8 + i)) {
-            return true;
-        }
-        i += 1;
-    }
-    false
-}
-
-// Whether a row breaks rule 19 or, for its possible superiors, rule 20. Most bytes of the lists are zero: they are passed over.
+// Whether a row breaks rule 19 or, for its possible superiors, rule 20. Most bytes of the lists are blank.
 pub fn category_wrong(kind: ClassList, classes: &[u8], row: &[u8]) -> bool
     requires { TableShaped Classes classes.now × (class_width ≤ length row.now) }
     ensures { result ≡ category_wrong kind (table_in Classes classes.now) row.now }
 {
-    let mut at = 0;
-    while at < CLASS_SET {
-        if wrong_in(kind, classes, row, at) {
-            return true;
-        }
-        at += 1;
-    }
-    false
+    any_by_bytes(
+        CLASS_SET,
+        |at| lists_none(kind, row, at),
+        |n| is_wrongly_listed(kind, classes, row, class_at(n)),
+    )
 }
 
-// The rule that a category breaks under the superclass's.
-pub fn inheritance_under(own: u8, above: u8) -> Inheritance
+// The rule that a category breaks under the superclass's, if it breaks one. A byte that stands for no category is none of the four.
+#[tactic(auto, unfolding(crate::specs::Category::inheritance))]
+pub fn inheritance_under(own: u8, above: u8) -> Option<Inheritance>
     ensures { result ≡ inheritance own above }
 {
-    if own == ABSTRACT {
-        if above == ABSTRACT {
-            return Inheritance::Sound;
+    match (Category::try_from(own), Category::try_from(above)) {
+        (Ok(Category::Abstract), Ok(Category::Abstract)) => None,
+        (Ok(Category::Abstract), _) => Some(Inheritance::AbstractUnderOther),
+        (Ok(Category::Auxiliary), Ok(Category::Structural)) => {
+            Some(Inheritance::AuxiliaryUnderStructural)
         }
-        return Inheritance::AbstractUnderOther;
-    }
-    if own == AUXILIARY {
-        if above == STRUCTURAL {
-            return Inheritance::AuxiliaryUnderStructural;
+        (Ok(Category::Structural), Ok(Category::Auxiliary)) => {
+            Some(Inheritance::StructuralUnderAuxiliary)
         }
-        return Inheritance::Sound;
+        _ => None,
     }
-    if own == STRUCTURAL {
-        if above == AUXILIARY {
-            return Inheritance::StructuralUnderAuxiliary;
-        }
-        return Inheritance::Sound;
-    }
-    Inheritance::Sound
 }
 
-// The rule that the category of row 0 breaks.
-pub fn root_inheritance(own: u8) -> Inheritance
+// The rule that the category of row 0 breaks, if it breaks it.
+#[tactic(auto, unfolding(crate::specs::Category::root_inheritance))]
+pub fn root_inheritance(own: u8) -> Option<Inheritance>
     ensures { result ≡ root_inheritance own }
 {
-    if own == ABSTRACT {
-        return Inheritance::Sound;
+    match Category::try_from(own) {
+        Ok(Category::Abstract) => None,
+        _ => Some(Inheritance::RootNotAbstract),
     }
-    Inheritance::RootNotAbstract
 }
 
-// The rule that a class breaks. No other function judges a category under the superclass's: all who ask pass this on.
-pub fn inheritance_of(classes: &[u8], c: ClassNumber) -> Inheritance
+// The rule that a class breaks, if it breaks one. No other function judges a category under the superclass's: all who ask pass this on.
+pub fn inheritance_of(classes: &[u8], c: ClassNumber) -> Option<Inheritance>
     requires { TableShaped Classes classes.now × (c.0 < (table_in Classes classes.now).count) }
     ensures { result ≡ inheritance_of (table_in Classes classes.now) c.0 }
 {
@@ -166,30 +154,28 @@ pub fn inheritance_of(classes: &[u8], c: ClassNumber) -> Inheritance
     if c.0 == 0 {
         return root_inheritance(category(row));
     }
-    let read = superclass(row);
-    let ClassRead::Class(s) = read else {
-        return Inheritance::Sound;
-    };
+    let s = superclass(row)?;
     if row_count(TableId::Classes, classes) <= s.0 {
-        return Inheritance::Sound;
+        return None;
     }
     inheritance_under(category(row), category(class_row(classes, s)))
 }
 
-// The papers' number of an answer, 0 for none.
-pub fn inheritance_number(found: Inheritance) -> u8
-    ensures { result ≡ inheritance_number found }
+// The papers' number of an answer, 0 for none: the list of the rules and the answers to C speak of numbers.
+pub fn inheritance_number(found: Option<Inheritance>) -> u8
+    ensures { result ≡ answer_number found }
 {
     match found {
-        Inheritance::Sound => DONE,
-        Inheritance::RootNotAbstract => ROOT_NOT_ABSTRACT,
-        Inheritance::AbstractUnderOther => ABSTRACT_UNDER_OTHER,
-        Inheritance::AuxiliaryUnderStructural => AUXILIARY_UNDER_STRUCTURAL,
-        Inheritance::StructuralUnderAuxiliary => STRUCTURAL_UNDER_AUXILIARY,
+        None => DONE,
+        Some(Inheritance::RootNotAbstract) => Refusal::RootNotAbstract.number(),
+        Some(Inheritance::AbstractUnderOther) => Refusal::AbstractUnderOther.number(),
+        Some(Inheritance::AuxiliaryUnderStructural) => Refusal::AuxiliaryUnderStructural.number(),
+        Some(Inheritance::StructuralUnderAuxiliary) => Refusal::StructuralUnderAuxiliary.number(),
     }
 }
 
 // Whether the small check's answer for a class has a number: 21, 38, 39 or 40.
+#[tactic(auto, unfolding(crate::specs::Category::inheritance_wrong))]
 pub fn inheritance_wrong(number: u8, classes: &[u8], c: ClassNumber) -> bool
     requires { TableShaped Classes classes.now × (c.0 < (table_in Classes classes.now).count) }
     ensures { result ≡ inheritance_wrong number (table_in Classes classes.now) c.0 }

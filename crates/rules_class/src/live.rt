@@ -10,53 +10,44 @@ ghost use Rattle.tables.specs.Shaped.{TableShaped};
 ghost use Rattle.rules_class.specs.Blank.{named_elsewhere, names_none};
 ghost use Rattle.rules_class.specs.Live.{names_dead, not_live, superclass_late, class_wrong, lists_itself, naming_wrong};
 
-use crate::blank::is_blank;
+use crate::blank::{any_by_bytes, is_blank};
 use prelude::number::byte_at;
 use schema::attribute::{is_single_valued, syntax};
 use schema::class::{
-    Naming, fixed_auxiliary, fixed_optional, fixed_superior, mandatory, naming_attribute,
-    open_auxiliary, open_optional, open_superior, superclass,
+    fixed_auxiliary, fixed_optional, fixed_superior, mandatory, naming_attribute, open_auxiliary,
+    open_optional, open_superior, superclass,
 };
-use schema::number::{ClassNumber, ClassRead, RowId, TableId, row_id, row_limit};
+use schema::number::{ClassNumber, RowId, TableId, row_id, row_limit};
 use schema::store::{attribute_row, class_row, row_count};
 use tables::live::is_live;
 use tables::named::{ClassList, is_listed, is_naming};
 
 // Whether the row names a row that is not live for it.
+#[tactic(auto, unfolding(crate::specs::Live::names_dead))]
 fn names_dead(store: &[u8], row: &[u8], id: RowId) -> bool
     requires { TableShaped (table_of id) store.now × (class_width ≤ length row.now) × (number_of id < limit (table_of id)) }
     ensures { result ≡ names_dead (table_of id) (table_in (table_of id) store.now) row.now (number_of id) }
 {
-    if !is_naming(row, id) {
-        return false;
-    }
-    !is_live(store, row, id)
+    is_naming(row, id) && !is_live(store, row, id)
 }
 
 // Whether the naming attribute of a row is none of the eight of a byte.
+#[tactic(auto, unfolding(crate::specs::Blank::named_elsewhere))]
 fn named_elsewhere(row: &[u8], at: usize) -> bool
     requires { class_width ≤ length row.now }
     ensures { result ≡ named_elsewhere (naming_of row.now) at }
 {
-    let named = naming_attribute(row);
-    match named {
-        Naming::By(n) => n.0 / 8 != at,
-        Naming::Absent => true,
-    }
+    naming_attribute(row).is_none_or(|n| n.0 / 8 != at)
 }
 
 // Whether a row names none of the eight attributes of a byte.
+#[tactic(auto, unfolding(crate::specs::Blank::names_none))]
 fn names_no_attribute(row: &[u8], at: usize) -> bool
     requires { (class_width ≤ length row.now) × (at < attribute_set) }
     ensures { result ≡ names_none Attributes row.now at }
 {
-    if !is_blank(mandatory(row), fixed_optional(row), at) {
-        return false;
-    }
-    if byte_at(open_optional(row), at) != 0 {
-        return false;
-    }
-    named_elsewhere(row, at)
+    is_blank(mandatory(row), fixed_optional(row), at)
+        && (byte_at(open_optional(row), at) == 0 && named_elsewhere(row, at))
 }
 
 // Whether the superclass of a row is none of the eight classes of a byte.
@@ -64,25 +55,17 @@ fn superclass_elsewhere(row: &[u8], at: usize) -> bool
     requires { (class_width ≤ length row.now) × (at < class_set) }
     ensures { result ≡ not (eqb (superclass_of row.now / 8) at) }
 {
-    let read = superclass(row);
-    match read {
-        ClassRead::Class(s) => s.0 / 8 != at,
-        ClassRead::Beyond => true,
-    }
+    superclass(row).is_none_or(|s| s.0 / 8 != at)
 }
 
 // Whether a row names none of the eight classes of a byte.
+#[tactic(auto, unfolding(crate::specs::Blank::names_none))]
 fn names_no_class(row: &[u8], at: usize) -> bool
     requires { (class_width ≤ length row.now) × (at < class_set) }
     ensures { result ≡ names_none Classes row.now at }
 {
-    if !is_blank(fixed_auxiliary(row), open_auxiliary(row), at) {
-        return false;
-    }
-    if !is_blank(fixed_superior(row), open_superior(row), at) {
-        return false;
-    }
-    superclass_elsewhere(row, at)
+    is_blank(fixed_auxiliary(row), open_auxiliary(row), at)
+        && (is_blank(fixed_superior(row), open_superior(row), at) && superclass_elsewhere(row, at))
 }
 
 // Whether a row names none of the eight rows of a byte.
@@ -96,38 +79,16 @@ fn names_none(table: TableId, row: &[u8], at: usize) -> bool
     }
 }
 
-// Whether the row names one of the eight rows of a byte that is not live for it.
-fn dead_in(table: TableId, store: &[u8], row: &[u8], at: usize) -> bool
-    requires { TableShaped table store.now × (class_width ≤ length row.now) × (at * 8 < limit table) }
-    ensures { result ≡ any_below 8 (λ i. names_dead table (table_in table store.now) row.now (at * 8 + i)) }
-{
-    if names_none(table, row, at) {
-        return false;
-    }
-    let mut i = 0;
-    while i < 8 {
-        if names_dead(store, row, row_id(table, at * 8 + i)) {
-            return true;
-        }
-        i += 1;
-    }
-    false
-}
-
-// Whether the row names a row of a table that is not live for it: rule 17, and rule 18 in part. Most bytes of the lists are zero: they are passed over.
+// Whether the row names a row of a table that is not live for it: rule 17, and rule 18 in part. Most bytes of the lists are blank.
 pub fn not_live(table: TableId, store: &[u8], row: &[u8]) -> bool
     requires { TableShaped table store.now × (class_width ≤ length row.now) }
     ensures { result ≡ not_live table (table_in table store.now) row.now }
 {
-    let bytes = row_limit(table) / 8;
-    let mut at = 0;
-    while at < bytes {
-        if dead_in(table, store, row, at) {
-            return true;
-        }
-        at += 1;
-    }
-    false
+    any_by_bytes(
+        row_limit(table) / 8,
+        |at| names_none(table, row, at),
+        |n| names_dead(store, row, row_id(table, n)),
+    )
 }
 
 // Whether the superclass of class c is not earlier.
@@ -135,8 +96,7 @@ fn superclass_late(row: &[u8], c: ClassNumber) -> bool
     requires { (class_width ≤ length row.now) × (c.0 < class_limit) }
     ensures { result ≡ superclass_late c.0 row.now }
 {
-    let read = superclass(row);
-    let ClassRead::Class(above) = read else {
+    let Some(above) = superclass(row) else {
         return true;
     };
     if c.0 == 0 {
@@ -146,44 +106,37 @@ fn superclass_late(row: &[u8], c: ClassNumber) -> bool
 }
 
 // Whether a class breaks rule 18.
+#[tactic(auto, unfolding(crate::specs::Live::class_wrong))]
 pub fn class_wrong(classes: &[u8], c: ClassNumber) -> bool
     requires { TableShaped Classes classes.now × (c.0 < (table_in Classes classes.now).count) }
     ensures { result ≡ class_wrong (table_in Classes classes.now) c.0 }
 {
     let row = class_row(classes, c);
-    if not_live(TableId::Classes, classes, row) {
-        return true;
-    }
-    superclass_late(row, c)
+    not_live(TableId::Classes, classes, row) || superclass_late(row, c)
 }
 
 // Whether a list of a class holds its own number, which bars it from being added: 18.
+#[tactic(auto, unfolding(crate::specs::Live::lists_itself))]
 pub fn lists_itself(classes: &[u8], c: ClassNumber) -> bool
     requires { TableShaped Classes classes.now × (c.0 < (table_in Classes classes.now).count) }
     ensures { result ≡ lists_itself (table_in Classes classes.now) c.0 }
 {
     let row = class_row(classes, c);
-    if is_listed(ClassList::Auxiliaries, row, c) {
-        return true;
-    }
-    is_listed(ClassList::Superiors, row, c)
+    is_listed(ClassList::Auxiliaries, row, c) || is_listed(ClassList::Superiors, row, c)
 }
 
 // Whether a row breaks rule 23.
+#[tactic(auto, unfolding(crate::specs::Live::naming_wrong))]
 pub fn naming_wrong(attributes: &[u8], row: &[u8]) -> bool
     requires { TableShaped Attributes attributes.now × (class_width ≤ length row.now) }
     ensures { result ≡ naming_wrong (table_in Attributes attributes.now) (naming_of row.now) }
 {
-    let named = naming_attribute(row);
-    let Naming::By(a) = named else {
+    let Some(a) = naming_attribute(row) else {
         return false;
     };
     if row_count(TableId::Attributes, attributes) <= a.0 {
         return false;
     }
     let naming = attribute_row(attributes, a);
-    if syntax(naming) != 12 {
-        return true;
-    }
-    !is_single_valued(naming)
+    syntax(naming) != 12 || !is_single_valued(naming)
 }

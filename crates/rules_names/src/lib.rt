@@ -5,86 +5,38 @@
 ghost use Rattle.std.specs.Prelude.{◌≡◌, ◌≤◌, length};
 ghost use Rattle.schema.specs.Layout.{common_width, name_limit};
 ghost use Rattle.schema.specs.Row.{name_length};
-ghost use Rattle.rules_names.specs.Name.{between, is_letter, is_name_byte, folded, valid_name, same_name, name_invalid, identifier_invalid};
+ghost use Rattle.rules_names.specs.Name.{is_name_byte, folded, valid_name, same_name, name_invalid, identifier_invalid};
 
-use prelude::number::byte_at;
 use schema::row::{arc, arc_count, name};
-
-fn is_between(low: u8, high: u8, b: u8) -> bool
-    ensures { result ≡ between low high b }
-{
-    if b < low {
-        return false;
-    }
-    b <= high
-}
-
-fn is_letter(b: u8) -> bool
-    ensures { result ≡ is_letter b }
-{
-    if is_between(b'A', b'Z', b) {
-        return true;
-    }
-    is_between(b'a', b'z', b)
-}
 
 fn is_name_byte(b: u8) -> bool
     ensures { result ≡ is_name_byte b }
 {
-    if is_letter(b) {
-        return true;
-    }
-    if is_between(b'0', b'9', b) {
-        return true;
-    }
-    b == b'-'
+    b.is_ascii_alphanumeric() || b == b'-'
 }
 
 // "a letter, then letters, digits or hyphens"
 pub fn is_valid_name(name: &[u8]) -> bool
     ensures { result ≡ valid_name name.now }
 {
-    if name.len() < 1 {
+    let Some(first) = name.first() else {
         return false;
-    }
-    if !is_letter(byte_at(name, 0)) {
-        return false;
-    }
-    let mut i = 0;
-    while i < name.len() {
-        if !is_name_byte(byte_at(name, i)) {
-            return false;
-        }
-        i += 1;
-    }
-    true
+    };
+    first.is_ascii_alphabetic() && name.iter().all(|b| is_name_byte(*b))
 }
 
 // A to Z as a to z, every other byte as it is.
 pub fn fold(x: u8) -> u8
     ensures { result ≡ folded x }
 {
-    if is_between(b'A', b'Z', x) {
-        return x + 32;
-    }
-    x
+    x.to_ascii_lowercase()
 }
 
-// Whether two names are the same, case aside. The lengths come first: most names differ in them.
+// Whether two names are the same, case aside.
 pub fn same_name(s: &[u8], t: &[u8]) -> bool
     ensures { result ≡ same_name s.now t.now }
 {
-    if s.len() != t.len() {
-        return false;
-    }
-    let mut i = 0;
-    while i < s.len() {
-        if fold(byte_at(s, i)) != fold(byte_at(t, i)) {
-            return false;
-        }
-        i += 1;
-    }
-    true
+    s.eq_ignore_ascii_case(t)
 }
 
 // Whether a row breaks rule 12.
@@ -103,12 +55,8 @@ pub fn identifier_invalid(row: &[u8]) -> bool
     if arc_count(row) < 2 {
         return true;
     }
-    let first = arc(row, 0);
-    if 2 < first {
-        return true;
+    match arc(row, 0) {
+        0 | 1 => 39 < arc(row, 1),
+        first => 2 < first,
     }
-    if first == 2 {
-        return false;
-    }
-    39 < arc(row, 1)
 }

@@ -119,9 +119,6 @@ module _ (key : Key) (m : Schema) where
       go (yes h) = subst (Placed p) (sym (place_low first p h)) (record { there = h; has = refl; back = refl })
       go (no h) = classes h (true_or_false (has_key key Classes))
 
-  pub place_there : (p : ℕ) → p < place_count key m → number_of (place_id first p) < (table (table_of (place_id first p)) m).count
-  place_there p l = (placed p l).there
-
   -- ---- the pass
 
   -- the marks of the first p rows are met
@@ -132,7 +129,7 @@ module _ (key : Key) (m : Schema) where
   abbrev pub Apart : ℕ → Type 0
   Apart p = (i j : ℕ) → i < j → j < p → ¬ SameKey key (row_of j) (row_of i)
 
-  pub marked_more : (p : ℕ) (marks r : List ℕ) → length marks ≡ marks_width → r ≡ with_member (key_mark key (row_of p)) marks → Marked p marks → Marked (p + 1) r
+  marked_more : (p : ℕ) (marks r : List ℕ) → length marks ≡ marks_width → r ≡ with_member (key_mark key (row_of p)) marks → Marked p marks → Marked (p + 1) r
   marked_more p marks r l q h j b = rw q (go (ℕ_discrete (key_mark key (row_of j)) (key_mark key (row_of p))))
     where
       mark : ℕ
@@ -146,7 +143,7 @@ module _ (key : Key) (m : Schema) where
           (omega (arith, b))))))
 
   -- row p, whose mark was not met or which has no rival
-  pub apart_more : (p : ℕ) (marks : List ℕ) → p < place_count key m → Marked p marks
+  apart_more : (p : ℕ) (marks : List ℕ) → p < place_count key m → Marked p marks
       → (met key (row_of p) (key_mark key (row_of p)) marks && taken every_row key m (table_of (place_id first p)) (number_of (place_id first p))) ≡ false
       → Apart p → Apart (p + 1)
   unfolding met
@@ -207,7 +204,7 @@ module _ (key : Key) (m : Schema) where
               go (yes h) = a p q h (place_below r.of r.at r.its r.below) turned
               go (no h) = a q p (omega (arith, h, apart)) (place_below t k r.has l) same
 
-  pub one_taken : (p : ℕ) (marks : List ℕ) → p < place_count key m
+  one_taken : (p : ℕ) (marks : List ℕ) → p < place_count key m
       → (met key (row_of p) (key_mark key (row_of p)) marks && taken every_row key m (table_of (place_id first p)) (number_of (place_id first p))) ≡ true
       → any_taken key m ≡ true
   unfolding any_taken
@@ -228,6 +225,36 @@ module _ (key : Key) (m : Schema) where
           ap (λ (x : Bool). x || any_below m.classes.count (taken every_row key m Classes)) (any_here (taken every_row key m Attributes) k first h q)
       go Classes k h q = either (any_below first (taken every_row key m Attributes)) (any_below m.classes.count (taken every_row key m Classes))
           (any_here (taken every_row key m Classes) k m.classes.count h q)
+
+  -- ---- a row that is asked for by its place, and its mark
+
+  abbrev row_at : RowId → List ℕ
+  row_at i = (table (table_of i) m).row (number_of i)
+
+  module _ (p : ℕ) {i : RowId} (is : i ≡ place_id first p) (l : p < place_count key m) where
+    pub id_there : number_of i < (table (table_of i) m).count
+    id_there = subst (λ (j : RowId). number_of j < (table (table_of j) m).count) (sym is) (placed p l).there
+
+    module _ (marks : List ℕ) {mark : ℕ} (its : mark ≡ key_mark key (row_at i)) where
+      -- its mark was met, and it has a rival
+      abbrev Repeated : Bool → Type 0
+      Repeated b = (met key (row_at i) mark marks && taken every_row key m (table_of i) (number_of i)) ≡ b
+
+      placed_so : (b : Bool) → Repeated b → (met key (row_of p) (key_mark key (row_of p)) marks
+          && taken every_row key m (table_of (place_id first p)) (number_of (place_id first p))) ≡ b
+      placed_so b e =
+          subst (λ (j : RowId). (met key (row_at j) (key_mark key (row_at j)) marks && taken every_row key m (table_of j) (number_of j)) ≡ b) is
+          (ap (λ (x : ℕ). met key (row_at i) x marks && taken every_row key m (table_of i) (number_of i)) (sym its) ∙ e)
+
+      pub id_taken : Repeated true → any_taken key m ≡ true
+      id_taken e = one_taken p marks l (placed_so true e)
+
+      pub id_apart : Repeated false → Marked p marks → Apart p → Apart (p + 1)
+      id_apart e h = apart_more p marks l h (placed_so false e)
+
+      pub id_marked : {r : List ℕ} → length marks ≡ marks_width → r ≡ with_member mark marks → Marked p marks → Marked (p + 1) r
+      id_marked {r} w e = marked_more p marks r w
+          (e ∙ ap (λ (x : ℕ). with_member x marks) its ∙ ap (λ (j : RowId). with_member (key_mark key (row_at j)) marks) is)
 
 -- the mark of one byte more
 pub mark_more : (mask : ℕ) (s : List ℕ) (i mark b : ℕ) → mark ≡ mark_of mask i s → b ≡ get_or s i 0

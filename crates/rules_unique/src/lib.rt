@@ -1,4 +1,5 @@
 // What no two rows may share: rules 13, 15, 16, 24 and 28. Names and identifiers are compared in place, as parts of the lent stores.
+// Stores and rows are plain slices, since the functions that docs/NUMBERS.md names ask of their callers what they asked.
 #![tactic(auto)]
 
 pub mod marks;
@@ -17,7 +18,7 @@ use schema::row::{guid, identifier, name};
 use schema::store::{row, row_count, schema_row};
 
 // The keys of a row. A linkID or a mAPIID of 0 is absent and is shared by none.
-#[derive(Clone, Copy)]
+#[derive(Clone, Copy, PartialEq, Eq)]
 pub enum Key {
     Name,
     Identifier,
@@ -27,31 +28,25 @@ pub enum Key {
 }
 
 // Whether the rows of a table have the key.
+#[tactic(auto, unfolding(crate::specs::Unique::has_key))]
 pub fn has_key(key: Key, table: TableId) -> bool
     ensures { result ≡ has_key key table }
 {
     match table {
         TableId::Attributes => true,
-        TableId::Classes => match key {
-            Key::Name => true,
-            Key::Identifier => true,
-            Key::Guid => true,
-            Key::Mapi => false,
-            Key::Link => false,
-        },
+        TableId::Classes => matches!(key, Key::Name | Key::Identifier | Key::Guid),
     }
 }
 
+#[tactic(auto, unfolding(crate::specs::Unique::same_present))]
 fn same_present(a: u32, b: u32) -> bool
     ensures { result ≡ same_present a b }
 {
-    if a == 0 {
-        return false;
-    }
-    a == b
+    a != 0 && a == b
 }
 
 // Whether two rows have the same key.
+#[tactic(auto, unfolding(crate::specs::Unique::same_key))]
 fn same_key(key: Key, a: &[u8], b: &[u8]) -> bool
     requires { Keyed a.now × Keyed b.now }
     ensures { result ≡ same_key key a.now b.now }
@@ -71,10 +66,7 @@ fn is_rival(store: &[u8], key: Key, id: RowId, own: &[u8], other: RowId) -> bool
     ensures { result ≡ (not (same_row (table_of id) (number_of id) (table_of other) (number_of other))
         && same_key key own.now ((table_in (table_of other) store.now).row (number_of other))) }
 {
-    if same_row(id, other) {
-        return false;
-    }
-    same_key(key, own, row(store, other))
+    !same_row(id, other) && same_key(key, own, row(store, other))
 }
 
 // Whether another row of a table has the key of a row.
@@ -82,21 +74,12 @@ fn rival_in(table: TableId, store: &[u8], key: Key, id: RowId, own: &[u8]) -> bo
     requires { TableShaped table store.now × Keyed own.now }
     ensures { result ≡ rival_in every_row key table (table_in table store.now) (table_of id) (number_of id) own.now }
 {
-    if !has_key(key, table) {
-        return false;
-    }
-    let count = row_count(table, store);
-    let mut j = 0;
-    while j < count {
-        if is_rival(store, key, id, own, row_id(table, j)) {
-            return true;
-        }
-        j += 1;
-    }
-    false
+    has_key(key, table)
+        && (0..row_count(table, store)).any(|j| is_rival(store, key, id, own, row_id(table, j)))
 }
 
 // Whether another row of either table has the key of a row: rules 13, 15, 16, 24 and 28.
+#[tactic(auto, unfolding(crate::specs::Unique::taken))]
 pub fn is_taken<'a>(attributes: &'a [u8], classes: &'a [u8], key: Key, id: RowId) -> bool
     requires { Shaped attributes.now classes.now × (number_of id < (table (table_of id) (schema_in attributes.now classes.now)).count) }
     ensures { result ≡ taken every_row key (schema_in attributes.now classes.now) (table_of id) (number_of id) }
@@ -105,8 +88,6 @@ pub fn is_taken<'a>(attributes: &'a [u8], classes: &'a [u8], key: Key, id: RowId
         return false;
     }
     let own = schema_row(attributes, classes, id);
-    if rival_in(TableId::Attributes, attributes, key, id, own) {
-        return true;
-    }
-    rival_in(TableId::Classes, classes, key, id, own)
+    rival_in(TableId::Attributes, attributes, key, id, own)
+        || rival_in(TableId::Classes, classes, key, id, own)
 }

@@ -9,7 +9,6 @@ ghost use Rattle.rules_unique.specs.Unique.{every_row, taken, Keyed};
 ghost use Rattle.rules_unique.specs.Marks.{absent, any_taken, key_mark, marks_width, mark_of, met, place_count};
 
 use crate::{Key, has_key, is_taken};
-use prelude::number::byte_at;
 use schema::attribute::{link, mapi};
 use schema::number::{RowId, TableId, place_id};
 use schema::row::{guid, identifier, name};
@@ -30,16 +29,14 @@ fn mark_of(s: &[u8], mask: u8) -> usize
     ensures { result ≡ mark_of mask (length s.now) s.now }
 {
     let mut mark = 0;
-    let mut i = 0;
-    while i < s.len() {
-        let b = byte_at(s, i) & mask;
-        mark = (mark * 31 + b as usize) % MARKS;
-        i += 1;
+    for b in s {
+        mark = (mark * 31 + (*b & mask) as usize) % MARKS;
     }
     mark
 }
 
 // The mark of a row's key.
+#[tactic(auto, unfolding(crate::specs::Marks::key_mark))]
 fn key_mark(key: Key, row: &[u8]) -> usize
     requires { Keyed row.now }
     ensures { result ≡ key_mark key row.now }
@@ -54,40 +51,39 @@ fn key_mark(key: Key, row: &[u8]) -> usize
 }
 
 // Whether a row has no value for the key.
+#[tactic(auto, unfolding(crate::specs::Marks::absent))]
 fn is_absent(key: Key, row: &[u8]) -> bool
     requires { Keyed row.now }
     ensures { result ≡ absent key row.now }
 {
     match key {
-        Key::Name => false,
-        Key::Identifier => false,
-        Key::Guid => false,
+        Key::Name | Key::Identifier | Key::Guid => false,
         Key::Mapi => mapi(row) == 0,
         Key::Link => link(row) == 0,
     }
 }
 
 // Whether a row has the key, and its mark was met before.
+#[tactic(auto, unfolding(crate::specs::Marks::met))]
 fn is_met(key: Key, row: &[u8], mark: usize, marks: &[u8]) -> bool
     requires { Keyed row.now }
     ensures { result ≡ met key row.now mark marks.now }
 {
-    if is_absent(key, row) {
-        return false;
-    }
-    sets::has(marks, mark)
+    !is_absent(key, row) && sets::has(marks, mark)
 }
 
 // How many rows have the key.
+#[tactic(auto, unfolding(crate::specs::Marks::place_count))]
 fn place_count(attributes: &[u8], classes: &[u8], key: Key) -> usize
     requires { Shaped attributes.now classes.now }
     ensures { result ≡ place_count key (schema_in attributes.now classes.now) }
 {
     let n = row_count(TableId::Attributes, attributes);
     if has_key(key, TableId::Classes) {
-        return n + row_count(TableId::Classes, classes);
+        n + row_count(TableId::Classes, classes)
+    } else {
+        n
     }
-    n
 }
 
 // Whether the mark of a row's key was met before, and another row has the key.
@@ -103,10 +99,8 @@ fn is_repeated<'a>(
     ensures { result ≡ (met key ((table (table_of id) (schema_in attributes.now classes.now)).row (number_of id)) mark
         marks.now && taken every_row key (schema_in attributes.now classes.now) (table_of id) (number_of id)) }
 {
-    if is_met(key, schema_row(attributes, classes, id), mark, marks) {
-        return is_taken(attributes, classes, key, id);
-    }
-    false
+    is_met(key, schema_row(attributes, classes, id), mark, marks)
+        && is_taken(attributes, classes, key, id)
 }
 
 // Whether some row has the key of another, with no mark met before.
@@ -116,20 +110,19 @@ fn any_repeated<'a>(attributes: &'a [u8], classes: &'a [u8], key: Key, marks: &m
 {
     let first = row_count(TableId::Attributes, attributes);
     let count = place_count(attributes, classes, key);
-    let mut p = 0;
-    while p < count {
+    for p in 0..count {
         let id = place_id(first, p);
         let mark = key_mark(key, schema_row(attributes, classes, id));
         if is_repeated(attributes, classes, key, id, mark, marks) {
             return true;
         }
         sets::insert(marks, mark);
-        p += 1;
     }
     false
 }
 
 // Whether some row of either table has the key of another.
+#[tactic(auto, unfolding(prelude::specs::Part::zeros))]
 pub fn any_taken<'a>(attributes: &'a [u8], classes: &'a [u8], key: Key) -> bool
     requires { Shaped attributes.now classes.now }
     ensures { result ≡ any_taken key (schema_in attributes.now classes.now) }

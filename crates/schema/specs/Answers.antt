@@ -1,17 +1,15 @@
 -- The answer of a call, and what each enum answer of the lower crates is in the paper's numbers.
 -- Document 01: "Every answer has a number, a table (0 none, 1 attribute, 2 class) and a place; what is not named below is 0."
-use Rattle.std.specs.Prelude.{◌≡◌, ℕ}
-use Rattle.wire.specs.declared.FieldRead.{FieldRead}
-use Rattle.wire.specs.declared.FieldRead.TheVariants.{Field, End, Bad}
+use Rattle.std.specs.Prelude.{◌≡◌, ℕ, Some, None, Ok, Err}
+use Rattle.wire.specs.FieldRead.{FieldRead}
 use Rattle.schema.specs.declared.answer.Answer.{Answer}
-use Rattle.schema.specs.declared.number.ClassRead.{ClassRead}
-use Rattle.schema.specs.declared.number.NumberRead.{NumberRead}
 use Rattle.schema.specs.declared.number.TableId.{TableId}
 use Rattle.schema.specs.declared.number.TableId.TheVariants.{Attributes, Classes}
 use Rattle.schema.specs.Numbers.{limit}
-use Rattle.schema.specs.declared.number.ClassRead.TheVariants as class
-use Rattle.schema.specs.declared.number.NumberRead.TheVariants as number
 use Rattle.schema.specs.Refusals as refusal
+use Rattle.schema.specs.declared.number.ClassNumber.{ClassNumber}
+use Rattle.schema.specs.declared.number.RowId.{RowId}
+use Rattle.std.specs.Prelude.{Option, Some, None}
 
 abbrev pub answer : ℕ → ℕ → ℕ → Answer
 answer n t p = record { number = n; table = t; place = p; visits = 0 }
@@ -67,16 +65,16 @@ broken_by n t k = answer n (table_number t) k
 
 -- a field that must stand there: "a missing field .. by the end of that value", one that cannot be accepted "by its tag's offset"
 abbrev pub field_answer : ℕ → FieldRead → Answer
-field_answer end (Field tag start stop) = passed
-field_answer end End = unreadable end
-field_answer end (Bad at) = unreadable at
+field_answer end (Ok (Some field)) = passed
+field_answer end (Ok None) = unreadable end
+field_answer end (Err bad) = unreadable bad.at
 
 -- a class asked for by a number beyond the limit: "5 target row not there". A superclass beyond it is one that isn't earlier, and the depth says so.
-abbrev pub class_answer : ClassRead → Answer
-class_answer (class.Class c) = passed
-class_answer class.Beyond = refused refusal.no_such_row
+abbrev pub class_answer : Option ClassNumber → Answer
+class_answer (Some c) = passed
+class_answer None = refused refusal.no_such_row
 
 -- a target beyond the limit: "5 target row not there"
-abbrev pub number_answer : NumberRead → Answer
-number_answer (number.Row id) = passed
-number_answer number.Beyond = refused refusal.no_such_row
+abbrev pub number_answer : Option RowId → Answer
+number_answer (Some id) = passed
+number_answer None = refused refusal.no_such_row

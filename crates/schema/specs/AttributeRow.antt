@@ -4,8 +4,7 @@ use Rattle.std.specs.Prelude.{Bool, cond, List, ℕ, ◌+◌, get_or}
 use Rattle.prelude.specs.BigEndian.{big_endian}
 use Rattle.schema.specs.Layout.{syntax_at, om_syntax_at, object_class_at, single_valued_at, range_lower_at, range_upper_at, link_at, mapi_at}
 use Rattle.schema.specs.Row.{flag_at, counted_at}
-use Rattle.schema.specs.declared.attribute.Bound.{Bound}
-use Rattle.schema.specs.declared.attribute.Bound.TheVariants.{Given, Absent}
+use Rattle.std.specs.Prelude.{Option, Some, None}
 
 abbrev pub syntax_of : List ℕ → ℕ
 syntax_of row = get_or row syntax_at 0
@@ -23,13 +22,13 @@ abbrev pub is_single_valued : List ℕ → Bool
 is_single_valued row = flag_at single_valued_at row
 
 -- an end of a range: the four bytes of a signed number, or absent
-unfoldable pub bound_at : ℕ → List ℕ → Bound
-bound_at at row = cond (flag_at at row) (Given (big_endian 4 (at + 1) row)) Absent
+unfoldable pub bound_at : ℕ → List ℕ → Option ℕ
+bound_at at row = cond (flag_at at row) (Some (big_endian 4 (at + 1) row)) None
 
-abbrev pub range_lower : List ℕ → Bound
+abbrev pub range_lower : List ℕ → Option ℕ
 range_lower row = bound_at range_lower_at row
 
-abbrev pub range_upper : List ℕ → Bound
+abbrev pub range_upper : List ℕ → Option ℕ
 range_upper row = bound_at range_upper_at row
 
 -- 0 is absent

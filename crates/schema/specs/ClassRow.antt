@@ -5,8 +5,8 @@ use Rattle.prelude.specs.Part.{part}
 use Rattle.schema.specs.Layout.{class_set, attribute_set, category_at, superclass_at, naming_at, mandatory_at, fixed_optional_at, open_optional_at}
 use Rattle.schema.specs.Layout.{fixed_auxiliary_at, open_auxiliary_at, fixed_superior_at, open_superior_at}
 use Rattle.schema.specs.Row.{flag_at}
-use Rattle.schema.specs.declared.class.Naming.{Naming}
-use Rattle.schema.specs.declared.class.Naming.TheVariants.{By, Absent}
+use Rattle.schema.specs.declared.number.AttributeNumber.{AttributeNumber}
+use Rattle.std.specs.Prelude.{Option, Some, None}
 
 abbrev pub category_of : List ℕ → ℕ
 category_of row = get_or row category_at 0
@@ -15,8 +15,8 @@ abbrev pub superclass_of : List ℕ → ℕ
 superclass_of row = get_or row superclass_at 0
 
 -- the naming attribute
-unfoldable pub naming_of : List ℕ → Naming
-naming_of row = cond (flag_at naming_at row) (By (record { 0 = get_or row (naming_at + 1) 0 })) Absent
+unfoldable pub naming_of : List ℕ → Option AttributeNumber
+naming_of row = cond (flag_at naming_at row) (Some (record { 0 = get_or row (naming_at + 1) 0 })) None
 
 abbrev pub mandatory_of : List ℕ → List ℕ
 mandatory_of row = part mandatory_at attribute_set row

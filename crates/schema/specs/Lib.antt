@@ -1,6 +1,8 @@
 -- What the keeper holds: numbers, answers, the layout of the stores, rows and tables.
 pub mod Numbers
 pub mod Refusals
+pub mod Refused
+pub mod RefusedLaws
 pub mod Order
 pub mod OrderLaws
 pub mod Answers

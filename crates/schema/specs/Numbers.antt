@@ -1,15 +1,12 @@
 -- Class numbers and attribute numbers with their limits. Document 01: "at most 128 classes and 256 attributes (house)".
 use Rattle.std.specs.Prelude.{Bool, cond, true, false, ◌&&◌, ◌≡◌, ℕ, ◌-◌, eqb, ltb}
-use Rattle.schema.specs.declared.number.ClassRead.{ClassRead}
-use Rattle.schema.specs.declared.number.AttributeRead.{AttributeRead}
 use Rattle.schema.specs.declared.number.TableId.{TableId}
 use Rattle.schema.specs.declared.number.TableId.TheVariants.{Attributes, Classes}
 use Rattle.schema.specs.declared.number.RowId.{RowId}
 use Rattle.schema.specs.declared.number.RowId.TheVariants.{Attribute, Class}
-use Rattle.schema.specs.declared.number.NumberRead.{NumberRead}
-use Rattle.schema.specs.declared.number.ClassRead.TheVariants as class
-use Rattle.schema.specs.declared.number.AttributeRead.TheVariants as attribute
-use Rattle.schema.specs.declared.number.NumberRead.TheVariants as number
+use Rattle.schema.specs.declared.number.AttributeNumber.{AttributeNumber}
+use Rattle.schema.specs.declared.number.ClassNumber.{ClassNumber}
+use Rattle.std.specs.Prelude.{Option, Some, None}
 
 abbrev pub class_limit : ℕ
 class_limit = 128
@@ -18,12 +15,12 @@ abbrev pub attribute_limit : ℕ
 attribute_limit = 256
 
 -- a number where a class is meant: below the limit a class number
-abbrev pub class_read : ℕ → ClassRead
-class_read n = cond (ltb n class_limit) (class.Class (record { 0 = n })) class.Beyond
+abbrev pub class_read : ℕ → Option ClassNumber
+class_read n = cond (ltb n class_limit) (Some (record { 0 = n })) None
 
 -- a number where an attribute is meant
-abbrev pub attribute_read : ℕ → AttributeRead
-attribute_read n = cond (ltb n attribute_limit) (attribute.Attribute (record { 0 = n })) attribute.Beyond
+abbrev pub attribute_read : ℕ → Option AttributeNumber
+attribute_read n = cond (ltb n attribute_limit) (Some (record { 0 = n })) None
 
 -- ---- either table
 
@@ -46,8 +43,8 @@ number_of (Attribute a) = a.0
 number_of (Class c) = c.0
 
 -- a number where a row of a table is meant
-abbrev pub number_read : TableId → ℕ → NumberRead
-number_read t n = cond (ltb n (limit t)) (number.Row (row_id t n)) number.Beyond
+abbrev pub number_read : TableId → ℕ → Option RowId
+number_read t n = cond (ltb n (limit t)) (Some (row_id t n)) None
 
 -- place p of the rows of both tables, the n attributes first
 unfoldable pub place_id : ℕ → ℕ → RowId

@@ -5,21 +5,20 @@ use Rattle.std.proofs.Common.{sym, ap, ◌∙◌, arith, ltb-true, ltb-false}
 use Rattle.prelude.specs.Says.{Says}
 use Rattle.prelude.specs.SaysLaws.{says_eq, says_and}
 use Rattle.schema.specs.declared.number.ClassNumber.{ClassNumber}
-use Rattle.schema.specs.declared.number.ClassRead.TheVariants.{Class, Beyond}
 use Rattle.schema.specs.declared.number.TableId.{TableId}
-use Rattle.schema.specs.declared.number.NumberRead.TheVariants as number
 use Rattle.schema.specs.declared.number.TableId.TheVariants.{Attributes, Classes}
 use Rattle.schema.specs.Numbers.{class_limit, attribute_limit, limit, class_read, row_id, table_of, number_of, same_table, same_row, SameRow, number_read}
 use Rattle.schema.specs.declared.number.RowId.{RowId}
+use Rattle.std.specs.Prelude.{Some, None}
 
-pub class_is : (n : ℕ) (c : ClassNumber) → class_read n ≡ Class c → (n ≡ c.0) × (n < class_limit)
+pub class_is : (n : ℕ) (c : ClassNumber) → class_read n ≡ Some c → (n ≡ c.0) × (n < class_limit)
 class_is n c e = go (ltb n class_limit) refl
   where
     go : (b : Bool) → ltb n class_limit ≡ b → (n ≡ c.0) × (n < class_limit)
     go true q = let same : record { 0 = n } ≡ c = cc in (ap (λ (d : ClassNumber). d.0) same, ltb-true n class_limit q)
     go false q = let no : ◌≡◌ {A = ℕ} 0 1 = cc in absurd (omega arith)
 
-pub class_beyond : (n : ℕ) → class_read n ≡ Beyond → class_limit ≤ n
+pub class_beyond : (n : ℕ) → class_read n ≡ None → class_limit ≤ n
 class_beyond n e = go (ltb n class_limit) refl
   where
     go : (b : Bool) → ltb n class_limit ≡ b → class_limit ≤ n
@@ -27,21 +26,21 @@ class_beyond n e = go (ltb n class_limit) refl
     go false q = ltb-false n class_limit q
 
 -- a number of either table
-pub number_is : (t : TableId) (n : ℕ) {id : RowId} → number_read t n ≡ number.Row id → (id ≡ row_id t n) × (n < limit t)
+pub number_is : (t : TableId) (n : ℕ) {id : RowId} → number_read t n ≡ Some id → (id ≡ row_id t n) × (n < limit t)
 number_is t n {id} e = go (ltb n (limit t)) refl
   where
     go : (b : Bool) → ltb n (limit t) ≡ b → (id ≡ row_id t n) × (n < limit t)
     go true q = (
-      let same : number.Row id ≡ number.Row (row_id t n) = sym e ∙ ap (λ (b : Bool). cond b (number.Row (row_id t n)) number.Beyond) q in cc,
+      let same : Some id ≡ Some (row_id t n) = sym e ∙ ap (λ (b : Bool). cond b (Some (row_id t n)) None) q in cc,
       ltb-true n (limit t) q,
     )
-    go false q = let no : ◌≡◌ {A = ℕ} 0 1 = cc (sym e ∙ ap (λ (b : Bool). cond b (number.Row (row_id t n)) number.Beyond) q) in absurd (omega arith)
+    go false q = let no : ◌≡◌ {A = ℕ} 0 1 = cc (sym e ∙ ap (λ (b : Bool). cond b (Some (row_id t n)) None) q) in absurd (omega arith)
 
-pub number_beyond : (t : TableId) (n : ℕ) → number_read t n ≡ number.Beyond → limit t ≤ n
+pub number_beyond : (t : TableId) (n : ℕ) → number_read t n ≡ None → limit t ≤ n
 number_beyond t n e = go (ltb n (limit t)) refl
   where
     go : (b : Bool) → ltb n (limit t) ≡ b → limit t ≤ n
-    go true q = let no : ◌≡◌ {A = ℕ} 0 1 = cc (sym e ∙ ap (λ (b : Bool). cond b (number.Row (row_id t n)) number.Beyond) q) in absurd (omega arith)
+    go true q = let no : ◌≡◌ {A = ℕ} 0 1 = cc (sym e ∙ ap (λ (b : Bool). cond b (Some (row_id t n)) None) q) in absurd (omega arith)
     go false q = ltb-false n (limit t) q
 
 pub id_table : (t : TableId) (k : ℕ) → table_of (row_id t k) ≡ t

@@ -55,7 +55,7 @@ ObjectClassFits syntax value = Some entry_count (λ i. (entry_syntax object_clas
 abbrev pub HasObjectClass : ℕ → Type 0
 HasObjectClass syntax = Some entry_count (λ i. entry_syntax object_classes i ≡ syntax)
 
--- ---- what the code reads
+-- ---- the table as bytes
 
 -- every entry of the table is whole
 pub record Entries (table : List ℕ) : Type 0 where

@@ -2,10 +2,11 @@
 // Answers are made by these constructors alone.
 ghost use Rattle.std.specs.Prelude.{◌≡◌};
 ghost use Rattle.schema.specs.Numbers.{table_of, number_of};
+ghost use Rattle.schema.specs.Refused.{refusal_number};
 ghost use Rattle.schema.specs.Answers.{table_number, passed, done, changed, refused, unreadable, full, short_output, broken_by};
 
 use crate::number::{RowId, TableId, number_of, row_limit, table_of};
-use crate::refusal::{DONE, NO_FREE_ROW, SHORT_OUTPUT, UNREADABLE};
+use crate::refusal::{DONE, Refusal};
 
 #[derive(Clone, Copy)]
 pub struct Answer {
@@ -59,12 +60,12 @@ impl Answer {
         }
     }
 
-    // Refused by a number that names no table and no place.
-    pub fn refused(number: u8) -> Answer
-        ensures { result ≡ refused number }
+    // Refused, with no table and no place.
+    pub fn refused(refusal: Refusal) -> Answer
+        ensures { result ≡ refused (refusal_number refusal) }
     {
         Answer {
-            number,
+            number: refusal.number(),
             table: Answer::NO_TABLE,
             place: 0,
             visits: 0,
@@ -76,7 +77,7 @@ impl Answer {
         ensures { result ≡ unreadable place }
     {
         Answer {
-            number: UNREADABLE,
+            number: Refusal::Unreadable.number(),
             table: Answer::NO_TABLE,
             place,
             visits: 0,
@@ -88,7 +89,7 @@ impl Answer {
         ensures { result ≡ full table }
     {
         Answer {
-            number: NO_FREE_ROW,
+            number: Refusal::NoFreeRow.number(),
             table: table_number(table),
             place: row_limit(table),
             visits: 0,
@@ -100,19 +101,19 @@ impl Answer {
         ensures { result ≡ short_output needed }
     {
         Answer {
-            number: SHORT_OUTPUT,
+            number: Refusal::ShortOutput.number(),
             table: Answer::NO_TABLE,
             place: needed,
             visits: 0,
         }
     }
 
-    // A row breaks the rule of a number.
-    pub fn broken_by(number: u8, id: RowId) -> Answer
-        ensures { result ≡ broken_by number (table_of id) (number_of id) }
+    // A row breaks a rule.
+    pub fn broken_by(rule: Refusal, id: RowId) -> Answer
+        ensures { result ≡ broken_by (refusal_number rule) (table_of id) (number_of id) }
     {
         Answer {
-            number,
+            number: rule.number(),
             table: table_number(table_of(id)),
             place: number_of(id),
             visits: 0,

@@ -10,13 +10,6 @@ use crate::layout::{
 use crate::row::{counted, flag};
 use prelude::number::{byte_at, read_u32};
 
-// An end of a range: the four bytes of a signed number, most significant first, or none.
-#[derive(Clone, Copy)]
-pub enum Bound {
-    Given(u32),
-    Absent,
-}
-
 pub fn syntax(row: &[u8]) -> u8
     requires { attribute_width ≤ length row.now }
     ensures { result ≡ syntax_of row.now }
@@ -45,25 +38,25 @@ pub fn is_single_valued(row: &[u8]) -> bool
     flag(row, SINGLE_VALUED)
 }
 
-// The end of a range whose present byte is at a place.
-fn bound_at(row: &[u8], at: usize) -> Bound
+// The end of a range whose present byte is at a place: the four bytes of a signed number, most significant first, where there is one.
+fn bound_at(row: &[u8], at: usize) -> Option<u32>
     requires { at + 5 ≤ length row.now }
     ensures { result ≡ bound_at at row.now }
 {
     if flag(row, at) {
-        return Bound::Given(read_u32(row, at + 1));
+        return Some(read_u32(row, at + 1));
     }
-    Bound::Absent
+    None
 }
 
-pub fn range_lower(row: &[u8]) -> Bound
+pub fn range_lower(row: &[u8]) -> Option<u32>
     requires { attribute_width ≤ length row.now }
     ensures { result ≡ range_lower row.now }
 {
     bound_at(row, RANGE_LOWER)
 }
 
-pub fn range_upper(row: &[u8]) -> Bound
+pub fn range_upper(row: &[u8]) -> Option<u32>
     requires { attribute_width ≤ length row.now }
     ensures { result ≡ range_upper row.now }
 {

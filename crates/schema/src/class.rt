@@ -9,17 +9,10 @@ use crate::layout::{
     ATTRIBUTE_SET, CATEGORY, CLASS_SET, FIXED_AUXILIARY, FIXED_OPTIONAL, FIXED_SUPERIOR, MANDATORY,
     NAMING, OPEN_AUXILIARY, OPEN_OPTIONAL, OPEN_SUPERIOR, SUPERCLASS,
 };
-use crate::number::{AttributeNumber, AttributeRead, ClassNumber, ClassRead};
+use crate::number::{AttributeNumber, ClassNumber};
 use crate::row::flag;
 use prelude::number::byte_at;
 use prelude::part::part_of;
-
-// What names a record of the class: an attribute (rDNAttID), or nothing.
-#[derive(Clone, Copy)]
-pub enum Naming {
-    By(AttributeNumber),
-    Absent,
-}
 
 pub fn category(row: &[u8]) -> u8
     requires { class_width ≤ length row.now }
@@ -28,24 +21,22 @@ pub fn category(row: &[u8]) -> u8
     byte_at(row, CATEGORY)
 }
 
-pub fn superclass(row: &[u8]) -> ClassRead
+pub fn superclass(row: &[u8]) -> Option<ClassNumber>
     requires { class_width ≤ length row.now }
     ensures { result ≡ class_read (superclass_of row.now) }
 {
     ClassNumber::new(byte_at(row, SUPERCLASS) as usize)
 }
 
-pub fn naming_attribute(row: &[u8]) -> Naming
+// What names a record of the class: an attribute (rDNAttID), or nothing.
+pub fn naming_attribute(row: &[u8]) -> Option<AttributeNumber>
     requires { class_width ≤ length row.now }
     ensures { result ≡ naming_of row.now }
 {
     if !flag(row, NAMING) {
-        return Naming::Absent;
+        return None;
     }
-    let AttributeRead::Attribute(a) = AttributeNumber::new(byte_at(row, NAMING + 1) as usize) else {
-        return Naming::Absent;
-    };
-    Naming::By(a)
+    AttributeNumber::new(byte_at(row, NAMING + 1) as usize)
 }
 
 // The seven sets, each a part of the row.

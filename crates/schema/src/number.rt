@@ -5,58 +5,38 @@ ghost use Rattle.std.specs.Prelude.{◌≡◌, ◌+◌, ◌<◌, ◌≤◌, ltb}
 ghost use Rattle.schema.specs.Numbers.{class_limit, attribute_limit, limit, class_read, attribute_read, number_read};
 ghost use Rattle.schema.specs.Numbers.{place_id, row_id, table_of, number_of, same_table, same_row};
 
-#[derive(Clone, Copy)]
+#[derive(Clone, Copy, PartialEq, Eq)]
 pub struct ClassNumber(pub usize);
 
-#[derive(Clone, Copy)]
+#[derive(Clone, Copy, PartialEq, Eq)]
 pub struct AttributeNumber(pub usize);
 
-// What a number stands for where a class is meant.
-#[derive(Clone, Copy)]
-pub enum ClassRead {
-    Class(ClassNumber),
-    Beyond,
-}
-
-// What a number stands for where an attribute is meant.
-#[derive(Clone, Copy)]
-pub enum AttributeRead {
-    Attribute(AttributeNumber),
-    Beyond,
-}
-
 // The two tables.
-#[derive(Clone, Copy)]
+#[derive(Clone, Copy, PartialEq, Eq)]
 pub enum TableId {
     Attributes,
     Classes,
 }
 
 // A row of either table.
-#[derive(Clone, Copy)]
+#[derive(Clone, Copy, PartialEq, Eq)]
 pub enum RowId {
     Attribute(AttributeNumber),
     Class(ClassNumber),
-}
-
-// What a number from outside stands for where a row of a table is meant.
-#[derive(Clone, Copy)]
-pub enum NumberRead {
-    Row(RowId),
-    Beyond,
 }
 
 impl ClassNumber {
     // "at most 128 classes"
     pub const LIMIT: usize = 128;
 
-    pub fn new(n: usize) -> ClassRead
+    // The class that a number from outside stands for, below the limit.
+    pub fn new(n: usize) -> Option<ClassNumber>
         ensures { result ≡ class_read n }
     {
         if n < ClassNumber::LIMIT {
-            ClassRead::Class(ClassNumber(n))
+            Some(ClassNumber(n))
         } else {
-            ClassRead::Beyond
+            None
         }
     }
 }
@@ -65,13 +45,14 @@ impl AttributeNumber {
     // "and 256 attributes"
     pub const LIMIT: usize = 256;
 
-    pub fn new(n: usize) -> AttributeRead
+    // The attribute that a number from outside stands for, below the limit.
+    pub fn new(n: usize) -> Option<AttributeNumber>
         ensures { result ≡ attribute_read n }
     {
         if n < AttributeNumber::LIMIT {
-            AttributeRead::Attribute(AttributeNumber(n))
+            Some(AttributeNumber(n))
         } else {
-            AttributeRead::Beyond
+            None
         }
     }
 }
@@ -87,22 +68,12 @@ pub fn row_limit(table: TableId) -> usize
 }
 
 // A number from outside as a row of a table, there or not.
-pub fn number_read(table: TableId, n: usize) -> NumberRead
+pub fn number_read(table: TableId, n: usize) -> Option<RowId>
     ensures { result ≡ number_read table n }
 {
     match table {
-        TableId::Attributes => {
-            let AttributeRead::Attribute(a) = AttributeNumber::new(n) else {
-                return NumberRead::Beyond;
-            };
-            NumberRead::Row(RowId::Attribute(a))
-        }
-        TableId::Classes => {
-            let ClassRead::Class(c) = ClassNumber::new(n) else {
-                return NumberRead::Beyond;
-            };
-            NumberRead::Row(RowId::Class(c))
-        }
+        TableId::Attributes => AttributeNumber::new(n).map(RowId::Attribute),
+        TableId::Classes => ClassNumber::new(n).map(RowId::Class),
     }
 }
 
@@ -110,10 +81,7 @@ pub fn number_read(table: TableId, n: usize) -> NumberRead
 pub fn is_number(table: TableId, n: usize) -> bool
     ensures { result ≡ ltb n (limit table) }
 {
-    let NumberRead::Row(_) = number_read(table, n) else {
-        return false;
-    };
-    true
+    number_read(table, n).is_some()
 }
 
 // The number k of a class, and of an attribute, where something has checked k. What comes from outside passes through `new`.
@@ -176,24 +144,12 @@ pub fn number_of(id: RowId) -> usize
 pub fn same_table(a: TableId, b: TableId) -> bool
     ensures { result ≡ same_table a b }
 {
-    match a {
-        TableId::Attributes => match b {
-            TableId::Attributes => true,
-            TableId::Classes => false,
-        },
-        TableId::Classes => match b {
-            TableId::Attributes => false,
-            TableId::Classes => true,
-        },
-    }
+    a == b
 }
 
 // Whether two rows are one.
 pub fn same_row(a: RowId, b: RowId) -> bool
     ensures { result ≡ same_row (table_of a) (number_of a) (table_of b) (number_of b) }
 {
-    if same_table(table_of(a), table_of(b)) {
-        return number_of(a) == number_of(b);
-    }
-    false
+    a == b
 }

@@ -1,44 +1,34 @@
 // The right values of oMObjectClass, by syntax: what is stored where a row has none, and what a row may have.
 ghost use Rattle.std.specs.Prelude.{◌≡◌};
-ghost use Rattle.schema.specs.ObjectClasses.{object_classes, first_entry, Entries};
+ghost use Rattle.schema.specs.ObjectClasses.{first_object_class, object_class_fits};
 
-use crate::layout::OBJECT_CLASS_LIMIT;
-use prelude::number::byte_at;
-use prelude::part::row_of;
+use prelude::part::same;
 
-// An entry has the syntax, how many bytes the value has, and the value, padded as in a row.
-pub const ENTRY_WIDTH: usize = OBJECT_CLASS_LIMIT + 2;
-
-pub const ENTRY_COUNT: usize = 6;
-
-const OBJECT_CLASSES: [u8; ENTRY_WIDTH * ENTRY_COUNT] = [
-    1, 9, 0x2B, 0x0C, 0x02, 0x87, 0x73, 0x1C, 0x00, 0x85, 0x4A, 0, 0, 0, 0, 0, 0, 0, 7, 7, 0x56,
-    0x06, 0x01, 0x02, 0x05, 0x0B, 0x1D, 0, 0, 0, 0, 0, 0, 0, 0, 0, 7, 10, 0x2A, 0x86, 0x48, 0x86,
-    0xF7, 0x14, 0x01, 0x01, 0x01, 0x0B, 0, 0, 0, 0, 0, 0, 13, 9, 0x2B, 0x0C, 0x02, 0x87, 0x73,
-    0x1C, 0x00, 0x85, 0x5C, 0, 0, 0, 0, 0, 0, 0, 14, 9, 0x2B, 0x0C, 0x02, 0x87, 0x73, 0x1C, 0x00,
-    0x85, 0x3E, 0, 0, 0, 0, 0, 0, 0, 14, 10, 0x2A, 0x86, 0x48, 0x86, 0xF7, 0x14, 0x01, 0x01, 0x01,
-    0x0C, 0, 0, 0, 0, 0, 0,
+// A syntax, and a right value of it.
+const OBJECT_CLASSES: [(u8, &[u8]); 6] = [
+    (1, b"\x2B\x0C\x02\x87\x73\x1C\x00\x85\x4A"),
+    (7, b"\x56\x06\x01\x02\x05\x0B\x1D"),
+    (7, b"\x2A\x86\x48\x86\xF7\x14\x01\x01\x01\x0B"),
+    (13, b"\x2B\x0C\x02\x87\x73\x1C\x00\x85\x5C"),
+    (14, b"\x2B\x0C\x02\x87\x73\x1C\x00\x85\x3E"),
+    (14, b"\x2A\x86\x48\x86\xF7\x14\x01\x01\x01\x0C"),
 ];
 
-// The table.
-pub fn object_classes() -> [u8; ENTRY_WIDTH * ENTRY_COUNT]
-    ensures { result ≡ object_classes }
+// Whether a value is a right one of a syntax.
+pub fn object_class_fits(syntax: u8, value: &[u8]) -> bool
+    ensures { result ≡ object_class_fits syntax value.now }
 {
     OBJECT_CLASSES
+        .iter()
+        .any(|(s, right)| *s == syntax && same(value, right))
 }
 
-// The first entry of a table that has the syntax, and how many entries there are where none has.
-pub fn first_entry(table: &[u8], syntax: u8) -> usize
-    requires { Entries table.now }
-    ensures { result ≡ first_entry table.now syntax }
+// The first right value of a syntax, or no bytes where it has none.
+pub fn first_object_class(syntax: u8) -> &'static [u8]
+    ensures { result.now ≡ first_object_class syntax }
 {
-    let mut i = 0;
-    while i < ENTRY_COUNT {
-        let e = row_of(table, 0, ENTRY_WIDTH, i);
-        if byte_at(e, 0) == syntax {
-            return i;
-        }
-        i += 1;
+    match OBJECT_CLASSES.iter().find(|(s, _)| *s == syntax) {
+        Some((_, first)) => first,
+        None => b"",
     }
-    ENTRY_COUNT
 }

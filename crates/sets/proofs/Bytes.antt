@@ -2,20 +2,27 @@
 use mathlib.Core.Path.{◌≡◌, refl, sym, ap, ap₂, ◌∙◌}
 use mathlib.Core.List.{List}
 use mathlib.Core.Bool.{Bool, true, false, not, ◌&&◌, ◌||◌}
-use Prim.Native.Nat.{ℕ, zero, suc, ◌+◌, ◌*◌, ◌/◌, ◌%◌, ◌^◌, ◌≤◌, ◌<◌, min, max}
+use Prim.Native.Nat.{ℕ, zero, suc, ◌+◌, ◌-◌, ◌*◌, ◌/◌, ◌%◌, ◌^◌, ◌≤◌, ◌<◌, min, max}
 use native.Mathlib.Nat.{pow-suc, mul-mod_left, mul-div_cancel, zero-lt-suc, mod-lt, min-le_left, lt_of_le_of_lt, one-mul, le_refl}
 use native.Mathlib.Omega.{arith}
+use native.Mathlib.Numerals.{add-one}
+use mir.Syntax.{w8}
+use Rattle.std.proofs.lemmas.Nat.Bits.{bit_at_not}
 use native.Mathlib.Decide.{ℕ_discrete, dec_lt}
 use lib.Arith.{digits_mod}
 use lib.Pow.{shl_exact}
-use lib.Bits.{bit_or, bit_and, bit_xor, differ, or_step, and_step, xor_step, or_shr, and_shr, xor_shr, or_lt, xor_lt, and_lt}
+use lib.Bits.{bit_or, bit_and, or_step, and_step, or_shr, and_shr, or_lt, and_lt}
 use lib.Dec.{eqb}
-use lib.ListN.{length, get_or, set, length-set}
+use lib.ListN.{length, get_or, set, length-set, take}
+use Rattle.std.specs.List.{sum_by}
+use Rattle.std.specs.Int.Count.{ones}
+use Rattle.std.proofs.lemmas.List.Sums.{sum_by_more}
+use Rattle.sets.specs.CountLaws.{count_byte}
 use lib.Seq.{get_or-set_same, get_or-set_other}
 use Rattle.prelude.specs.BelowLaws.{says_all}
 use Rattle.prelude.specs.Part.{is_zero}
 use Rattle.prelude.specs.SaysLaws.{says_iff, says_same, says_eq, says_true, says_false}
-use Rattle.sets.specs.Sets.{flag, digit, bit, member, set_of, with_member, without_member, union, is_empty}
+use Rattle.sets.specs.Sets.{flag, digit, bit, member, count_below, set_of, with_member, without_member, union, is_empty}
 use Rattle.sets.specs.SetsLaws.{digit_lt, digit_zero, digit_suc, no_digit, digit_ext, digit_bit, bit_past, bit_flag, is_set, set_bytes, bit_set}
 use Rattle.sets.specs.SetsLaws.{flag_or, flag_and, or-false, and_true, says_empty}
 
@@ -33,17 +40,6 @@ module _ (a b k : ℕ) where
   digit_and =
       ap (λ (y : ℕ). y % 2) (and_shr a b k ∙ and_step (a / 2 ^ k) (b / 2 ^ k))
       ∙ digits_mod (bit_and (a / 2 ^ k / 2) (b / 2 ^ k / 2)) (lt_of_le_of_lt (min-le_left (digit a k) (digit b k)) (digit_lt a k))
-
-  digit_xor : digit (bit_xor a b) k ≡ differ (digit a k) (digit b k)
-  unfolding digit
-  digit_xor =
-      ap (λ (y : ℕ). y % 2) (xor_shr a b k ∙ xor_step (a / 2 ^ k) (b / 2 ^ k))
-      ∙ digits_mod (bit_xor (a / 2 ^ k / 2) (b / 2 ^ k / 2)) (differ_lt (digit a k) (digit b k) (digit_lt a k) (digit_lt b k))
-    where
-      differ_lt : (x y : ℕ) → x < 2 → y < 2 → differ x y < 2
-      differ_lt zero y hx hy = hy
-      differ_lt (suc x) zero hx hy = hx
-      differ_lt (suc x) (suc y) hx hy = differ_lt x y (omega arith) (omega arith)
 
 -- the digits of a power of two
 digit_pow : (m j : ℕ) → digit (2 ^ m) j ≡ flag (eqb j m)
@@ -80,12 +76,18 @@ module _ (n : ℕ) where
       ap (λ (x : ℕ). digit x (k % 8)) mask_is ∙ digit_pow (n % 8) (k % 8)
       ∙ ap flag (says_same (says_iff (says_eq (k % 8) (n % 8)) (λ h. omega arith, λ h. ap (λ (x : ℕ). x % 8) h)) (says_eq k n))
 
--- the digit that is left of x where y is taken out of it
-differ_min : (x : ℕ) → x < 2 → (b : Bool) → differ x (min x (flag b)) ≡ min x (flag (not b))
-differ_min zero h b = omega arith
-differ_min (suc zero) h true = refl
-differ_min (suc zero) h false = refl
-differ_min (suc (suc x)) h b = absurd (omega arith)
+  mask_small : mask n < 256
+  mask_small = mod-lt (1 * 2 ^ (n % 8)) (zero-lt-suc 255)
+
+  -- and the same of `!(1u8 << (n % 8))`
+  unmasked_digit : (k : ℕ) → k / 8 ≡ n / 8 → digit (255 - mask n) (k % 8) ≡ flag (not (eqb k n))
+  unfolding digit
+  unmasked_digit k e =
+      bit_at_not w8 (mask n) (k % 8) mask_small (mod-lt k (zero-lt-suc 7)) ∙ ap (λ (x : ℕ). 1 - x) (mask_digit k e) ∙ opposite (eqb k n)
+    where
+      opposite : (b : Bool) → 1 - flag b ≡ flag (not b)
+      opposite true = refl
+      opposite false = refl
 
 -- ---- a byte stored in a set
 
@@ -112,26 +114,19 @@ module _ (s : List ℕ) (n : ℕ) (bytes : (j : ℕ) → get_or s j 0 < 256) (l 
   unfolding bit
   own_digit k e = ap (λ (j : ℕ). digit (get_or s j 0) (k % 8)) (sym e) ∙ bit_flag s k
 
-  mask_small : mask n < 256
-  mask_small = mod-lt (1 * 2 ^ (n % 8)) (zero-lt-suc 255)
-
   pub inserted : set s (n / 8) (bit_or own (mask n)) ≡ with_member n s
   unfolding with_member
   inserted =
-      stored s (n / 8) (bit_or own (mask n)) (λ k. member s k || eqb k n) bytes l (or_lt 8 own (mask n) (bytes (n / 8)) mask_small)
+      stored s (n / 8) (bit_or own (mask n)) (λ k. member s k || eqb k n) bytes l (or_lt 8 own (mask n) (bytes (n / 8)) (mask_small n))
       (λ k e. digit_or own (mask n) (k % 8) ∙ ap₂ max (own_digit k e) (mask_digit n k e) ∙ sym (flag_or (member s k) (eqb k n)))
       (λ k d. bit_flag s k ∙ ap flag (sym (or-false (member s k) (eqb k n) (says_false (says_eq k n) (λ e. d (ap (λ (x : ℕ). x / 8) e))))))
 
-  pub removed : set s (n / 8) (bit_xor own (bit_and own (mask n))) ≡ without_member n s
+  pub removed : set s (n / 8) (bit_and own (255 - mask n)) ≡ without_member n s
   unfolding without_member
   removed =
-      stored s (n / 8) (bit_xor own (bit_and own (mask n))) (λ k. member s k && not (eqb k n)) bytes l
-      (xor_lt 8 own (bit_and own (mask n)) (bytes (n / 8)) (and_lt 8 own (mask n) (bytes (n / 8)) mask_small))
-      (λ k e.
-      digit_xor own (bit_and own (mask n)) (k % 8) ∙ ap (differ (digit own (k % 8))) (digit_and own (mask n) (k % 8))
-      ∙ ap (λ (x : ℕ). differ (digit own (k % 8)) (min (digit own (k % 8)) x)) (mask_digit n k e)
-      ∙ differ_min (digit own (k % 8)) (digit_lt own (k % 8)) (eqb k n)
-      ∙ ap (λ (x : ℕ). min x (flag (not (eqb k n)))) (own_digit k e) ∙ sym (flag_and (member s k) (not (eqb k n))))
+      stored s (n / 8) (bit_and own (255 - mask n)) (λ k. member s k && not (eqb k n)) bytes l
+      (and_lt 8 own (255 - mask n) (bytes (n / 8)) (omega arith))
+      (λ k e. digit_and own (255 - mask n) (k % 8) ∙ ap₂ min (own_digit k e) (unmasked_digit n k e) ∙ sym (flag_and (member s k) (not (eqb k n))))
       (λ k d. bit_flag s k ∙ ap flag (sym (and_true (member s k) (not (eqb k n)) (ap not (says_false (says_eq k n) (λ e. d (ap (λ (x : ℕ). x / 8) e)))))))
 
 -- ---- a byte of a union
@@ -187,3 +182,12 @@ pub zero_empty : (s : List ℕ) → ((i : ℕ) → get_or s i 0 < 256) → is_ze
 unfolding is_zero
 zero_empty s b =
     says_same (says_iff (says_all (length s) (λ i l. says_eq (get_or s i 0) 0)) (no_bytes s, λ h i l. no_members s i (b i) h)) (says_empty s)
+
+-- ---- the members counted
+
+-- the ones of the first bytes
+pub counted : (s : List ℕ) → ((i : ℕ) → get_or s i 0 < 256) → (i : ℕ) → i ≤ length s → sum_by ones (take i s) ≡ count_below (i * 8) (member s)
+unfolding count_below
+counted s b zero l = refl
+counted s b (suc i) l =
+    rw (← add-one i) (sum_by_more ones s i 0 (omega arith) ∙ ap (λ (n : ℕ). n + ones (get_or s i 0)) (counted s b i (omega arith)) ∙ sym (count_byte s i (b i)))

@@ -2,7 +2,7 @@
 // of the slice that holds it: 16 bytes for classes, 32 for attributes.
 #![tactic(auto)]
 
-ghost use Rattle.std.specs.Prelude.{◌≡◌, ◌*◌, ◌/◌, ◌≤◌, ◌<◌, length};
+ghost use Rattle.std.specs.Prelude.{◌≡◌, ◌*◌, ◌≤◌, length};
 ghost use Rattle.prelude.specs.Below.{first_below};
 ghost use Rattle.sets.specs.Sets.{member, with_member, without_member, union, subset, is_empty, member_count, from};
 
@@ -12,21 +12,7 @@ use prelude::part::is_zero;
 pub fn has(s: &[u8], n: usize) -> bool
     ensures { result ≡ member s.now n }
 {
-    let at = n / 8;
-    if at < s.len() {
-        (s[at] >> (n % 8)) % 2 == 1
-    } else {
-        false
-    }
-}
-
-// Makes n, which s has room for, a member of s.
-fn insert_within(s: &mut [u8], n: usize)
-    requires { n / 8 < length s.old }
-    ensures { s.new ≡ with_member n s.old }
-{
-    let at = n / 8;
-    s[at] = s[at] | (1u8 << (n % 8));
+    n / 8 < s.len() && s[n / 8] >> (n % 8) & 1 == 1
 }
 
 // Makes n a member of s; a number that s has no room for is left out.
@@ -34,17 +20,8 @@ pub fn insert(s: &mut [u8], n: usize)
     ensures { s.new ≡ with_member n s.old }
 {
     if n / 8 < s.len() {
-        insert_within(s, n);
+        s[n / 8] |= 1 << (n % 8);
     }
-}
-
-// Takes n, which s has room for, out of s.
-fn remove_within(s: &mut [u8], n: usize)
-    requires { n / 8 < length s.old }
-    ensures { s.new ≡ without_member n s.old }
-{
-    let at = n / 8;
-    s[at] = s[at] ^ (s[at] & (1u8 << (n % 8)));
 }
 
 // Takes n out of s.
@@ -52,7 +29,7 @@ pub fn remove(s: &mut [u8], n: usize)
     ensures { s.new ≡ without_member n s.old }
 {
     if n / 8 < s.len() {
-        remove_within(s, n);
+        s[n / 8] &= !(1 << (n % 8));
     }
 }
 
@@ -61,10 +38,8 @@ pub fn join(a: &mut [u8], b: &[u8])
     requires { length b.now ≡ length a.old }
     ensures { a.new ≡ union a.old b.now }
 {
-    let mut i = 0;
-    while i < b.len() {
-        a[i] = a[i] | b[i];
-        i += 1;
+    for (i, x) in b.iter().enumerate() {
+        a[i] |= *x;
     }
 }
 
@@ -73,14 +48,7 @@ pub fn is_subset(a: &[u8], b: &[u8]) -> bool
     requires { length a.now ≤ length b.now }
     ensures { result ≡ subset a.now b.now }
 {
-    let mut i = 0;
-    while i < a.len() {
-        if a[i] | b[i] != b[i] {
-            return false;
-        }
-        i += 1;
-    }
-    true
+    a.iter().zip(b).all(|(x, y)| *x | *y == *y)
 }
 
 // Whether s has no member.
@@ -95,13 +63,7 @@ pub fn count(s: &[u8]) -> usize
     requires { length s.now ≤ 8192 }
     ensures { result ≡ member_count s.now }
 {
-    let mut n: usize = 0;
-    let mut i = 0;
-    while i < s.len() {
-        n += u8::count_ones(s[i]) as usize;
-        i += 1;
-    }
-    n
+    s.iter().map(|b| b.count_ones() as usize).sum()
 }
 
 // The first member of s from start on, or 8 times the length where there is none: what a listing in rising order goes by.
@@ -110,12 +72,5 @@ pub fn next(s: &[u8], start: usize) -> usize
     ensures { result ≡ first_below (length s.now * 8) (from start (member s.now)) }
 {
     let end = s.len() * 8;
-    let mut n = start;
-    while n < end {
-        if has(s, n) {
-            return n;
-        }
-        n += 1;
-    }
-    end
+    (start..end).find(|n| has(s, *n)).unwrap_or(end)
 }

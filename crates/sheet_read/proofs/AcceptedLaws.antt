@@ -11,17 +11,17 @@ use Rattle.schema.specs.declared.number.TableId.{TableId}
 use Rattle.schema.specs.declared.number.TableId.TheVariants.{Attributes, Classes}
 use Rattle.schema.specs.Numbers.{limit}
 use Rattle.rows_format.specs.declared.format.Format.{Format}
-use Rattle.rows_read.specs.declared.read.RowRead.{RowRead}
+use Rattle.rows_read.specs.RowRead.{RowRead}
 use Rattle.rows_read.specs.Reading.{out}
 use Rattle.rows_read.specs.StoppingLaws.{value_stops}
 use Rattle.rows_read.specs.PlaceLaws.{field_stands}
 use Rattle.sheet_read.specs.declared.read.Phase.{Phase}
 use Rattle.sheet_read.specs.declared.read.Phase.TheVariants.{Start, InRows}
-use Rattle.sheet_read.specs.declared.read.SheetTag.TheVariants.{Heading, Row, Unknown}
+use Rattle.sheet_read.specs.SheetTag.{Heading, Row, Unknown}
 use Rattle.sheet_read.specs.Reading.{Rows, heading_open, is_heading, no_rows, plus, position, row_out, rows_in, rows_open, sheet_tag}
 use Rattle.sheet_read.specs.Stopping.{AcceptedTo, HeadingValue, RowStands, RowStops, Stands, row_tag, rows_given, rows_of}
 use Rattle.sheet_read.proofs.TurnLaws.{heading_turn, row_turn_lem, stands_on, stands_start}
-use Rattle.rows_read.specs.declared.read.RowRead.TheVariants as row
+use Rattle.rows_read.specs.RowRead as row
 use Rattle.sheet_read.proofs.TurnLaws as turns
 
 -- ---- tags
@@ -139,7 +139,7 @@ module _ (s : List ℕ) where
       record {
         phase = InRows Attributes;
         missing = false;
-        stands = stands_on (stands_start s) l _ turn stop _ _ refl;
+        stands = stands_on (stands_start s) l _ turn _ refl;
         state = heading_state start_state refl refl;
       }
 
@@ -153,7 +153,7 @@ module _ (s : List ℕ) where
         let turn = row_turn_lem s at o.phase o.missing x (row_tag t) (at + 3) stop (field_stands f) t (row_out t s (at + 3) stop).row
         (row_tag_lem t refl) free (omega (arith, o.state.held t))
         (ap (λ (y : RowRead). out y (row_out t s (at + 3) stop).row) read) in
-        stands_on o.stands l _ turn stop _ _ refl
+        stands_on o.stands l _ turn _ refl
 
     attribute_comes : c ≡ 0 → a < limit Attributes → RowStands Attributes s at stop
         → Comes s h (suc a) 0 stop (plus Attributes (row_out Attributes s (at + 3) stop).row x)

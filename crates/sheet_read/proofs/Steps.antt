@@ -1,4 +1,5 @@
 -- Each way that reading a field of a sheet can go, from what the code's tests leave.
+use Rattle.std.specs.Prelude.{Err, Some}
 use mathlib.Core.Bool.{Bool, cond, false, true}
 use mathlib.Core.List.{List, ◌++◌}
 use mathlib.Core.Path.{◌≡◌, ap, refl, sym, ◌∙◌}
@@ -11,8 +12,12 @@ use lib.Seq.{take_at}
 use Rattle.prelude.specs.SaysLaws.{says_eq, says_false, says_true}
 use Rattle.prelude.specs.Part.{Bytes, part, zeros}
 use Rattle.prelude.specs.PartLaws.{part_zeros, zeros_length}
-use Rattle.wire.specs.declared.FieldRead.{FieldRead}
+use Rattle.wire.specs.FieldRead.{FieldRead}
+use Rattle.wire.specs.declared.BadField.{BadField}
 use Rattle.wire.specs.Wire.{field_at}
+use Rattle.wire.specs.WireLaws.{field_bad}
+use Rattle.sheet_read.specs.declared.read.SheetError.{SheetError}
+use Rattle.std.proofs.Math.Logic.{inl, inr, ◌⊎◌}
 use Rattle.schema.specs.declared.number.TableId.TheVariants.{Attributes, Classes}
 use Rattle.schema.specs.declared.number.TableId.{TableId}
 use Rattle.schema.specs.Store.{count_in, store_of}
@@ -22,24 +27,25 @@ use Rattle.schema.specs.LayoutLaws.{narrow_row}
 use Rattle.tables.specs.Filled.{plus_in}
 use Rattle.tables.specs.FilledLaws.{store_count, store_plus}
 use Rattle.rows_format.specs.declared.format.Format.{Format}
-use Rattle.rows_read.specs.declared.read.RowRead.{RowRead}
-use Rattle.rows_read.specs.Reading.{Out, out, row_answer}
+use Rattle.rows_read.specs.RowRead.{RowRead}
+use Rattle.rows_read.specs.Reading.{Out, out}
 use Rattle.rows_read.specs.ObjectClass.{read_row}
-use Rattle.sheet_read.specs.Held.{Lent, HasRoom, Held, room_in, room_turn, store_with, Steps}
-use Rattle.sheet_read.specs.declared.read.Turn.{Turn}
-use Rattle.sheet_read.specs.declared.read.SheetTag.{SheetTag}
-use Rattle.sheet_read.specs.declared.read.SheetTag.TheVariants.{Heading, Row, Unknown}
+use Rattle.sheet_read.specs.Held.{Lent, HasRoom, Held, room_in, store_with, Steps}
+use Rattle.sheet_read.specs.Turn.{Turn}
+use Rattle.sheet_read.specs.SheetTag.{SheetTag}
+use Rattle.sheet_read.specs.declared.read.SheetTag as declared
+use Rattle.sheet_read.specs.SheetTag.{Heading, Row, Unknown}
 use Rattle.sheet_read.specs.declared.read.Phase.{Phase}
-use Rattle.sheet_read.specs.declared.read.Turn.TheVariants.{On, Stop}
-use Rattle.sheet_read.specs.declared.read.Room.{Room}
-use Rattle.sheet_read.specs.declared.read.SheetRead.TheVariants.{Bad}
-use Rattle.sheet_read.specs.declared.read.Phase.TheVariants.{InRows}
+use Rattle.sheet_read.specs.Turn.{On, Stop}
+use Rattle.sheet_read.specs.Room.{Room}
+use Rattle.sheet_read.specs.declared.read.Phase.TheVariants.{Start, InRows}
 use Rattle.sheet_read.specs.Reading.{Rows, field_step, heading_open, take_heading, is_heading, is_read, plus, position, room_at, room_step, rows_in}
 use Rattle.sheet_read.specs.Reading.{rows_with, sheet_tag, step, take_field, take_tagged, row_out, take_table_row, row_turn, Step, rows_open}
 use Rattle.sheet_read.specs.ReadingLaws.{more_fit, row_out_wide}
-use Rattle.wire.specs.declared.FieldRead.TheVariants as fields
-use Rattle.rows_read.specs.declared.read.RowRead.TheVariants as row
-use Rattle.sheet_read.specs.declared.read.Room.TheVariants as room
+use Rattle.wire.specs.FieldRead as fields
+use Rattle.rows_read.specs.RowRead as row
+use Rattle.sheet_read.specs.Room as room
+use Rattle.sheet_read.specs.declared.read.SheetError.TheVariants as error
 
 -- ---- what the stores hold
 
@@ -121,22 +127,27 @@ held_with t {x} {a} {c} {attributes} {classes} h o wide l = go o.answer refl
         → Held (cond (is_read r) (plus t o.row x) x) a c (new_attributes t (cond (is_read r) (plus_in t o.row attributes) attributes) attributes)
         (new_classes t (cond (is_read r) (plus_in t o.row classes) classes) classes)
     go row.Read e = held_plus h o.row t (wide (λ i. record { answer = e i; row = o.row })) l
-    go (row.Bad at) e = held_same t h
+    go (Err bad) e = held_same t h
 
 -- ---- the heading
 
-module _ (s : List ℕ) (at start stop : ℕ) (phase : Phase) (n : ℕ) (is : n ≡ position phase) where
-  pub heading_late : ¬ (n ≡ 0) → Stop (Bad at) ≡ take_heading s at start stop phase
-  unfolding take_heading heading_open
-  heading_late d = rw (says_false (says_eq (position phase) 0) (λ e. d (is ∙ e)))
+module _ (s : List ℕ) (at start stop : ℕ) (phase : Phase) where
+  pub heading_late : ¬ (phase ≡ Start) → Stop (error.Bad at) ≡ take_heading s at start stop phase
+  unfolding take_heading heading_open position
+  heading_late d = go phase d
+    where
+      go : (p : Phase) → ¬ (p ≡ Start) → Stop (error.Bad at) ≡ take_heading s at start stop p
+      go Start d = absurd (d refl)
+      go (InRows Attributes) d = refl
+      go (InRows Classes) d = refl
 
-  pub heading_yes : n ≡ 0 → is_heading s start stop ≡ true → On stop (InRows Attributes) false ≡ take_heading s at start stop phase
-  unfolding take_heading heading_open
-  heading_yes e f = rw (says_true (says_eq (position phase) 0) (sym is ∙ e), f)
+  pub heading_yes : phase ≡ Start → is_heading s start stop ≡ true → On stop (InRows Attributes) false ≡ take_heading s at start stop phase
+  unfolding take_heading heading_open position
+  heading_yes e f = rw (e, f)
 
-  pub heading_no : n ≡ 0 → is_heading s start stop ≡ false → Stop (Bad at) ≡ take_heading s at start stop phase
-  unfolding take_heading heading_open
-  heading_no e f = rw (says_true (says_eq (position phase) 0) (sym is ∙ e), f)
+  pub heading_no : phase ≡ Start → is_heading s start stop ≡ false → Stop (error.Bad at) ≡ take_heading s at start stop phase
+  unfolding take_heading heading_open position
+  heading_no e f = rw (e, f)
 
 -- ---- a field of the sheet
 
@@ -147,13 +158,9 @@ module _ (s : List ℕ) (at : ℕ) (phase : Phase) (missing : Bool) {x : Rows} {
   room_found = ap (λ (g : SheetTag). room_at g x) (sym is) ∙ sym (room_same h tag) ∙ sym found
 
   -- no room: reading stops
-  pub step_full : ¬ (r ≡ room.Free) → step (room_turn r) x ≡ take_field s at phase missing x
-  unfolding take_field
-  step_full d = go r d ∙ ap (λ (q : Room). room_step q x (field_step (field_at s at (length s)) s at phase missing x)) (sym room_found)
-    where
-      go : (q : Room) → ¬ (q ≡ room.Free) → step (room_turn q) x ≡ room_step q x (field_step (field_at s at (length s)) s at phase missing x)
-      go (room.Full t) d = unfold room_turn room_step in refl
-      go room.Free d = absurd (d refl)
+  pub step_full : (error : SheetError) → r ≡ Err error → step (Stop error) x ≡ take_field s at phase missing x
+  unfolding take_field room_step
+  step_full error e = ap (λ (q : Room). room_step q x (field_step (field_at s at (length s)) s at phase missing x)) (sym (room_found ∙ e))
 
   -- room: it goes by the field
   pub step_field : r ≡ room.Free → field_step (field_at s at (length s)) s at phase missing x ≡ take_field s at phase missing x
@@ -165,23 +172,29 @@ module _ (s : List ℕ) (at : ℕ) (phase : Phase) (missing : Bool) {x : Rows} {
   unfolding field_step
   step_whole e f b start stop p q = ap (λ (g : FieldRead). field_step g s at phase missing x) (sym q ∙ p) ∙ step_field e
 
-  pub step_cut : r ≡ room.Free → (f : FieldRead) → f ≡ field_at s at (length s) → ((b start stop : ℕ) → ¬ (f ≡ fields.Field b start stop))
-      → step (Stop (Bad at)) x ≡ take_field s at phase missing x
-  step_cut e f p none = cut f none ∙ ap (λ (g : FieldRead). field_step g s at phase missing x) p ∙ step_field e
-    where
-      cut : (g : FieldRead) → ((b start stop : ℕ) → ¬ (g ≡ fields.Field b start stop)) → step (Stop (Bad at)) x ≡ field_step g s at phase missing x
-      cut (fields.Field b start stop) n = absurd (n b start stop refl)
-      cut fields.End n = unfold field_step in refl
-      cut (fields.Bad place) n = unfold field_step in refl
+  pub step_cut : r ≡ room.Free → (f : FieldRead) (bad : BadField) → f ≡ field_at s at (length s) → f ≡ Err bad
+      → step (Stop (error.Bad bad.at)) x ≡ take_field s at phase missing x
+  unfolding field_step
+  step_cut e f bad p q =
+      ap (λ (n : ℕ). step (Stop (error.Bad n)) x) (field_bad s at (length s) bad (sym p ∙ q))
+      ∙ ap (λ (g : FieldRead). field_step g s at phase missing x) (sym q ∙ p) ∙ step_field e
 
--- ---- what `let .. else` leaves
+  -- the end: the code has asked before, and does not come here
+  pub step_end : r ≡ room.Free → (f : FieldRead) → f ≡ field_at s at (length s) → f ≡ fields.End → step (Stop (error.Bad at)) x ≡ take_field s at phase missing x
+  unfolding field_step
+  step_end e f p q = ap (λ (g : FieldRead). field_step g s at phase missing x) (sym q ∙ p) ∙ step_field e
+
+-- ---- room
+
+-- what a tag stands for, by the two parts of a pattern
+pub tag_told : {tag : SheetTag} {y z : declared.SheetTag} → tag ≡ Some y → y ≡ z → tag ≡ Some z
+tag_told p q = p ∙ ap Some q
 
 -- no row is announced
-pub no_row : (tag : SheetTag) (a c : List ℕ) → ((t : TableId) → tag ≡ Row t → ⊥) → room.Free ≡ room_in tag a c
+pub no_row : (tag : SheetTag) (a c : List ℕ) → (tag ≡ Heading) ⊎ (tag ≡ Unknown) → room.Free ≡ room_in tag a c
 unfolding room_in
-no_row Heading a c h = refl
-no_row (Row t) a c h = absurd (h t refl)
-no_row Unknown a c h = refl
+no_row tag a c (inl e) = rw e
+no_row tag a c (inr e) = rw e
 
 -- the room that a row of a table has
 module _ (t : TableId) (a c : List ℕ) (tag : SheetTag) (is : tag ≡ Row t) (n m : ℕ) (counted : n ≡ count_in t (store_of t a c)) (limits : m ≡ limit t) where
@@ -255,10 +268,10 @@ module _ (t : TableId) (s : List ℕ) (start stop w : ℕ) (scratch : List ℕ) 
   read_in_yes f store new store' p q =
       (answer_is, q ∙ ap (λ (x : List ℕ). plus_in t x store) (p ∙ row_is) ∙ sym (rw (← answer_is, f)))
 
-  pub read_in_no : (at : ℕ) → r ≡ row.Bad at → (store : List ℕ) → (r ≡ (row_out t s start stop).answer)
+  pub read_in_no : (bad : BadField) → r ≡ Err bad → (store : List ℕ) → (r ≡ (row_out t s start stop).answer)
       × (store ≡ store_with t (row_out t s start stop) store)
   unfolding store_with
-  read_in_no at f store = (answer_is, sym (rw (← answer_is, f)))
+  read_in_no bad f store = (answer_is, sym (rw (← answer_is, f)))
 
 -- the turn by what reading a row comes to
 module _ (t : TableId) (stop : ℕ) (missing : Bool) (r : RowRead) where
@@ -266,9 +279,9 @@ module _ (t : TableId) (stop : ℕ) (missing : Bool) (r : RowRead) where
   unfolding row_turn
   row_on e = rw e
 
-  pub row_stop : (at place : ℕ) → r ≡ row.Bad at → place ≡ (row_answer r).place → Stop (Bad place) ≡ row_turn t stop missing r
+  pub row_stop : (bad : BadField) → r ≡ Err bad → Stop (error.Bad bad.at) ≡ row_turn t stop missing r
   unfolding row_turn
-  row_stop at place e p = ap (λ (x : ℕ). Stop (Bad x)) (p ∙ ap (λ (x : RowRead). (row_answer x).place) e) ∙ rw e
+  row_stop bad e = rw e
 
 -- the table is known
 pub as_attributes : (t : TableId) → t ≡ Attributes → (new old : List ℕ) → new ≡ new_attributes t new old
@@ -306,10 +319,10 @@ module _ (s : List ℕ) (at : ℕ) (phase : Phase) (missing : Bool) (start stop 
   unfolding take_tagged
   tagged_row t e o = rw (e, o)
 
-  pub tagged_late : (t : TableId) → tag ≡ Row t → rows_open phase t ≡ false → step (Stop (Bad at)) x ≡ take_tagged tag s at phase missing start stop x
+  pub tagged_late : (t : TableId) → tag ≡ Row t → rows_open phase t ≡ false → step (Stop (error.Bad at)) x ≡ take_tagged tag s at phase missing start stop x
   unfolding take_tagged
   tagged_late t e o = rw (e, o)
 
-  pub tagged_unknown : tag ≡ Unknown → step (Stop (Bad at)) x ≡ take_tagged tag s at phase missing start stop x
+  pub tagged_unknown : tag ≡ Unknown → step (Stop (error.Bad at)) x ≡ take_tagged tag s at phase missing start stop x
   unfolding take_tagged
   tagged_unknown e = rw e

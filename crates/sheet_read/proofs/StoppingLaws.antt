@@ -1,5 +1,5 @@
 -- Reading a sheet comes to what `SheetStops` says, and to nothing else.
-use Rattle.std.specs.Prelude.{Bool, ◌&&◌, false, List, ◌↔◌, ◌⊎◌, ◌≡◌, refl, ℕ, suc, zero, ◌+◌, ◌≤◌, ◌<◌, get_or}
+use Rattle.std.specs.Prelude.{Bool, ◌&&◌, false, List, ◌↔◌, ◌⊎◌, ◌≡◌, refl, ℕ, suc, zero, ◌+◌, ◌≤◌, ◌<◌, get_or, Err}
 use Rattle.std.proofs.Math.Bool.{cond, true}
 use Rattle.std.proofs.Math.Logic.{inl, inr, ⊎_elim}
 use Rattle.std.proofs.Math.Path.{ap}
@@ -10,19 +10,20 @@ use Rattle.std.proofs.Math.ListN.{length}
 use Rattle.prelude.specs.BigEndian.{big_endian}
 use Rattle.prelude.specs.SaysLaws.{says_and, says_eq, says_false, says_le, says_split, says_true}
 use Rattle.wire.specs.Wire.{field_at}
-use Rattle.wire.specs.declared.FieldRead.{FieldRead}
+use Rattle.wire.specs.FieldRead.{FieldRead}
 use Rattle.schema.specs.declared.number.TableId.{TableId}
 use Rattle.schema.specs.declared.number.TableId.TheVariants.{Attributes, Classes}
 use Rattle.schema.specs.Numbers.{limit}
 use Rattle.rows_read.specs.PlaceLaws.{field_cut, field_stands}
-use Rattle.rows_read.specs.declared.read.RowRead.{RowRead}
+use Rattle.rows_read.specs.RowRead.{RowRead}
 use Rattle.rows_read.specs.Stopping.{FieldCut}
-use Rattle.sheet_read.specs.declared.read.SheetRead.{SheetRead}
-use Rattle.sheet_read.specs.declared.read.SheetRead.TheVariants.{Read, Bad, Full}
-use Rattle.sheet_read.specs.declared.read.SheetTag.{SheetTag}
-use Rattle.sheet_read.specs.declared.read.SheetTag.TheVariants.{Heading, Row, Unknown}
-use Rattle.sheet_read.specs.declared.read.Turn.{Turn}
-use Rattle.sheet_read.specs.declared.read.Turn.TheVariants.{Stop}
+use Rattle.sheet_read.specs.SheetRead.{SheetRead}
+use Rattle.sheet_read.specs.declared.read.SheetError.{SheetError}
+use Rattle.sheet_read.specs.SheetRead.{Read, Bad, Full}
+use Rattle.sheet_read.specs.SheetTag.{SheetTag}
+use Rattle.sheet_read.specs.SheetTag.{Heading, Row, Unknown}
+use Rattle.sheet_read.specs.Turn.{Turn}
+use Rattle.sheet_read.specs.Turn.{Stop}
 use Rattle.sheet_read.specs.Reading.{Rows, SheetOut, Step, field_step, heading_open, is_heading, read_sheet, room_at, room_step, row_out}
 use Rattle.sheet_read.specs.Reading.{row_turn, rows_in, rows_open, sheet_tag, take_field, take_heading, take_table_row, take_tagged}
 use Rattle.sheet_read.specs.Stopping.{AcceptedTo, HeadingValue, NoRoom, RowStands, RowStops, SheetStops, Stands, Unacceptable, row_tag}
@@ -30,9 +31,10 @@ use Rattle.sheet_read.specs.Stopping.{rows_given, rows_of}
 use Rattle.sheet_read.proofs.TurnLaws.{stands_end, stands_stop, tagged_is}
 use Rattle.sheet_read.proofs.AcceptedLaws.{Comes, Kind, a_heading, a_row, classes_open, comes, heading_tag, kind, neither}
 use Rattle.sheet_read.proofs.AcceptedLaws.{row_stops, row_tag_lem, says_heading, unknown_tag}
-use Rattle.rows_read.specs.declared.read.RowRead.TheVariants as row
-use Rattle.sheet_read.specs.declared.read.Room.{Room}
-use Rattle.sheet_read.specs.declared.read.Room.TheVariants as room
+use Rattle.rows_read.specs.RowRead as row
+use Rattle.sheet_read.specs.Room.{Room}
+use Rattle.sheet_read.specs.Room as room
+use Rattle.sheet_read.specs.declared.read.SheetError.TheVariants as error
 
 module _ (s : List ℕ) where
   -- ---- from the statement to the answer: reading has come to a place, and what stands there ends it
@@ -41,8 +43,8 @@ module _ (s : List ℕ) where
     abbrev turn : Turn
     turn = (take_field s at o.phase o.missing x).turn
 
-    answered : {read : SheetRead} → at < length s → turn ≡ Stop read → (read_sheet s).answer ≡ read
-    answered {read} l e = ap (λ (x : SheetOut). x.answer) (stands_stop o.stands l _ refl read e)
+    answered : {error : SheetError} → at < length s → turn ≡ Stop error → (read_sheet s).answer ≡ Err error
+    answered {error} l e = ap (λ (x : SheetOut). x.answer) (stands_stop o.stands l _ refl error e)
 
     -- the end
     ended : (b : Bool) → o.missing ≡ b → at ≡ length s → (read_sheet s).answer ≡ cond b (Bad at) Read
@@ -54,7 +56,7 @@ module _ (s : List ℕ) where
     by_room e = ap (λ (r : Room). (room_step r x (field_step (field_at s at (length s)) s at o.phase o.missing x)).turn) e
 
     -- the tag of a row for which there is no room
-    no_room : (t : TableId) → NoRoom t s a c at → turn ≡ Stop (Full t)
+    no_room : (t : TableId) → NoRoom t s a c at → turn ≡ Stop (error.Full t)
     unfolding room_at room_step
     no_room t n =
         let is : eqb (length (rows_in t x)) (limit t) ≡ true =
@@ -82,7 +84,7 @@ module _ (s : List ℕ) where
               (λ q. free t (record { before = l; tagged = e; filled = sym (o.state.held t) ∙ q })))
 
       -- a field that is cut
-      cut_turn : FieldCut s (length s) at → at < length s → turn ≡ Stop (Bad at)
+      cut_turn : FieldCut s (length s) at → at < length s → turn ≡ Stop (error.Bad at)
       unfolding room_step field_step
       cut_turn f l = by_room (has_room l) ∙ ap (λ (y : FieldRead). (field_step y s at o.phase o.missing x).turn) (field_cut f)
 
@@ -95,21 +97,21 @@ module _ (s : List ℕ) where
           (ap (λ (k : SheetTag). room_at k x) (sym (ap sheet_tag f.tagged ∙ known)) ∙ has_room (omega (arith, f.header))))
 
       -- a heading that may not come, or holds something else
-      heading_stop : {stop : ℕ} → Stands s at 0x01 stop → (heading_open o.phase && is_heading s (at + 3) stop) ≡ false → turn ≡ Stop (Bad at)
+      heading_stop : {stop : ℕ} → Stands s at 0x01 stop → (heading_open o.phase && is_heading s (at + 3) stop) ≡ false → turn ≡ Stop (error.Bad at)
       unfolding take_tagged take_heading
       heading_stop f e = whole_turn f Heading (heading_tag refl) ∙ rw e
 
       -- a row that may not come, or whose innermost field is refused
-      late_stop : (t : TableId) {stop : ℕ} → Stands s at (row_tag t) stop → rows_open o.phase t ≡ false → turn ≡ Stop (Bad at)
+      late_stop : (t : TableId) {stop : ℕ} → Stands s at (row_tag t) stop → rows_open o.phase t ≡ false → turn ≡ Stop (error.Bad at)
       unfolding take_tagged
       late_stop t f e = whole_turn f (Row t) (row_tag_lem t refl) ∙ rw e
 
       row_stop : (t : TableId) {stop place : ℕ} → Stands s at (row_tag t) stop → rows_open o.phase t ≡ true → RowStops t s at stop (row.Bad place)
-          → turn ≡ Stop (Bad place)
+          → turn ≡ Stop (error.Bad place)
       unfolding take_tagged take_table_row row_turn
       row_stop t f e r = whole_turn f (Row t) (row_tag_lem t refl) ∙ rw (e, (row_stops s t f _).1 r)
 
-      refused_turn : {place : ℕ} → Unacceptable s h a c at place → (at < length s) × (turn ≡ Stop (Bad place))
+      refused_turn : {place : ℕ} → Unacceptable s h a c at place → (at < length s) × (turn ≡ Stop (error.Bad place))
       unfolding take_tagged
       refused_turn (Unacceptable.cut f) = let l = before f in (l, cut_turn f l)
         where
@@ -203,7 +205,7 @@ module _ (s : List ℕ) where
             where
               go : (r : RowRead) → RowStops t s at stop r → Stopping
               go row.Read e = good (record { stands = f; reads = e })
-              go (row.Bad place) e = bad place e
+              go (Err b) e = bad b.at e
 
           attribute_here : Stands s at (row_tag Attributes) stop → Stopping
           unfolding rows_of

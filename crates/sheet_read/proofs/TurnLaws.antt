@@ -1,45 +1,46 @@
 -- One field after the other: where reading stands, and what a turn brings.
-use Rattle.std.specs.Prelude.{◌&&◌, Bool, cond, true, false, List, ◌≡◌, get_or}
+use Rattle.std.specs.Prelude.{◌&&◌, Bool, cond, true, false, List, ◌≡◌, get_or, Some, Ok, Err}
 use Rattle.std.proofs.Math.Path.{ap, refl}
 use Rattle.std.proofs.Common.{subst, ◌∙◌, arith, eq-eqb, ne_eqb}
 use Prim.Native.Nat.{◌+◌, ◌<◌, ◌≤◌, suc, zero, ℕ}
 use Rattle.std.proofs.Math.ListN.{length}
 use Rattle.prelude.specs.SaysLaws.{choose}
-use Rattle.wire.specs.declared.FieldRead.{FieldRead}
+use Rattle.wire.specs.FieldRead.{FieldRead}
 use Rattle.wire.specs.Wire.{field_at}
 use Rattle.wire.specs.WireLaws.{field_is}
 use Rattle.schema.specs.declared.number.TableId.TheVariants.{Attributes}
 use Rattle.schema.specs.declared.number.TableId.{TableId}
 use Rattle.schema.specs.Numbers.{limit}
-use Rattle.rows_read.specs.declared.read.RowRead.{RowRead}
+use Rattle.rows_read.specs.RowRead.{RowRead}
 use Rattle.rows_read.specs.Reading.{out}
 use Rattle.sheet_read.specs.declared.read.Phase.{Phase}
 use Rattle.sheet_read.specs.declared.read.Phase.TheVariants.{Start, InRows}
-use Rattle.sheet_read.specs.declared.read.Turn.{Turn}
-use Rattle.sheet_read.specs.declared.read.Turn.TheVariants.{On, Stop}
-use Rattle.sheet_read.specs.declared.read.Room.{Room}
-use Rattle.sheet_read.specs.declared.read.SheetTag.{SheetTag}
-use Rattle.sheet_read.specs.declared.read.SheetTag.TheVariants.{Heading, Row, Unknown}
-use Rattle.sheet_read.specs.declared.read.SheetRead.{SheetRead}
-use Rattle.sheet_read.specs.declared.read.SheetRead.TheVariants.{Read, Bad}
+use Rattle.sheet_read.specs.Turn.{Turn}
+use Rattle.sheet_read.specs.Turn.{On, Stop}
+use Rattle.sheet_read.specs.Room.{Room}
+use Rattle.sheet_read.specs.SheetTag.{SheetTag}
+use Rattle.sheet_read.specs.SheetTag.{Heading, Row, Unknown}
+use Rattle.sheet_read.specs.declared.read.SheetError.{SheetError}
+use Rattle.sheet_read.specs.declared.read.Progress.{Progress}
+use Rattle.sheet_read.specs.SheetRead.{Read, Bad}
 use Rattle.sheet_read.specs.Reading.{onward, Rows, Step, step, ended, field_step, heading_open, take_heading, is_heading, no_rows, plus, read_from}
 use Rattle.sheet_read.specs.Reading.{read_sheet, room_at, room_step, row_out, take_table_row, row_turn, rows_in, rows_open, rows_with, sheet_out, sheet_tag}
 use Rattle.sheet_read.specs.Reading.{take_field, take_tagged}
-use Rattle.wire.specs.declared.FieldRead.TheVariants as fields
-use Rattle.rows_read.specs.declared.read.RowRead.TheVariants as row
-use Rattle.sheet_read.specs.declared.read.Room.TheVariants as room
+use Rattle.wire.specs.FieldRead as fields
+use Rattle.rows_read.specs.RowRead as row
+use Rattle.sheet_read.specs.Room as room
 
 -- ---- one turn goes on behind its place, within the sheet
 
 abbrev pub Forward : List ℕ → ℕ → Turn → Type 0
-Forward s at (On next phase missing) = (at < next) × (next ≤ length s)
-Forward s at (Stop _) = Unit {0}
+Forward s at (Ok progress) = (at < progress.at) × (progress.at ≤ length s)
+Forward s at (Err _) = Unit {0}
 
 module _ (s : List ℕ) (at : ℕ) (phase : Phase) (missing : Bool) (x : Rows) where
   row_forward : (t : TableId) (stop : ℕ) → at < stop → stop ≤ length s → (r : RowRead) → Forward s at (row_turn t stop missing r)
   unfolding row_turn
   row_forward t stop on within row.Read = (on, within)
-  row_forward t stop on within (row.Bad place) = tt
+  row_forward t stop on within (Err bad) = tt
 
   tagged_forward : (tag : SheetTag) (start stop : ℕ) → at < stop → stop ≤ length s → Forward s at (take_tagged tag s at phase missing start stop x).turn
   unfolding take_tagged take_table_row take_heading
@@ -50,18 +51,18 @@ module _ (s : List ℕ) (at : ℕ) (phase : Phase) (missing : Bool) (x : Rows) w
 
   field_forward : (f : FieldRead) → field_at s at (length s) ≡ f → Forward s at (field_step f s at phase missing x).turn
   unfolding field_step
-  field_forward (fields.Field tag start stop) e =
-      let w = field_is s at (length s) tag start stop e in
-      tagged_forward (sheet_tag tag) start stop (omega (arith, w.stop_is)) w.within
+  field_forward (Ok (Some f)) e =
+      let w = field_is s at (length s) f.tag f.start f.end e in
+      tagged_forward (sheet_tag f.tag) f.start f.end (omega (arith, w.stop_is)) w.within
   field_forward fields.End e = tt
-  field_forward (fields.Bad place) e = tt
+  field_forward (Err bad) e = tt
 
   pub step_forward : Forward s at (take_field s at phase missing x).turn
   unfolding take_field
   step_forward = go (room_at (sheet_tag (get_or s at 0)) x)
     where
       go : (r : Room) → Forward s at (room_step r x (field_step (field_at s at (length s)) s at phase missing x)).turn
-      go (room.Full t) = unfold room_step in tt
+      go (Err _) = unfold room_step in tt
       go room.Free = unfold room_step in (field_forward (field_at s at (length s)) refl)
 
 -- ---- where reading stands: what is left to read, with the rows so far, gives what the whole sheet gives
@@ -110,18 +111,18 @@ module _ {s : List ℕ} {at : ℕ} {phase : Phase} {missing : Bool} {x : Rows} (
     turned = (rest l).same ∙ ap (λ (z : Step). onward (read_from (rest l).fuel s) z.turn z.rows) is
 
     -- a turn that stops
-    pub stands_stop : (came : SheetRead) → y.turn ≡ Stop came → read_sheet s ≡ sheet_out came y.rows
+    pub stands_stop : (came : SheetError) → y.turn ≡ Stop came → read_sheet s ≡ sheet_out (Err came) y.rows
     unfolding onward
     stands_stop came e = turned ∙ ap (λ (z : Turn). onward (read_from (rest l).fuel s) z y.rows) e
 
     -- and one that goes on
-    pub stands_forward : (next : ℕ) (later : Phase) (lacking : Bool) → y.turn ≡ On next later lacking → (at < next) × (next ≤ length s)
-    stands_forward next later lacking e = subst (Forward s at) (ap (λ (z : Step). z.turn) is ∙ e) (step_forward s at phase missing x)
+    pub stands_forward : (progress : Progress) → y.turn ≡ Ok progress → (at < progress.at) × (progress.at ≤ length s)
+    stands_forward progress e = subst (Forward s at) (ap (λ (z : Step). z.turn) is ∙ e) (step_forward s at phase missing x)
 
-    pub stands_on : (next : ℕ) (later : Phase) (lacking : Bool) → y.turn ≡ On next later lacking → Stands s next later lacking y.rows
+    pub stands_on : (progress : Progress) → y.turn ≡ Ok progress → Stands s progress.at progress.phase progress.missing y.rows
     unfolding onward
-    stands_on next later lacking e =
-        let f = stands_forward next later lacking e in
+    stands_on progress e =
+        let f = stands_forward progress e in
         let w : length s ≤ at + suc (rest l).fuel = (rest l).enough in
         record {
           within = f.1;

@@ -1,4 +1,5 @@
 -- Field by field through a sheet: each turn goes on behind the field, within the sheet.
+use Rattle.std.specs.Prelude.{Ok, Err}
 use mathlib.Core.Bool.{Bool, cond, not, true, false}
 use mathlib.Core.List.{List}
 use mathlib.Core.Path.{subst₂, ap, refl, sym, ◌∙◌, ◌≡◌}
@@ -17,11 +18,12 @@ use Rattle.tables.specs.Filled.{filled_store}
 use Rattle.tables.specs.FilledLaws.{store_empty, store_length_lem}
 use Rattle.sheet_read.specs.declared.read.Phase.{Phase}
 use Rattle.sheet_read.specs.declared.read.Phase.TheVariants.{Start}
-use Rattle.sheet_read.specs.declared.read.Turn.{Turn}
-use Rattle.sheet_read.specs.declared.read.Turn.TheVariants.{On, Stop}
-use Rattle.sheet_read.specs.declared.read.SheetRead.{SheetRead}
-use Rattle.sheet_read.specs.declared.read.SheetRead.TheVariants.{Read, Bad}
-use Rattle.sheet_read.specs.Reading.{stopped, Rows, SheetOut, no_rows, read_sheet, sheet_out, take_field}
+use Rattle.sheet_read.specs.Turn.{Turn}
+use Rattle.sheet_read.specs.declared.read.SheetError.{SheetError}
+use Rattle.sheet_read.specs.declared.read.Progress.{Progress}
+use Rattle.sheet_read.specs.SheetRead.{SheetRead}
+use Rattle.sheet_read.specs.SheetRead.{Read, Bad}
+use Rattle.sheet_read.specs.Reading.{Rows, SheetOut, no_rows, read_sheet, sheet_out, take_field}
 use Rattle.sheet_read.specs.Held.{Stepped, Held, Left, Lent, Steps, Fitting}
 use Rattle.sheet_read.proofs.TurnLaws.{Stands, stands_start, stands_end, stands_stop, stands_forward, stands_on}
 use Rattle.sheet_read.specs.ReadingLaws.{no_rows_sound, sheet_sound}
@@ -82,27 +84,26 @@ module _ {s a c attributes classes : List ℕ} {at : ℕ} {phase : Phase} {missi
     y : Stepped (take_field s at phase missing r.rows) a c t b d
     y = stepped r.rows a c r.held
 
-    pub reading_stop : (read : SheetRead) → t ≡ Stop read → Left (read_sheet s) a c (stopped t) b d
-    unfolding stopped
-    reading_stop read e =
-        let stop : read_sheet s ≡ sheet_out read (take_field s at phase missing r.rows).rows = stands_stop r.stands l _ refl read (sym y.went ∙ e) in
+    pub reading_stop : (error : SheetError) → t ≡ Err error → (came : SheetRead) → came ≡ Err error → Left (read_sheet s) a c came b d
+    reading_stop error e came f =
+        let stop : read_sheet s ≡ sheet_out (Err error) (take_field s at phase missing r.rows).rows = stands_stop r.stands l _ refl error (sym y.went ∙ e) in
         record {
-          answer = ap stopped e ∙ sym (ap (λ (z : SheetOut). z.answer) stop);
+          answer = f ∙ sym (ap (λ (z : SheetOut). z.answer) stop);
           attributes = y.held.attributes_are ∙ ap (λ (z : SheetOut). splice 0 (filled_store Attributes z.rows.attributes) a) (sym stop);
           classes = y.held.classes_are ∙ ap (λ (z : SheetOut). splice 0 (filled_store Classes z.rows.classes) c) (sym stop);
         }
 
-    pub reading_forward : (next : ℕ) (later : Phase) (lacking : Bool) → t ≡ On next later lacking → (at < next) × (next ≤ length s)
-    reading_forward next later lacking e = stands_forward r.stands l _ refl next later lacking (sym y.went ∙ e)
+    pub reading_forward : (progress : Progress) → t ≡ Ok progress → (at < progress.at) × (progress.at ≤ length s)
+    reading_forward progress e = stands_forward r.stands l _ refl progress (sym y.went ∙ e)
 
-    pub reading_on : (next : ℕ) (later : Phase) (lacking : Bool) → t ≡ On next later lacking → length b ≡ length attributes → length d ≡ length classes
-        → Reading s a c b d next later lacking
-    reading_on next later lacking e p q =
+    pub reading_on : (progress : Progress) → t ≡ Ok progress → length b ≡ length attributes → length d ≡ length classes
+        → Reading s a c b d progress.at progress.phase progress.missing
+    reading_on progress e p q =
         record {
           lent = record { attributes = omega (arith, r.lent.attributes); classes = omega (arith, r.lent.classes) };
           rows = (take_field s at phase missing r.rows).rows;
           held = y.held;
-          stands = stands_on r.stands l _ refl next later lacking (sym y.went ∙ e);
+          stands = stands_on r.stands l _ refl progress (sym y.went ∙ e);
         }
 
 -- ---- stores that were emptied before

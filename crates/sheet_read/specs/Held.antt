@@ -8,15 +8,13 @@ use Rattle.schema.specs.Numbers.{limit}
 use Rattle.schema.specs.Layout.{row_width, store_length}
 use Rattle.tables.specs.Filled.{AllWide, filled_store, plus_in}
 use Rattle.rows_read.specs.Reading.{Out}
-use Rattle.sheet_read.specs.declared.read.Turn.{Turn}
-use Rattle.sheet_read.specs.declared.read.Turn.TheVariants.{Stop}
-use Rattle.sheet_read.specs.declared.read.Room.{Room}
-use Rattle.sheet_read.specs.declared.read.SheetTag.TheVariants.{Heading, Row, Unknown}
-use Rattle.sheet_read.specs.declared.read.SheetRead.TheVariants.{Read, Full}
+use Rattle.sheet_read.specs.Turn.{Turn}
+use Rattle.sheet_read.specs.Room.{Room}
+use Rattle.sheet_read.specs.SheetTag.{Heading, Row, Unknown}
 use Rattle.sheet_read.specs.Reading.{Rows, SheetOut, Step, is_read}
-use Rattle.sheet_read.specs.declared.read.SheetRead.{SheetRead}
-use Rattle.sheet_read.specs.declared.read.SheetTag.{SheetTag}
-use Rattle.sheet_read.specs.declared.read.Room.TheVariants as room
+use Rattle.sheet_read.specs.SheetRead.{SheetRead}
+use Rattle.sheet_read.specs.SheetTag.{SheetTag}
+use Rattle.sheet_read.specs.Room as room
 
 -- rows that their tables can hold: each of its width, and no more than there is room for
 pub record Fitting (t : TableId) (list : List (List ℕ)) : Type 0 where
@@ -44,15 +42,11 @@ pub record Open (a c : List ℕ) : Type 0 where
   pub lent : Lent a c
   pub few : (t : TableId) → count_in t (store_of t a c) ≤ limit t
 
--- whether the row that a tag announces has room in the stores; reading stops where it has not
+-- whether the row that a tag announces has room in the stores
 unfoldable pub room_in : SheetTag → List ℕ → List ℕ → Room
 room_in Heading a c = room.Free
 room_in (Row t) a c = cond (eqb (count_in t (store_of t a c)) (limit t)) (room.Full t) room.Free
 room_in Unknown a c = room.Free
-
-unfoldable pub room_turn : Room → Turn
-room_turn (room.Full t) = Stop (Full t)
-room_turn room.Free = Stop Read
 
 abbrev pub HasRoom : SheetTag → List ℕ → List ℕ → Type 0
 HasRoom tag a c = (t : TableId) → tag ≡ Row t → count_in t (store_of t a c) < limit t

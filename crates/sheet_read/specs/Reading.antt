@@ -1,8 +1,8 @@
 -- Reading a whole sheet, from left to right. Document 01: "Sheet: field 01 holding 01, attribute rows 20, class rows 30, whose values are fields in
 -- rising tag order, each once." A sheet gives rows, and where it cannot be read a place; no store is in it.
-use Rattle.std.specs.Prelude.{◌&&◌, Bool, cond, false, true, ◌++◌, List, [], ◌∷◌, ◌-◌, suc, zero, ℕ, eqb, leb, get_or, length}
+use Rattle.std.specs.Prelude.{◌&&◌, Bool, cond, false, true, ◌++◌, List, [], ◌∷◌, ◌-◌, suc, zero, ℕ, eqb, leb, get_or, length, Some, Ok, Err}
 use Rattle.prelude.specs.Part.{zeros}
-use Rattle.wire.specs.declared.FieldRead.{FieldRead}
+use Rattle.wire.specs.FieldRead.{FieldRead}
 use Rattle.wire.specs.Wire.{field_at}
 use Rattle.schema.specs.declared.answer.Answer.{Answer}
 use Rattle.schema.specs.declared.number.TableId.TheVariants.{Attributes, Classes}
@@ -13,21 +13,22 @@ use Rattle.schema.specs.Numbers.{limit}
 use Rattle.schema.specs.Layout.{row_width}
 use Rattle.tables.specs.Filled.{table_from}
 use Rattle.rows_format.specs.declared.format.Format.{Format}
-use Rattle.rows_read.specs.declared.read.RowRead.{RowRead}
+use Rattle.rows_read.specs.RowRead.{RowRead}
 use Rattle.rows_read.specs.Reading.{Out}
 use Rattle.rows_read.specs.ObjectClass.{read_row}
-use Rattle.sheet_read.specs.declared.read.SheetRead.TheVariants.{Read, Bad, Full}
-use Rattle.sheet_read.specs.declared.read.SheetTag.TheVariants.{Heading, Row, Unknown}
+use Rattle.sheet_read.specs.SheetRead.{Read, Bad, Full}
+use Rattle.sheet_read.specs.SheetTag.{Heading, Row, Unknown}
 use Rattle.sheet_read.specs.declared.read.Phase.TheVariants.{Start, InRows}
-use Rattle.sheet_read.specs.declared.read.Turn.TheVariants.{On, Stop}
-use Rattle.sheet_read.specs.declared.read.Turn.{Turn}
-use Rattle.sheet_read.specs.declared.read.Room.{Room}
+use Rattle.sheet_read.specs.Turn.{On, Stop}
+use Rattle.sheet_read.specs.Turn.{Turn}
+use Rattle.sheet_read.specs.Room.{Room}
 use Rattle.sheet_read.specs.declared.read.Phase.{Phase}
-use Rattle.sheet_read.specs.declared.read.SheetRead.{SheetRead}
-use Rattle.sheet_read.specs.declared.read.SheetTag.{SheetTag}
-use Rattle.wire.specs.declared.FieldRead.TheVariants as fields
-use Rattle.rows_read.specs.declared.read.RowRead.TheVariants as row
-use Rattle.sheet_read.specs.declared.read.Room.TheVariants as room
+use Rattle.sheet_read.specs.SheetRead.{SheetRead}
+use Rattle.sheet_read.specs.SheetTag.{SheetTag}
+use Rattle.wire.specs.FieldRead as fields
+use Rattle.rows_read.specs.RowRead as row
+use Rattle.sheet_read.specs.Room as room
+use Rattle.sheet_read.specs.declared.read.SheetError.TheVariants as error
 
 -- the number, table and place that a reading gives. "6 no free row; at load, told at the row's tag, before any 4 there, with table and limit"
 abbrev pub sheet_answer : SheetRead → Answer
@@ -99,7 +100,7 @@ unfoldable pub is_heading : List ℕ → ℕ → ℕ → Bool
 is_heading s start stop = eqb (stop - start) 1 && eqb (get_or s start 0) 1
 
 unfoldable pub take_heading : List ℕ → ℕ → ℕ → ℕ → Phase → Turn
-take_heading s at start stop phase = cond (heading_open phase && is_heading s start stop) (On stop (InRows Attributes) false) (Stop (Bad at))
+take_heading s at start stop phase = cond (heading_open phase && is_heading s start stop) (On stop (InRows Attributes) false) (Stop (error.Bad at))
 
 -- the value s[start..stop) as a row, and whether it was read
 abbrev pub row_out : TableId → List ℕ → ℕ → ℕ → Out
@@ -107,12 +108,12 @@ row_out t s start stop = read_row (Format.Row t) s start stop (zeros (row_width 
 
 abbrev pub is_read : RowRead → Bool
 is_read row.Read = true
-is_read (row.Bad at) = false
+is_read (Err bad) = false
 
 -- a row whose value was read or not: reading goes on behind it, with one row more, or stops at its innermost field
 unfoldable pub row_turn : TableId → ℕ → Bool → RowRead → Turn
 row_turn t stop missing row.Read = On stop (InRows t) missing
-row_turn t stop missing (row.Bad at) = Stop (Bad at)
+row_turn t stop missing (Err bad) = Stop (error.Bad bad.at)
 
 unfoldable pub rows_with : TableId → Out → Rows → Rows
 rows_with t o x = cond (is_read o.answer) (plus t o.row x) x
@@ -124,28 +125,23 @@ take_table_row t s start stop missing x = step (row_turn t stop missing (row_out
 unfoldable pub take_tagged : SheetTag → List ℕ → ℕ → Phase → Bool → ℕ → ℕ → Rows → Step
 take_tagged Heading s at phase missing start stop x = step (take_heading s at start stop phase) x
 take_tagged (Row t) s at phase missing start stop x =
-    cond (rows_open phase t) (take_table_row t s start stop missing x) (step (Stop (Bad at)) x)
-take_tagged Unknown s at phase missing start stop x = step (Stop (Bad at)) x
+    cond (rows_open phase t) (take_table_row t s start stop missing x) (step (Stop (error.Bad at)) x)
+take_tagged Unknown s at phase missing start stop x = step (Stop (error.Bad at)) x
 
 -- the field in front; one that is cut is told at its tag
 unfoldable pub field_step : FieldRead → List ℕ → ℕ → Phase → Bool → Rows → Step
-field_step (fields.Field tag start stop) s at phase missing x = take_tagged (sheet_tag tag) s at phase missing start stop x
-field_step fields.End s at phase missing x = step (Stop (Bad at)) x
-field_step (fields.Bad place) s at phase missing x = step (Stop (Bad at)) x
+field_step (Ok (Some field)) s at phase missing x = take_tagged (sheet_tag field.tag) s at phase missing field.start field.end x
+field_step fields.End s at phase missing x = step (Stop (error.Bad at)) x
+field_step (Err bad) s at phase missing x = step (Stop (error.Bad at)) x
 
 unfoldable pub room_step : Room → Rows → Step → Step
-room_step (room.Full t) x else = step (Stop (Full t)) x
+room_step (Err error) x else = step (Stop error) x
 room_step room.Free x else = else
 
 unfoldable pub take_field : List ℕ → ℕ → Phase → Bool → Rows → Step
 take_field s at phase missing x = room_step (room_at (sheet_tag (get_or s at 0)) x) x (field_step (field_at s at (length s)) s at phase missing x)
 
 -- ---- all fields
-
--- what a turn that stops has come to
-unfoldable pub stopped : Turn → SheetRead
-stopped (On at phase missing) = Read
-stopped (Stop read) = read
 
 -- what reading comes to, and the rows read by then
 pub record SheetOut : Type 0 where
@@ -156,8 +152,8 @@ abbrev pub sheet_out : SheetRead → Rows → SheetOut
 sheet_out answer x = record { answer = answer; rows = x }
 
 unfoldable pub onward : (ℕ → Phase → Bool → Rows → SheetOut) → Turn → Rows → SheetOut
-onward rest (On at phase missing) x = rest at phase missing x
-onward rest (Stop read) x = sheet_out read x
+onward rest (Ok progress) x = rest progress.at progress.phase progress.missing x
+onward rest (Err error) x = sheet_out (Err error) x
 
 -- the end of the sheet: "a missing field .. by the end of that value"
 unfoldable pub ended : List ℕ → ℕ → Bool → Rows → SheetOut

@@ -1,6 +1,6 @@
 -- What reading a sheet gives: rows, each well-formed, at most as many as the tables hold.
 use Rattle.std.proofs.Math.Bool.{Bool, cond, true}
-use Rattle.std.specs.Prelude.{◌++◌, List, [], ◌∷◌, eqb, get_or, length}
+use Rattle.std.specs.Prelude.{◌++◌, List, [], ◌∷◌, eqb, get_or, length, Some, Ok, Err}
 use Rattle.std.proofs.Math.Path.{◌≡◌, refl}
 use Rattle.std.proofs.Common.{ap, ◌∙◌, length-append}
 use Prim.Native.Nat.{◌<◌, suc, zero, ℕ, ◌≤◌}
@@ -9,7 +9,7 @@ use Rattle.prelude.specs.Part.{Bytes, zeros}
 use Rattle.prelude.specs.SaysLaws.{choose, says_eq, says_true}
 use Rattle.prelude.specs.BytesLaws.{zeros_bytes}
 use Rattle.prelude.specs.PartLaws.{zeros_length}
-use Rattle.wire.specs.declared.FieldRead.{FieldRead}
+use Rattle.wire.specs.FieldRead.{FieldRead}
 use Rattle.wire.specs.WireLaws.{field_is}
 use Rattle.wire.specs.Wire.{field_at}
 use Rattle.schema.specs.declared.number.TableId.TheVariants.{Attributes, Classes}
@@ -18,24 +18,23 @@ use Rattle.schema.specs.Numbers.{limit}
 use Rattle.schema.specs.Layout.{row_width}
 use Rattle.tables.specs.FilledLaws.{wide_append}
 use Rattle.rows_format.specs.declared.format.Format.{Format}
-use Rattle.rows_read.specs.declared.read.RowRead.{RowRead}
+use Rattle.rows_read.specs.RowRead.{RowRead}
 use Rattle.rows_read.specs.Reading.{Out, out}
 use Rattle.rows_read.specs.RoundTripLaws.{row_read_formed, row_read_length}
 use Rattle.rows_read.specs.WellFormed.{well_formed}
 use Rattle.rows_read.specs.BytesLaws.{read_bytes}
-use Rattle.sheet_read.specs.declared.read.SheetTag.{SheetTag}
-use Rattle.sheet_read.specs.declared.read.SheetTag.TheVariants.{Heading, Row, Unknown}
+use Rattle.sheet_read.specs.SheetTag.{SheetTag}
+use Rattle.sheet_read.specs.SheetTag.{Heading, Row, Unknown}
 use Rattle.sheet_read.specs.declared.read.Phase.{Phase}
 use Rattle.sheet_read.specs.declared.read.Phase.TheVariants.{Start}
-use Rattle.sheet_read.specs.declared.read.Turn.{Turn}
-use Rattle.sheet_read.specs.declared.read.Turn.TheVariants.{On, Stop}
+use Rattle.sheet_read.specs.Turn.{Turn}
 use Rattle.sheet_read.specs.Reading.{onward, Rows, SheetOut, Step, ended, field_step, is_read, no_rows, plus, read_from, read_sheet, room_at}
 use Rattle.sheet_read.specs.Reading.{room_step, row_out, take_table_row, rows_in, rows_open, rows_with, sheet_tag, take_field, take_tagged}
-use Rattle.sheet_read.specs.declared.read.Room.{Room}
+use Rattle.sheet_read.specs.Room.{Room}
 use Rattle.sheet_read.specs.Held.{Fitting}
-use Rattle.wire.specs.declared.FieldRead.TheVariants as fields
-use Rattle.rows_read.specs.declared.read.RowRead.TheVariants as row
-use Rattle.sheet_read.specs.declared.read.Room.TheVariants as room
+use Rattle.wire.specs.FieldRead as fields
+use Rattle.rows_read.specs.RowRead as row
+use Rattle.sheet_read.specs.Room as room
 
 -- ---- one row more
 
@@ -68,7 +67,7 @@ module _ (s : List ℕ) (P : Rows → Type 0) where
 
         go : (r : RowRead) → o.answer ≡ r → P (cond (is_read r) (plus t o.row x) x)
         go row.Read e = grows t start stop x within free (λ i. record { answer = e i; row = o.row }) h
-        go (row.Bad at) e = h
+        go (Err bad) e = h
 
     tagged_keeps : (tag : SheetTag) (at : ℕ) (phase : Phase) (missing : Bool) (start stop : ℕ) (x : Rows) → stop ≤ length s → room_at tag x ≡ room.Free → P x
         → P (take_tagged tag s at phase missing start stop x).rows
@@ -90,14 +89,14 @@ module _ (s : List ℕ) (P : Rows → Type 0) where
     step_keeps at phase missing x h = go (room_at (sheet_tag (get_or s at 0)) x) refl
       where
         field : room_at (sheet_tag (get_or s at 0)) x ≡ room.Free → (f : FieldRead) → field_at s at (length s) ≡ f → P (field_step f s at phase missing x).rows
-        field free (fields.Field tag start stop) e =
-            let w = field_is s at (length s) tag start stop e in
-            (tagged_keeps (sheet_tag tag) at phase missing start stop x w.within (ap (λ (b : ℕ). room_at (sheet_tag b) x) w.tag_is ∙ free) h)
+        field free (Ok (Some f)) e =
+            let w = field_is s at (length s) f.tag f.start f.end e in
+            (tagged_keeps (sheet_tag f.tag) at phase missing f.start f.end x w.within (ap (λ (b : ℕ). room_at (sheet_tag b) x) w.tag_is ∙ free) h)
         field free fields.End e = h
-        field free (fields.Bad place) e = h
+        field free (Err bad) e = h
 
         go : (r : Room) → room_at (sheet_tag (get_or s at 0)) x ≡ r → P (room_step r x (field_step (field_at s at (length s)) s at phase missing x)).rows
-        go (room.Full t) e = h
+        go (Err _) e = h
         go room.Free e = field e (field_at s at (length s)) refl
 
     from_keeps : (n at : ℕ) (phase : Phase) (missing : Bool) (x : Rows) → P x → P (read_from n s at phase missing x).rows
@@ -110,8 +109,8 @@ module _ (s : List ℕ) (P : Rows → Type 0) where
         onward_keeps : (rest : ℕ → Phase → Bool → Rows → SheetOut)
             → ((at : ℕ) (phase : Phase) (missing : Bool) (x : Rows) → P x → P (rest at phase missing x).rows)
             → (t : Turn) {y : Rows} → P y → P (onward rest t y).rows
-        onward_keeps rest keeps (On next later lacking) {y} k = unfold onward in (keeps next later lacking y k)
-        onward_keeps rest keeps (Stop _) k = unfold onward in k
+        onward_keeps rest keeps (Ok p) {y} k = unfold onward in (keeps p.at p.phase p.missing y k)
+        onward_keeps rest keeps (Err _) k = unfold onward in k
 
     pub read_keeps : P no_rows → P (read_sheet s).rows
     unfolding read_sheet

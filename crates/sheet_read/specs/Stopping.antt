@@ -8,12 +8,12 @@ use Rattle.schema.specs.declared.number.TableId.{TableId}
 use Rattle.schema.specs.declared.number.TableId.TheVariants.{Attributes, Classes}
 use Rattle.rows_format.specs.Formats.{columns_of}
 use Rattle.rows_format.specs.declared.format.Format.TheVariants.{Row}
-use Rattle.rows_read.specs.declared.read.RowRead.{RowRead}
+use Rattle.rows_read.specs.RowRead.{RowRead}
 use Rattle.rows_read.specs.Stopping.{FieldCut, FieldStands, ValueStops}
-use Rattle.sheet_read.specs.declared.read.SheetRead.{SheetRead}
-use Rattle.sheet_read.specs.declared.read.SheetRead.TheVariants.{Read, Bad, Full}
+use Rattle.sheet_read.specs.SheetRead.{SheetRead}
+use Rattle.sheet_read.specs.SheetRead.{Read, Bad, Full}
 use Rattle.sheet_read.specs.Reading.{Rows, no_rows, plus, row_out}
-use Rattle.rows_read.specs.declared.read.RowRead.TheVariants as row
+use Rattle.rows_read.specs.RowRead as row
 
 -- "attribute rows 20, class rows 30"
 unfoldable pub row_tag : TableId → ℕ

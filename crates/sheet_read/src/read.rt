@@ -4,36 +4,43 @@ ghost use Rattle.prelude.specs.Part.{zeros};
 ghost use Rattle.schema.specs.Store.{count_in, store_of};
 ghost use Rattle.schema.specs.Numbers.{limit};
 ghost use Rattle.schema.specs.Layout.{store_length, class_width};
-ghost use Rattle.sheet_read.specs.Held.{HasRoom, Left, Lent, Open, Steps, room_in, room_turn, store_with};
-ghost use Rattle.sheet_read.specs.Reading.{take_heading, is_heading, position, read_sheet, row_out, take_table_row, row_turn, rows_open, sheet_tag};
-ghost use Rattle.sheet_read.specs.Reading.{take_field, stopped, take_tagged};
+ghost use Rattle.sheet_read.specs.declared.read.SheetError.TheVariants.{Bad};
+ghost use Rattle.sheet_read.specs.Held.{HasRoom, Left, Lent, Open, Steps, room_in, store_with};
+ghost use Rattle.sheet_read.specs.Reading.{take_heading, is_heading, read_sheet, row_out, take_table_row, row_turn, rows_open, sheet_tag};
+ghost use Rattle.sheet_read.specs.Reading.{take_field, take_tagged};
 
 use prelude::number::byte_at;
 use reader::{ends_at, step_at};
 use rows_format::format::Format;
-use rows_read::read::{RowRead, place_of, read_row};
+use rows_read::read::read_row;
 use schema::layout::{CLASS_WIDTH, row_width, store_length};
 use schema::number::{TableId, row_limit};
 use schema::store::{row_count, store_of};
 use tables::store::{empty, push_row};
-use wire::FieldRead;
+use wire::BadField;
 
-// What reading a sheet comes to.
-#[derive(Clone, Copy)]
-pub enum SheetRead {
-    Read,
+// Why a sheet is not read.
+#[derive(Clone, Copy, PartialEq, Eq)]
+pub enum SheetError {
     // The first field that cannot be accepted, by its place; or the end of the sheet where the heading is missing.
     Bad { at: usize },
     // No free row in a table.
     Full { table: TableId },
 }
 
-// What a tag stands for.
+impl From<BadField> for SheetError {
+    ghost from_gives = { λ bad error. error ≡ Bad bad.at };
+
+    fn from(bad: BadField) -> SheetError {
+        SheetError::Bad { at: bad.at }
+    }
+}
+
+// What a tag of a sheet stands for.
 #[derive(Clone, Copy)]
 pub enum SheetTag {
     Heading,
     Row(TableId),
-    Unknown,
 }
 
 // What may come next: everything, or the rows of a table and of those behind it.
@@ -43,24 +50,12 @@ pub enum Phase {
     InRows(TableId),
 }
 
-// Whether the row that a tag announces has room in its table.
+// Where reading goes on, how far it has come, and whether the heading is missing so far.
 #[derive(Clone, Copy)]
-pub enum Room {
-    Free,
-    Full(TableId),
-}
-
-// Where reading goes on, with whether the heading is missing so far; or what it has come to.
-#[derive(Clone, Copy)]
-pub enum Turn {
-    On {
-        at: usize,
-        phase: Phase,
-        missing: bool,
-    },
-    Stop {
-        read: SheetRead,
-    },
+pub struct Progress {
+    pub at: usize,
+    pub phase: Phase,
+    pub missing: bool,
 }
 
 // The tags of a sheet.
@@ -70,49 +65,32 @@ pub const ATTRIBUTE: u8 = 0x20;
 
 pub const CLASS: u8 = 0x30;
 
-fn sheet_tag(tag: u8) -> SheetTag
+// What a tag stands for, if it is one of a sheet.
+#[tactic(auto, unfolding(crate::specs::Reading::sheet_tag))]
+fn sheet_tag(tag: u8) -> Option<SheetTag>
     ensures { result ≡ sheet_tag tag }
 {
     match tag {
-        HEADING => SheetTag::Heading,
-        ATTRIBUTE => SheetTag::Row(TableId::Attributes),
-        CLASS => SheetTag::Row(TableId::Classes),
-        _ => SheetTag::Unknown,
+        HEADING => Some(SheetTag::Heading),
+        ATTRIBUTE => Some(SheetTag::Row(TableId::Attributes)),
+        CLASS => Some(SheetTag::Row(TableId::Classes)),
+        _ => None,
     }
 }
 
-// What a turn that stops has come to.
-fn stopped(turn: Turn) -> SheetRead
-    ensures { result ≡ stopped turn }
-{
-    match turn {
-        Turn::On {
-            at: _,
-            phase: _,
-            missing: _,
-        } => SheetRead::Read,
-        Turn::Stop { read } => read,
-    }
-}
-
-// How far reading has come.
-fn position(phase: Phase) -> u8
-    ensures { result ≡ position phase }
-{
-    match phase {
-        Phase::Start => 0,
-        Phase::InRows(table) => match table {
-            TableId::Attributes => 1,
-            TableId::Classes => 2,
-        },
-    }
-}
-
-// Whether the rows of a table may come.
+// Whether the rows of a table may come: attribute rows all before class rows.
+#[tactic(auto, unfolding(crate::specs::Reading::rows_open, crate::specs::Reading::position))]
 fn rows_open(phase: Phase, table: TableId) -> bool
     ensures { result ≡ rows_open phase table }
 {
-    position(phase) <= position(Phase::InRows(table))
+    match table {
+        TableId::Attributes => match phase {
+            Phase::Start => true,
+            Phase::InRows(TableId::Attributes) => true,
+            Phase::InRows(TableId::Classes) => false,
+        },
+        TableId::Classes => true,
+    }
 }
 
 // Whether a field's value is that of the heading.
@@ -127,22 +105,27 @@ fn is_heading(s: &[u8], start: usize, stop: usize) -> bool
 }
 
 // The heading, before all rows.
-fn take_heading(s: &[u8], at: usize, start: usize, stop: usize, phase: Phase) -> Turn
+fn take_heading(
+    s: &[u8],
+    at: usize,
+    start: usize,
+    stop: usize,
+    phase: Phase,
+) -> Result<Progress, SheetError>
     requires { (start ≤ stop) × (stop ≤ length s.now) }
     ensures { result ≡ take_heading s.now at start stop phase }
 {
-    if position(phase) == 0 {
-        if is_heading(s, start, stop) {
-            return Turn::On {
-                at: stop,
-                phase: Phase::InRows(TableId::Attributes),
-                missing: false,
-            };
-        }
+    let Phase::Start = phase else {
+        return Err(SheetError::Bad { at });
+    };
+    if !is_heading(s, start, stop) {
+        return Err(SheetError::Bad { at });
     }
-    Turn::Stop {
-        read: SheetRead::Bad { at },
-    }
+    Ok(Progress {
+        at: stop,
+        phase: Phase::InRows(TableId::Attributes),
+        missing: false,
+    })
 }
 
 // Reads a row into a scratch row, and puts it last in its table once it is read.
@@ -153,46 +136,37 @@ fn read_into(
     stop: usize,
     scratch: &mut [u8],
     store: &mut [u8],
-) -> RowRead
+) -> Result<(), BadField>
     requires start_le_stop { (start ≤ stop) × (stop ≤ length s.now) × (scratch.old ≡ zeros class_width) }
     requires table_in_bounds { (store_length table ≤ length store.old) × (count_in table store.old < limit table) }
     ensures { (result ≡ (row_out table s.now start stop).answer)
         × (store.new ≡ store_with table (row_out table s.now start stop) store.old) }
 {
     let width = row_width(table);
-    let read = read_row(Format::Row(table), s, start, stop, &mut scratch[0..width]);
-    let RowRead::Read = read else {
-        return read;
-    };
+    read_row(Format::Row(table), s, start, stop, &mut scratch[0..width])?;
     push_row(table, store, &scratch[0..width]);
-    read
+    Ok(())
 }
 
 // Whether the row that a tag announces has room in its table.
-fn room_in<'a>(tag: SheetTag, attributes: &'a [u8], classes: &'a [u8]) -> Room
+fn room_in<'a>(
+    tag: Option<SheetTag>,
+    attributes: &'a [u8],
+    classes: &'a [u8],
+) -> Result<(), SheetError>
     requires { Lent attributes.now classes.now }
     ensures { result ≡ room_in tag attributes.now classes.now }
 {
-    let SheetTag::Row(table) = tag else {
-        return Room::Free;
-    };
-    if row_count(table, store_of(table, attributes, classes)) == row_limit(table) {
-        return Room::Full(table);
-    }
-    Room::Free
-}
-
-// Where there is no room, reading stops.
-fn room_turn(room: Room) -> Turn
-    ensures { result ≡ room_turn room }
-{
-    match room {
-        Room::Full(table) => Turn::Stop {
-            read: SheetRead::Full { table },
-        },
-        Room::Free => Turn::Stop {
-            read: SheetRead::Read,
-        },
+    match tag {
+        Some(SheetTag::Row(table)) => {
+            if row_count(table, store_of(table, attributes, classes)) == row_limit(table) {
+                Err(SheetError::Full { table })
+            } else {
+                Ok(())
+            }
+        }
+        Some(SheetTag::Heading) => Ok(()),
+        None => Ok(()),
     }
 }
 
@@ -204,24 +178,19 @@ fn take_row(
     stop: usize,
     missing: bool,
     store: &mut [u8],
-) -> Turn
+) -> Result<Progress, SheetError>
     requires start_le_stop { (start ≤ stop) × (stop ≤ length s.now) }
     requires table_in_bounds { (store_length table ≤ length store.old) × (count_in table store.old < limit table) }
     ensures { (result ≡ row_turn table stop missing (row_out table s.now start stop).answer)
         × (store.new ≡ store_with table (row_out table s.now start stop) store.old) }
 {
     let mut scratch = [0u8; CLASS_WIDTH];
-    let read = read_into(table, s, start, stop, &mut scratch, store);
-    let RowRead::Read = read else {
-        return Turn::Stop {
-            read: SheetRead::Bad { at: place_of(read) },
-        };
-    };
-    Turn::On {
+    read_into(table, s, start, stop, &mut scratch, store)?;
+    Ok(Progress {
         at: stop,
         phase: Phase::InRows(table),
         missing,
-    }
+    })
 }
 
 // A row, put into the store of its table.
@@ -233,7 +202,7 @@ fn take_table_row(
     missing: bool,
     attributes: &mut [u8],
     classes: &mut [u8],
-) -> Turn
+) -> Result<Progress, SheetError>
     requires start_le_stop { (start ≤ stop) × (stop ≤ length s.now) }
     requires lent { Lent attributes.old classes.old × (count_in table (store_of table attributes.old classes.old) < limit table) }
     ensures { Steps (take_table_row table s.now start stop missing) attributes.old classes.old result
@@ -247,99 +216,81 @@ fn take_table_row(
 
 // A whole field by what its tag stands for.
 fn take_tagged(
-    tag: SheetTag,
+    tag: Option<SheetTag>,
     s: &[u8],
-    at: usize,
-    phase: Phase,
-    missing: bool,
+    progress: Progress,
     start: usize,
     stop: usize,
     attributes: &mut [u8],
     classes: &mut [u8],
-) -> Turn
+) -> Result<Progress, SheetError>
     requires start_le_stop { (start ≤ stop) × (stop ≤ length s.now) }
     requires lent { Lent attributes.old classes.old × HasRoom tag attributes.old classes.old }
-    ensures { Steps (take_tagged tag s.now at phase missing start stop) attributes.old classes.old result
+    ensures { Steps (take_tagged tag s.now progress.at progress.phase progress.missing start stop) attributes.old classes.old result
         attributes.new classes.new }
 {
+    let at = progress.at;
+    let phase = progress.phase;
+    let missing = progress.missing;
     match tag {
-        SheetTag::Heading => take_heading(s, at, start, stop, phase),
-        SheetTag::Row(table) => {
+        Some(SheetTag::Heading) => take_heading(s, at, start, stop, phase),
+        Some(SheetTag::Row(table)) => {
             if rows_open(phase, table) {
                 take_table_row(table, s, start, stop, missing, attributes, classes)
             } else {
-                Turn::Stop {
-                    read: SheetRead::Bad { at },
-                }
+                Err(SheetError::Bad { at })
             }
         }
-        SheetTag::Unknown => Turn::Stop {
-            read: SheetRead::Bad { at },
-        },
+        None => Err(SheetError::Bad { at }),
     }
 }
 
-// The field at a place of the sheet: 6 looks at its tag alone, and reading goes on where the reader stands past it.
+// The field at the place of the sheet: 6 looks at its tag alone, and reading goes on where the reader stands past it.
 fn take_field(
     s: &[u8],
-    at: usize,
-    phase: Phase,
-    missing: bool,
+    progress: Progress,
     attributes: &mut [u8],
     classes: &mut [u8],
-) -> Turn
-    requires { (at < length s.now) × Open attributes.old classes.old }
-    ensures { Steps (take_field s.now at phase missing) attributes.old classes.old result attributes.new
+) -> Result<Progress, SheetError>
+    requires { (progress.at < length s.now) × Open attributes.old classes.old }
+    ensures { Steps (take_field s.now progress.at progress.phase progress.missing) attributes.old classes.old result attributes.new
         classes.new }
 {
-    let step = step_at(s, at);
+    let step = step_at(s, progress.at);
     let tag = sheet_tag(step.tag);
-    let room = room_in(tag, attributes, classes);
-    let Room::Free = room else {
-        return room_turn(room);
-    };
-    let field = step.field;
-    let FieldRead::Field {
-        tag: _,
-        start,
-        end: _,
-    } = field
-    else {
-        return Turn::Stop {
-            read: SheetRead::Bad { at },
-        };
+    room_in(tag, attributes, classes)?;
+    let Some(field) = step.field? else {
+        return Err(SheetError::Bad { at: progress.at });
     };
     take_tagged(
-        tag, s, at, phase, missing, start, step.next, attributes, classes,
+        tag,
+        s,
+        progress,
+        field.start,
+        field.end,
+        attributes,
+        classes,
     )
 }
 
 // Reads a sheet into the tables' stores, emptied first. They then hold the rows that were read, also those before a refusal.
-pub fn read_sheet(s: &[u8], attributes: &mut [u8], classes: &mut [u8]) -> SheetRead
+pub fn read_sheet(s: &[u8], attributes: &mut [u8], classes: &mut [u8]) -> Result<(), SheetError>
     requires { Lent attributes.old classes.old }
     ensures { Left (read_sheet s.now) attributes.old classes.old result attributes.new classes.new }
 {
     empty(attributes, store_length(TableId::Attributes));
     empty(classes, store_length(TableId::Classes));
-    let mut at = 0;
-    let mut phase = Phase::Start;
-    let mut missing = true;
-    while !ends_at(s, at) {
-        let turn = take_field(s, at, phase, missing, attributes, classes);
-        let Turn::On {
-            at: next,
-            phase: later,
-            missing: lacking,
-        } = turn
-        else {
-            return stopped(turn);
-        };
-        at = next;
-        phase = later;
-        missing = lacking;
+    let mut progress = Progress {
+        at: 0,
+        phase: Phase::Start,
+        missing: true,
+    };
+    // No count: each turn goes on behind a field of its own length.
+    while !ends_at(s, progress.at) {
+        progress = take_field(s, progress, attributes, classes)?;
     }
-    if missing {
-        return SheetRead::Bad { at };
+    if progress.missing {
+        return Err(SheetError::Bad { at: progress.at });
     }
-    SheetRead::Read
+    Ok(())
 }

@@ -21,8 +21,8 @@ use Rattle.rows_format.specs.Formats.{columns_of}
 use Rattle.rows_read.specs.Reading.{out}
 use Rattle.rows_read.specs.RoundTripLaws.{row_read_written}
 use Rattle.rows_read.specs.WellFormed.{stands_exactly}
-use Rattle.sheet_read.specs.declared.read.SheetRead.TheVariants.{Read}
-use Rattle.sheet_read.specs.declared.read.SheetTag.TheVariants.{Heading, Row}
+use Rattle.sheet_read.specs.SheetRead.{Read}
+use Rattle.sheet_read.specs.SheetTag.{Heading, Row}
 use Rattle.sheet_read.specs.declared.read.Phase.{Phase}
 use Rattle.sheet_read.specs.declared.read.Phase.TheVariants.{InRows}
 use Rattle.sheet_read.specs.Reading.{Rows, plus, schema_from, sheet_tag, position, heading_open, rows_open, is_heading, no_rows}
@@ -36,8 +36,8 @@ use Rattle.sheet_round_trip.specs.ExactLaws.{says_exact_read}
 use Rattle.sheet_round_trip.specs.FieldLaws.{fields_more, read_stands}
 use Rattle.sheet_round_trip.specs.WalkLaws.{Goes, accepted_ends}
 use Rattle.sheet_round_trip.specs.RowLaws.{sheet_more, bare_sheet}
-use Rattle.wire.specs.declared.FieldRead.TheVariants as fields
-use Rattle.rows_read.specs.declared.read.RowRead.TheVariants as row
+use Rattle.wire.specs.FieldRead as fields
+use Rattle.rows_read.specs.RowRead as row
 
 -- ---- what holds between two fields
 

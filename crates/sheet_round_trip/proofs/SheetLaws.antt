@@ -10,7 +10,7 @@ use Rattle.schema.specs.Layout.{store_length}
 use Rattle.schema.specs.Store.{schema_in}
 use Rattle.tables.specs.Filled.{filled_store}
 use Rattle.tables.specs.Same.{SameRows}
-use Rattle.sheet_read.specs.declared.read.SheetRead.TheVariants.{Read}
+use Rattle.sheet_read.specs.SheetRead.{Read}
 use Rattle.sheet_read.specs.Reading.{Rows, rows, rows_in, schema_from, sheet_out, read_sheet}
 use Rattle.sheet_read.specs.ReadingLaws.{Sound}
 use Rattle.sheet_write.specs.Writing.{sheet_bytes}

@@ -20,7 +20,7 @@ use Rattle.rows_format.specs.declared.format.Format.TheVariants.{Row}
 use Rattle.rows_format.specs.Encodings.{passes, accepts, image, room}
 use Rattle.rows_format.specs.Columns.{lead, mark, required, possible, column_width, takes, cell_of}
 use Rattle.rows_format.specs.Formats.{common_columns, attribute_columns, columns_of, own_columns}
-use Rattle.rows_read.specs.declared.read.RowRead.TheVariants.{Read}
+use Rattle.rows_read.specs.RowRead.{Read}
 use Rattle.rows_read.specs.Reading.{turn_of, took_of, row_of, onward, read_by}
 use Rattle.rows_read.specs.ObjectClass.{finish, read_row}
 use Rattle.rows_read.specs.WellFormed.{stands_exactly}

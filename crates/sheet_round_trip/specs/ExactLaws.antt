@@ -22,7 +22,7 @@ use Rattle.rows_format.specs.EncodingsLaws.{says_holds}
 use Rattle.rows_format.specs.Columns.{mark, column_width, cell_at, has_value, value_of, well_formed_cell, well_formed_by, write_by}
 use Rattle.rows_format.proofs.ColumnsLaws.{formed_at}
 use Rattle.rows_format.specs.Formats.{column, common_columns, attribute_columns, own_columns, columns_of, format_width, no_column}
-use Rattle.rows_read.specs.declared.read.RowRead.TheVariants.{Read}
+use Rattle.rows_read.specs.RowRead.{Read}
 use Rattle.rows_read.specs.Reading.{out, read_by}
 use Rattle.rows_read.specs.ObjectClass.{object_class_width, read_row}
 use Rattle.rows_read.specs.RoundTripLaws.{fields_back, row_read_lem}

@@ -11,7 +11,7 @@ use Rattle.prelude.specs.Part.{part, splice}
 use Rattle.prelude.specs.PartLaws.{part_length}
 use Rattle.prelude.specs.SpliceLaws.{splice_part}
 use Rattle.wire.specs.Wire.{field_at, field_bytes}
-use Rattle.wire.specs.WireLaws.{field_is, field_length, field_read, value_read_lem}
+use Rattle.wire.specs.WireLaws.{one_field, field_is, field_length, field_read, value_read_lem}
 use Rattle.rows_format.specs.declared.column.Column.{Column}
 use Rattle.rows_format.specs.Columns.{column_width, cell_at, has_value, value_of, field_of, write_by, laid, Sound}
 use Rattle.rows_format.proofs.ColumnsLaws.{laid_cons, field_none, field_some, width_small}
@@ -23,7 +23,7 @@ use Rattle.rows_read.specs.Stopping.{FieldStands, column_at, value_at}
 use Rattle.rows_read.specs.OneStopLaws.{one_column}
 use Rattle.rows_read.specs.PlaceLaws.{field_stands}
 use Rattle.sheet_round_trip.specs.Exact.{FieldsStand, none, more, Stands}
-use Rattle.wire.specs.declared.FieldRead.TheVariants as fields
+use Rattle.wire.specs.FieldRead as fields
 
 -- ---- a field that is read stands there
 
@@ -151,7 +151,8 @@ module _ (row s : List ℕ) (end : ℕ) where
         in_front from tag stop is g =
             let same : fields.Field r.tag (length p + 3) (length p + 3 + length v) ≡ fields.Field tag (from + 3) stop =
             sym first ∙ ap (λ (n : ℕ). field_at s n end) (sym is) ∙ field_stands g in
-            (cc, cc)
+            let f = one_field same in
+            (f.0, sym f.2)
 
         present_have : AllHave rs w → (from : ℕ) → from ≡ length p → (at tag stop : ℕ) → FieldsStand s end from at → FieldStands s end at tag stop
             → Has (r ∷ rs) row tag (value_at s at stop)

@@ -33,14 +33,14 @@ use Rattle.rows_read.specs.Reading.{out, read_by}
 use Rattle.rows_read.specs.RoundTripLaws.{fields_back, row_read_lem}
 use Rattle.sheet_read.specs.declared.read.Phase.{Phase}
 use Rattle.sheet_read.specs.declared.read.Phase.TheVariants.{InRows}
-use Rattle.sheet_read.specs.declared.read.SheetRead.TheVariants.{Read}
+use Rattle.sheet_read.specs.SheetRead.{Read}
 use Rattle.sheet_read.specs.Reading.{Rows, heading_open, is_heading, plus, position, read_sheet, row_out}
 use Rattle.sheet_read.specs.ReadingLaws.{sheet_sound}
 use Rattle.sheet_read.specs.Stopping.{row_tag}
 use Rattle.sheet_write.specs.Writing.{heading, row_field, row_fields, sheet_bytes}
 use Rattle.sheet_round_trip.specs.Longest.{longest_row, longest_sheet}
 use Rattle.sheet_round_trip.specs.WalkLaws.{Goes, accepted_ends}
-use Rattle.rows_read.specs.declared.read.RowRead.TheVariants as row
+use Rattle.rows_read.specs.RowRead as row
 
 -- ---- one row
 

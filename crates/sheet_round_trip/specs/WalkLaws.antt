@@ -1,29 +1,29 @@
 -- An accepted sheet, field by field: what holds at its start, and goes on to hold behind the heading and behind each row that is read, holds at its end.
 use Rattle.std.proofs.Math.Bool.{Bool, true, false}
-use Rattle.std.specs.Prelude.{cond, ◌&&◌, List, ◌≡◌, eqb, length, get_or}
+use Rattle.std.specs.Prelude.{cond, ◌&&◌, List, ◌≡◌, eqb, length, get_or, Some, Ok, Err}
 use Rattle.std.proofs.Math.Path.{refl, subst}
 use Prim.Native.Nat.{ℕ, zero, suc}
 use Rattle.std.proofs.Common.{arith}
 use Rattle.prelude.specs.SaysLaws.{says_and, says_eq, says_test, choose}
-use Rattle.wire.specs.declared.FieldRead.{FieldRead}
+use Rattle.wire.specs.FieldRead.{FieldRead}
 use Rattle.wire.specs.Wire.{field_at}
 use Rattle.schema.specs.declared.number.TableId.{TableId}
 use Rattle.schema.specs.declared.number.TableId.TheVariants.{Attributes}
-use Rattle.rows_read.specs.declared.read.RowRead.{RowRead}
+use Rattle.rows_read.specs.RowRead.{RowRead}
 use Rattle.rows_read.specs.Reading.{Out, out}
-use Rattle.sheet_read.specs.declared.read.SheetRead.TheVariants.{Read, Bad, Full}
-use Rattle.sheet_read.specs.declared.read.SheetTag.{SheetTag}
-use Rattle.sheet_read.specs.declared.read.SheetTag.TheVariants.{Heading, Row, Unknown}
+use Rattle.sheet_read.specs.SheetRead.{Read, Bad}
+use Rattle.sheet_read.specs.SheetTag.{SheetTag}
+use Rattle.sheet_read.specs.SheetTag.{Heading, Row, Unknown}
 use Rattle.sheet_read.specs.declared.read.Phase.{Phase}
 use Rattle.sheet_read.specs.declared.read.Phase.TheVariants.{Start, InRows}
-use Rattle.sheet_read.specs.declared.read.Room.{Room}
-use Rattle.sheet_read.specs.declared.read.Turn.{Turn}
-use Rattle.sheet_read.specs.declared.read.Turn.TheVariants.{On, Stop}
+use Rattle.sheet_read.specs.Room.{Room}
+use Rattle.sheet_read.specs.Turn.{Turn}
+use Rattle.sheet_read.specs.declared.read.SheetError.{SheetError}
 use Rattle.sheet_read.specs.Reading.{Rows, no_rows, plus, sheet_tag, heading_open, rows_open, is_heading, take_heading, is_read, row_out, row_turn, rows_with}
 use Rattle.sheet_read.specs.Reading.{take_table_row, Step, step, take_tagged, field_step, room_at, room_step, take_field, SheetOut, onward, ended, read_from, read_sheet}
-use Rattle.wire.specs.declared.FieldRead.TheVariants as fields
-use Rattle.rows_read.specs.declared.read.RowRead.TheVariants as row
-use Rattle.sheet_read.specs.declared.read.Room.TheVariants as room
+use Rattle.wire.specs.FieldRead as fields
+use Rattle.rows_read.specs.RowRead as row
+use Rattle.sheet_read.specs.Room as room
 
 -- where reading has come to: the place, how far, whether the heading is missing, the rows so far
 abbrev pub At : Type 1
@@ -37,14 +37,14 @@ pub record Ends (s : List ℕ) (P : At) (x : Rows) : Type 0 where
 bad_refused : (at : ℕ) → ¬ (Bad at ≡ Read)
 bad_refused at e = let no : ◌≡◌ {A = ℕ} 0 1 = cc in omega arith
 
-full_refused : (t : TableId) → ¬ (Full t ≡ Read)
-full_refused t e = let no : ◌≡◌ {A = ℕ} 0 1 = cc in omega arith
+error_refused : (error : SheetError) → ¬ (Err error ≡ Read)
+error_refused error e = let no : ◌≡◌ {A = ℕ} 0 1 = cc in omega arith
 
 module _ (s : List ℕ) (P : At) where
   -- a turn comes to such a place, or refuses the sheet
   abbrev After : Turn → Rows → Type 0
-  After (On at phase missing) x = P at phase missing x
-  After (Stop read) x = ¬ (read ≡ Read)
+  After (Ok progress) x = P progress.at progress.phase progress.missing x
+  After (Err error) x = ¬ (Err error ≡ Read)
 
   abbrev Fine : Step → Type 0
   Fine y = After y.turn y.rows
@@ -76,7 +76,7 @@ module _ (s : List ℕ) (P : At) where
             y = row_out t s start stop
 
             go : (r : RowRead) → y.answer ≡ r → Fine (step (row_turn t stop missing r) (cond (is_read r) (plus t y.row x) x))
-            go (row.Bad place) e = bad_refused place
+            go (Err bad) e = bad_refused bad.at
             go row.Read e = goes.row at phase missing x tag start stop f t known o (λ i. record { answer = e i; row = y.row }) here
 
         tagged_after : (which : SheetTag) → sheet_tag tag ≡ which → Fine (take_tagged which s at phase missing start stop x)
@@ -88,15 +88,15 @@ module _ (s : List ℕ) (P : At) where
       field_after : (r : FieldRead) → field_at s at (length s) ≡ r → Fine (field_step r s at phase missing x)
       unfolding field_step
       field_after fields.End e = bad_refused at
-      field_after (fields.Bad place) e = bad_refused at
-      field_after (fields.Field tag start stop) e = tagged_after tag start stop e (sheet_tag tag) refl
+      field_after (Err bad) e = bad_refused at
+      field_after (Ok (Some f)) e = tagged_after f.tag f.start f.end e (sheet_tag f.tag) refl
 
       step_after : Fine (take_field s at phase missing x)
       unfolding take_field room_step
       step_after = go (room_at (sheet_tag (get_or s at 0)) x)
         where
           go : (r : Room) → Fine (room_step r x (field_step (field_at s at (length s)) s at phase missing x))
-          go (room.Full t) = full_refused t
+          go (Err error) = error_refused error
           go room.Free = field_after (field_at s at (length s)) refl
 
     -- what reading comes to, if it accepts
@@ -120,8 +120,8 @@ module _ (s : List ℕ) (P : At) where
         onward_came : (rest : ℕ → Phase → Bool → Rows → SheetOut)
             → ((at : ℕ) (phase : Phase) (missing : Bool) (x : Rows) → P at phase missing x → Came (rest at phase missing x))
             → (t : Turn) (y : Rows) → After t y → Came (onward rest t y)
-        onward_came rest came (On next later lacking) y r = unfold onward in (came next later lacking y r)
-        onward_came rest came (Stop _) y r = unfold onward in (λ q. absurd (r q))
+        onward_came rest came (Ok p) y r = unfold onward in (came p.at p.phase p.missing y r)
+        onward_came rest came (Err _) y r = unfold onward in (λ q. absurd (r q))
 
     pub accepted_ends : P 0 Start true no_rows → (read_sheet s).answer ≡ Read → Ends s P (read_sheet s).rows
     unfolding read_sheet

@@ -25,7 +25,7 @@ use Rattle.rows_read.specs.RoundTripLaws.{written_row_read}
 use Rattle.sheet_read.proofs.AcceptedLaws.{row_tag_lem}
 use Rattle.sheet_read.specs.declared.read.Phase.{Phase}
 use Rattle.sheet_read.specs.declared.read.Phase.TheVariants.{Start, InRows}
-use Rattle.sheet_read.specs.declared.read.SheetRead.TheVariants.{Read}
+use Rattle.sheet_read.specs.SheetRead.{Read}
 use Rattle.sheet_read.specs.Reading.{Rows, rows, no_rows, rows_in, plus, schema_from, sheet_tag, position, heading_open, rows_open, is_heading, row_out}
 use Rattle.sheet_read.specs.Reading.{sheet_out, read_sheet}
 use Rattle.sheet_read.specs.ReadingLaws.{AllRows, Sound}
@@ -33,8 +33,8 @@ use Rattle.sheet_read.proofs.TurnLaws.{Stands, stands_start, stands_end, stands_
 use Rattle.sheet_read.specs.Stopping.{row_tag}
 use Rattle.sheet_write.specs.Writing.{heading, row_field, sheet_bytes}
 use Rattle.sheet_round_trip.specs.RowLaws.{written, sheet_of_lem, plus_all, all_attributes, all_classes}
-use Rattle.wire.specs.declared.FieldRead.TheVariants as fields
-use Rattle.rows_read.specs.declared.read.RowRead.TheVariants as row
+use Rattle.wire.specs.FieldRead as fields
+use Rattle.rows_read.specs.RowRead as row
 
 -- ---- one row
 
@@ -107,7 +107,7 @@ rows_come t s (r ∷ list) p q x e h wide formed bytes few =
       phase = InRows t;
       free = own_open t;
       stands = subst (λ (at : ℕ). Stands s at (InRows t) false (plus t r x)) next
-          (stands_on h.stands here _ turn _ _ _ refl);
+          (stands_on h.stands here _ turn _ refl);
     } in
     subst (λ (y : List ℕ). Come t s (length y) (plus_all t list (plus t r x))) (append_assoc p (row_field t r) (written t list))
     (rows_come t s list (p ++ row_field t r) q (plus t r x) (apart ∙ simp append_assoc) more wide.1 formed.1 bytes.1
@@ -134,7 +134,7 @@ heading_come q =
       phase = InRows Attributes;
       free = refl;
       stands = subst (λ (at : ℕ). Stands (heading ++ q) at (InRows Attributes) false no_rows) (sym heading_size)
-          (stands_on (stands_start (heading ++ q)) (omega arith) _ turn _ _ _ refl);
+          (stands_on (stands_start (heading ++ q)) (omega arith) _ turn _ refl);
     }
 
 classes_next : {s : List ℕ} {at : ℕ} {x : Rows} → Come Attributes s at x → Come Classes s at x

@@ -39,12 +39,9 @@ fn row_fields_length(table: TableId, store: &[u8]) -> usize
     requires { Writable table store.now }
     ensures { result ≡ length (row_fields table (table_in table store.now)) }
 {
-    let count = row_count(table, store);
     let mut total = 0;
-    let mut k = 0;
-    while k < count {
+    for k in 0..row_count(table, store) {
         total += row_field_length(table, row(store, row_id(table, k)));
-        k += 1;
     }
     total
 }
@@ -74,12 +71,9 @@ fn put_row_fields(table: TableId, store: &[u8], out: &mut [u8], at: usize) -> us
     requires { Writable table store.now × (at + length (row_fields table (table_in table store.now)) ≤ length out.old) }
     ensures { WrittenAt (row_fields table (table_in table store.now)) at result out.old out.new }
 {
-    let count = row_count(table, store);
     let mut next = at;
-    let mut k = 0;
-    while k < count {
+    for k in 0..row_count(table, store) {
         next = put_row_field(table, row(store, row_id(table, k)), out, next);
-        k += 1;
     }
     next
 }
@@ -89,8 +83,7 @@ fn put_heading(out: &mut [u8]) -> usize
     requires { length heading ≤ length out.old }
     ensures { WrittenAt heading 0 result out.old out.new }
 {
-    let one = [1u8; 1];
-    write_field(out, 0, HEADING, &one);
+    write_field(out, 0, HEADING, &[1]);
     HEADER + 1
 }
 

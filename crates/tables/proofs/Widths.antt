@@ -17,11 +17,3 @@ common_within Classes = omega arith
 -- row k lies within its store, the width and the number as a function found them
 pub row_room : (t : TableId) (k : ℕ) (s : List ℕ) (w n : ℕ) → w ≡ row_width t → n ≡ k → store_length t ≤ length s → k < limit t → 2 + w * n + w ≤ length s
 row_room t k s w n e f long few = rw (e, f) (row_fits rows_at (row_width t) (limit t) k (length s) long few)
-
--- a count fits the bytes that hold it
-pub limit_u16 : (t : TableId) → limit t < 65536
-limit_u16 Attributes = omega arith
-limit_u16 Classes = omega arith
-
-pub limit_byte : (t : TableId) → t ≡ Classes → limit t < 256
-limit_byte t e = rw e (omega arith)

@@ -1,13 +1,17 @@
 -- What shaped stores give to a function that asks for a row of either table.
 use Rattle.std.specs.Prelude.{List, ◌≡◌, ℕ, ◌<◌, length}
-use Rattle.std.proofs.Common.{arith}
+use Rattle.std.proofs.Common.{arith, ap, ◌∙◌}
 use Rattle.schema.specs.declared.number.TableId.{TableId}
 use Rattle.schema.specs.declared.number.TableId.TheVariants.{Attributes, Classes}
 use Rattle.schema.specs.Numbers.{limit}
 use Rattle.schema.specs.Layout.{row_width}
-use Rattle.schema.specs.Store.{table, schema_in, store_of}
+use Rattle.schema.specs.Store.{table, table_in, schema_in, store_of}
 use Rattle.schema.specs.StoreLaws.{table_row_length}
 use Rattle.tables.specs.Shaped.{TableShaped, Shaped}
+
+-- a row of a shaped store, as a call gave it, has its width
+pub table_wide : {t : TableId} {s row : List ℕ} {k : ℕ} → TableShaped t s → row ≡ (table_in t s).row k → k < (table_in t s).count → length row ≡ row_width t
+table_wide {t} {s} {row} {k} h e l = ap length e ∙ table_row_length t s k h.long (omega (arith, h.few))
 
 pub shaped_table : (t : TableId) {a c : List ℕ} → Shaped a c → TableShaped t (store_of t a c)
 shaped_table Attributes h = h.attributes

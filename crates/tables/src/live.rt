@@ -16,19 +16,14 @@ fn is_active_for(naming: &[u8], named: &[u8]) -> bool
     requires { (common_width ≤ length naming.now) × (common_width ≤ length named.now) }
     ensures { result ≡ (is_defunct naming.now || not (is_defunct named.now)) }
 {
-    if is_defunct(naming) {
-        return true;
-    }
-    !is_defunct(named)
+    is_defunct(naming) || !is_defunct(named)
 }
 
 // Whether a row of a table is live for the naming row.
+#[tactic(auto, using(crate::proofs::Widths::common_within, schema::specs::StoreLaws::table_row_length), unfolding(crate::specs::Live::live))]
 pub fn is_live(store: &[u8], naming: &[u8], id: RowId) -> bool
     requires { TableShaped (table_of id) store.now × (common_width ≤ length naming.now) }
     ensures { result ≡ live (table_in (table_of id) store.now) naming.now (number_of id) }
 {
-    if row_count(table_of(id), store) <= number_of(id) {
-        return false;
-    }
-    is_active_for(naming, row(store, id))
+    number_of(id) < row_count(table_of(id), store) && is_active_for(naming, row(store, id))
 }

@@ -8,10 +8,10 @@ ghost use Rattle.schema.specs.ClassRow.{superclass_of, naming_of};
 ghost use Rattle.tables.specs.Named.{lists, named_by, names};
 
 use schema::class::{
-    Naming, fixed_auxiliary, fixed_optional, fixed_superior, mandatory, naming_attribute,
-    open_auxiliary, open_optional, open_superior, superclass,
+    fixed_auxiliary, fixed_optional, fixed_superior, mandatory, naming_attribute, open_auxiliary,
+    open_optional, open_superior, superclass,
 };
-use schema::number::{AttributeNumber, ClassNumber, ClassRead, RowId};
+use schema::number::{AttributeNumber, ClassNumber, RowId};
 use sets::has;
 
 // The two kinds of lists of classes, each with a fixed and an open list.
@@ -25,13 +25,11 @@ pub enum ClassList {
 fn in_either(a: &[u8], b: &[u8], n: usize) -> bool
     ensures { result ≡ (member a.now n || member b.now n) }
 {
-    if has(a, n) {
-        return true;
-    }
-    has(b, n)
+    has(a, n) || has(b, n)
 }
 
 // Whether a class is in a list of the kind.
+#[tactic(auto, unfolding(crate::specs::Named::lists))]
 pub fn is_listed(kind: ClassList, row: &[u8], c: ClassNumber) -> bool
     requires { class_width ≤ length row.now }
     ensures { result ≡ lists kind row.now c.0 }
@@ -42,32 +40,24 @@ pub fn is_listed(kind: ClassList, row: &[u8], c: ClassNumber) -> bool
     }
 }
 
+#[tactic(auto, unfolding(crate::specs::Named::named_by))]
 fn is_named_by(row: &[u8], a: AttributeNumber) -> bool
     requires { class_width ≤ length row.now }
     ensures { result ≡ named_by (naming_of row.now) a.0 }
 {
-    let named = naming_attribute(row);
-    match named {
-        Naming::By(n) => n.0 == a.0,
-        Naming::Absent => false,
-    }
+    naming_attribute(row).is_some_and(|n| n.0 == a.0)
 }
 
 // Whether the row names an attribute: in a list or as rDNAttID.
+#[tactic(auto, unfolding(crate::specs::Named::names))]
 fn names_attribute(row: &[u8], a: AttributeNumber) -> bool
     requires { class_width ≤ length row.now }
     ensures { result ≡ names Attributes row.now a.0 }
 {
-    if has(mandatory(row), a.0) {
-        return true;
-    }
-    if has(fixed_optional(row), a.0) {
-        return true;
-    }
-    if has(open_optional(row), a.0) {
-        return true;
-    }
-    is_named_by(row, a)
+    has(mandatory(row), a.0)
+        || has(fixed_optional(row), a.0)
+        || has(open_optional(row), a.0)
+        || is_named_by(row, a)
 }
 
 // Whether class c is the row's superclass.
@@ -75,25 +65,18 @@ pub fn is_superclass(row: &[u8], c: ClassNumber) -> bool
     requires { (class_width ≤ length row.now) × (c.0 < class_limit) }
     ensures { result ≡ eqb (superclass_of row.now) c.0 }
 {
-    let read = superclass(row);
-    match read {
-        ClassRead::Class(s) => s.0 == c.0,
-        ClassRead::Beyond => false,
-    }
+    superclass(row).is_some_and(|s| s.0 == c.0)
 }
 
 // Whether the row names a class: as superclass or in a list.
+#[tactic(auto, unfolding(crate::specs::Named::names))]
 fn names_class(row: &[u8], c: ClassNumber) -> bool
     requires { (class_width ≤ length row.now) × (c.0 < class_limit) }
     ensures { result ≡ names Classes row.now c.0 }
 {
-    if is_superclass(row, c) {
-        return true;
-    }
-    if is_listed(ClassList::Auxiliaries, row, c) {
-        return true;
-    }
-    is_listed(ClassList::Superiors, row, c)
+    is_superclass(row, c)
+        || is_listed(ClassList::Auxiliaries, row, c)
+        || is_listed(ClassList::Superiors, row, c)
 }
 
 // Whether the row names a row of either table.

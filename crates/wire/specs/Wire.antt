@@ -1,8 +1,7 @@
 -- Tagged fields. Document 01: "Tagged fields: one byte tag, two bytes length, value; numbers most significant byte first."
 use Rattle.std.specs.Prelude.{cond, List, ◌∷◌, ◌++◌, ℕ, ◌+◌, leb, eqb, length, get_or}
 use Rattle.prelude.specs.BigEndian.{big_endian, big_endian_bytes}
-use Rattle.wire.specs.declared.FieldRead.{FieldRead}
-use Rattle.wire.specs.declared.FieldRead.TheVariants.{Field, End, Bad}
+use Rattle.wire.specs.FieldRead.{FieldRead, Field, End, Bad}
 
 -- where the value of the field at a place ends
 abbrev pub value_end : List ℕ → ℕ → ℕ

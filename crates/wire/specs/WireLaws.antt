@@ -1,5 +1,5 @@
 -- Laws of tagged fields: each case of reading one, from the facts that a test leaves; and that what is written is read back.
-use Rattle.std.specs.Prelude.{◌≡◌, Bool, true, false, ℕ, suc, ◌+◌, ◌-◌, ◌<◌, ◌≤◌, eqb, leb, get_or, set, take, drop}
+use Rattle.std.specs.Prelude.{◌≡◌, Bool, true, false, ℕ, suc, ◌+◌, ◌-◌, ◌<◌, ◌≤◌, eqb, leb, get_or, set, take, drop, Err}
 use Rattle.std.proofs.Math.Path.{refl, ap}
 use Rattle.std.proofs.Common.{sym, ◌∙◌, arith, leb-true, eq-eqb, ne_eqb, le-leb}
 use mathlib.Core.List.{List, [], ◌∷◌, ◌++◌, append_assoc}
@@ -12,7 +12,9 @@ use Rattle.prelude.specs.SpliceLaws.{splice_length, splice_append, set_then_spli
 use Rattle.prelude.specs.LentLaws.{lent_front}
 use Rattle.prelude.specs.BigEndian.{big_endian, big_endian_bytes}
 use Rattle.prelude.specs.BigEndianLaws.{bytes_length, number_of_bytes, bytes_of_number}
-use Rattle.wire.specs.declared.FieldRead.TheVariants.{Field, End, Bad}
+use Rattle.wire.specs.FieldRead.{Field, End, Bad}
+use Rattle.wire.specs.declared.Field as declared
+use Rattle.wire.specs.declared.BadField.{BadField}
 use Rattle.wire.specs.Wire.{value_end, field_at, header_bytes, field_bytes}
 
 -- ---- the four cases of reading a field, for the code
@@ -33,7 +35,30 @@ pub field_whole : (s : List ℕ) (at end n : ℕ) → n ≡ big_endian 2 (at + 1
 unfolding field_at
 field_whole s at end n e k = simp (ne_eqb at end (omega arith), le-leb (at + 3) end (omega arith), ← e, le-leb (at + 3 + n) end k)
 
+-- ---- what a field that is bad is: it is told by its tag
+
+pub field_bad : (s : List ℕ) (at end : ℕ) (bad : BadField) → field_at s at end ≡ Err bad → bad.at ≡ at
+unfolding field_at
+field_bad s at end bad e = go (eqb at end) refl (leb (at + 3) end) refl (leb (value_end s at) end) refl
+  where
+    same : Bad at ≡ Err bad → bad.at ≡ at
+    same e = let is : ◌≡◌ {A = BadField} (record { at = at }) bad = cc in sym (ap (λ (x : BadField). x.at) is)
+
+    go : (x : Bool) → eqb at end ≡ x → (y : Bool) → leb (at + 3) end ≡ y → (z : Bool) → leb (value_end s at) end ≡ z → bad.at ≡ at
+    go true p y q z r = let no : ◌≡◌ {A = ℕ} 0 1 = cc in absurd (omega arith)
+    go false p true q true r = let no : ◌≡◌ {A = ℕ} 0 1 = cc in absurd (omega arith)
+    go false p true q false r = same (rw (p, q, r) at e)
+    go false p false q z r = same (rw (p, q) at e)
+
 -- ---- what a whole field is, for whoever reads one
+
+-- what is read once is one field
+pub one_field : {tag start stop tag' start' stop' : ℕ} → Field tag start stop ≡ Field tag' start' stop' → (tag ≡ tag') × (start ≡ start') × (stop ≡ stop')
+one_field {tag} {start} {stop} {tag'} {start'} {stop'} e =
+    let f : declared.Field = record { tag = tag; start = start; end = stop } in
+    let g : declared.Field = record { tag = tag'; start = start'; end = stop' } in
+    let same : f ≡ g = cc in
+    (ap (λ (x : declared.Field). x.tag) same, ap (λ (x : declared.Field). x.start) same, ap (λ (x : declared.Field). x.end) same)
 
 pub record Whole (s : List ℕ) (at end tag start stop : ℕ) : Type 0 where
   pub tag_is : tag ≡ get_or s at 0
@@ -50,8 +75,9 @@ field_is s at end tag start stop e = go (eqb at end) refl (leb (at + 3) end) ref
     go false p false q z r = let no : ◌≡◌ {A = ℕ} 0 1 = cc in absurd (omega arith)
     go false p true q false r = let no : ◌≡◌ {A = ℕ} 0 1 = cc in absurd (omega arith)
     go false p true q true r =
-        let c : stop ≡ value_end s at = cc in
-        record { tag_is = cc; start_is = cc; stop_is = c; within = omega (arith, leb-true (value_end s at) end r) }
+        let here : Field (get_or s at 0) (at + 3) (value_end s at) ≡ Field tag start stop = rw (p, q, r) at e in
+        let f = one_field (sym here) in
+        record { tag_is = f.0; start_is = f.1; stop_is = f.2; within = omega (arith, leb-true (value_end s at) end r, f.2) }
 
 -- ---- what is written is read back, with any bytes before and after
 

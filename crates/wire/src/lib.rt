@@ -7,43 +7,46 @@ ghost use Rattle.wire.specs.Wire.{field_at, header_bytes, field_bytes};
 
 use prelude::number::{read_u16, write_u16};
 
-// What reading a field at a place finds.
-#[derive(Clone, Copy)]
-pub enum FieldRead {
-    // A whole field: its value is the bytes from start up to end.
-    Field { tag: u8, start: usize, end: usize },
-    // Nothing is left.
-    End,
-    // Fewer bytes than a header has, or a value that runs past the end. The place is that of the tag.
-    Bad { at: usize },
+// A whole field: its value is the bytes from start up to end.
+#[derive(Clone, Copy, Debug, PartialEq, Eq)]
+pub struct Field {
+    pub tag: u8,
+    pub start: usize,
+    pub end: usize,
+}
+
+// The first field that cannot be accepted, by the place of its tag; or the place where a missing field should stand, or where leftover bytes begin.
+#[derive(Clone, Copy, Debug, PartialEq, Eq)]
+pub struct BadField {
+    pub at: usize,
 }
 
 // How many bytes stand before a field's value.
 pub const HEADER: usize = 3;
 
-// The field at a place of the fields that end at end.
-pub fn field_at(s: &[u8], at: usize, end: usize) -> FieldRead
+// The field at a place of the fields that end at end: none where nothing is left. One is bad that has fewer bytes than a header, or whose value runs past the
+// end.
+pub fn field_at(s: &[u8], at: usize, end: usize) -> Result<Option<Field>, BadField>
     requires { (at ≤ end) × (end ≤ length s.now) }
     ensures { result ≡ field_at s.now at end }
 {
     if at == end {
-        return FieldRead::End;
+        return Ok(None);
     }
     let left = end - at;
     if left < HEADER {
-        return FieldRead::Bad { at };
+        return Err(BadField { at });
     }
     let len = read_u16(s, at + 1) as usize;
     if left - HEADER < len {
-        return FieldRead::Bad { at };
+        return Err(BadField { at });
     }
     let start = at + HEADER;
-    let stop = start + len;
-    FieldRead::Field {
+    Ok(Some(Field {
         tag: s[at],
         start,
-        end: stop,
-    }
+        end: start + len,
+    }))
 }
 
 // A field's value, the bytes from start up to end, as a part.

@@ -265,15 +265,32 @@ fn a_name_in_a_note_stands_where_the_note_says() {
     assert!(count > 30, "{count} names");
 }
 
-/// Number and name of each `pub const NAME: u8 = NUMBER;`.
+/// A variant's name in capitals: `NAME_TAKEN` of `NameTaken`.
+fn capitals(variant: &str) -> String {
+    let mut name = String::new();
+    for letter in variant.chars() {
+        if letter.is_ascii_uppercase() && !name.is_empty() {
+            name.push('_');
+        }
+        name.push(letter.to_ascii_uppercase());
+    }
+    name
+}
+
+/// Number and name of `DONE`, and of each variant of `Refusal`.
 fn refusals() -> Vec<(u64, String)> {
     let code = text("crates/schema/src/refusal.rt");
-    let constants = code.lines().filter_map(|line| {
-        let (name, number) = line.strip_prefix("pub const ")?.split_once(": u8 = ")?;
-        let number = number.strip_suffix(';')?.parse().ok()?;
-        Some((number, name.to_owned()))
+    let numbered = code.lines().filter_map(|line| {
+        if let Some(constant) = line.strip_prefix("pub const ") {
+            let (name, number) = constant.split_once(": u8 = ")?;
+            let number = number.strip_suffix(';')?.parse().ok()?;
+            return Some((number, name.to_owned()));
+        }
+        let (variant, number) = line.trim().split_once(" = ")?;
+        let number = number.strip_suffix(',')?.parse().ok()?;
+        Some((number, capitals(variant)))
     });
-    constants.collect()
+    numbered.collect()
 }
 
 #[test]

@@ -6,7 +6,7 @@ use Rattle.keeper_c.proofs.keeper_plain_change.Goals as goal
 pub returns-then-detail-lt-DETAIL : goal.returns-then-detail-lt-DETAIL
 unfolding stores_call is_short
 returns-then-detail-lt-DETAIL c =
-    rw (lt-ltb _ _ c.if-detail-lt-DETAIL.true)
+    rw (lt-ltb _ _ c.if-detail-lt-DETAIL.true, c.number.ensures)
 
 pub returns : goal.returns
 unfolding is_short

@@ -3,4 +3,4 @@ use Rattle.reader.proofs.ends_at.Goals as goal
 
 pub returns : goal.returns
 returns c =
-    step_ended _ _ _ c.step_at-step.ensures
+    step_ended _ _ _ c.step_at.ensures

@@ -1,32 +1,16 @@
-use borrow.Author.Tests.{lt-ltb, le-ltb}
+use Rattle.std.proofs.Common.{arith}
+use Rattle.std.proofs.lemmas.Bool.Decides.{nat_tests}
 use Rattle.rules_names.specs.Name.{identifier_invalid}
-use native.Mathlib.Omega.{arith}
 use Rattle.rules_names.proofs.identifier_invalid.Goals as goal
 
 pub returns-then-arc_count-lt2 : goal.returns-then-arc_count-lt2
 unfolding identifier_invalid
-returns-then-arc_count-lt2 c =
-    rw (← c.arc_count.ensures, lt-ltb _ _ c.if-arc_count-lt2.true)
+returns-then-arc_count-lt2 c = grind (arith, nat_tests)
 
-pub returns-then-first-gt2 : goal.returns-then-first-gt2
+pub returns-in-0 : goal.returns-in-0
 unfolding identifier_invalid
-returns-then-first-gt2 c =
-    rw (← c.arc_count.ensures, le-ltb _ _ c.if-arc_count-lt2.false, ← c.arc-first.ensures, lt-ltb _ _ c.if-first-gt2.true)
+returns-in-0 c = grind (arith, nat_tests)
 
-pub returns-then-first-eq2 : goal.returns-then-first-eq2
+pub returns-in_default : goal.returns-in_default
 unfolding identifier_invalid
-returns-then-first-eq2 c =
-    rw (← c.arc_count.ensures, le-ltb _ _ c.if-arc_count-lt2.false, ← c.arc-first.ensures, c.if-first-eq2.true)
-
-pub returns : goal.returns
-unfolding identifier_invalid
-returns c =
-    rw (
-      ← c.arc_count.ensures,
-      le-ltb _ _ c.if-arc_count-lt2.false,
-      ← c.arc-first.ensures,
-      le-ltb _ _ c.if-first-gt2.false,
-      lt-ltb c.arc-first.result 2
-          (omega arith),
-      ← c.arc.ensures,
-    )
+returns-in_default c = grind (arith, nat_tests)

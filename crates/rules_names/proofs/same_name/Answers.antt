@@ -1,45 +1,35 @@
-use mathlib.Core.Bool.{and-false}
-use mathlib.Core.Path.{sym, ap, ◌∙◌}
-use borrow.Author.Tests.{eq-eqb, ne_eqb}
-use lib.Dec.{eqb}
-use lib.ListN.{length, get_or}
-use Rattle.prelude.specs.BelowLaws.{all_zero, all_more, all_not, all_end}
-use Rattle.rules_names.specs.Name.{folded, same_name}
-use borrow.Author.Rules.{rules}
+use Rattle.std.proofs.Common.{◌≡◌, ◌↔◌, ℕ, List, map, length, get_or, sym, ap, ◌∙◌, arith, ext_get_or}
+use Rattle.std.proofs.lemmas.Bool.Decides.{nat_tests}
+use Rattle.std.proofs.lemmas.List.{length-map}
+use Rattle.std.proofs.Math.ListN.{get_or-map}
+use Rattle.std.specs.Char.{to_ascii_lowercase}
+use Rattle.prelude.specs.SaysLaws.{says_same}
+use Rattle.rules_names.specs.Name.{folded, between, SameName}
+use Rattle.rules_names.specs.NameLaws.{says_same_name}
 use Rattle.rules_names.proofs.same_name.Goals as goal
 
-pub returns-then-s-t : goal.returns-then-s-t
-unfolding same_name
-returns-then-s-t c =
-    rw (ne_eqb _ _ c.if-s-t.true)
+lower : (b : ℕ) → to_ascii_lowercase b ≡ folded b
+unfolding folded between
+lower b = grind (arith, nat_tests)
 
-pub loop-i-init : goal.loop-i-init
-loop-i-init c =
-    (search rules, all_zero _)
+lower_at : (s : List ℕ) (i : ℕ) → get_or (map to_ascii_lowercase s) i 0 ≡ folded (get_or s i 0)
+lower_at s i = get_or-map to_ascii_lowercase s i 0 ∙ lower (get_or s i 0)
 
-pub returns-then-fold : goal.returns-then-fold
-unfolding same_name
-returns-then-fold c =
-    let s = c.args.s.now in
-    let t = c.args.t.now in
-    rw
-    (all_not (λ k. eqb (folded (get_or s k 0)) (folded (get_or t k 0))) c.loop-i.i (length s) (search rules)
-    (ne_eqb _ _
-    (λ e. c.if-fold.true (c.fold.ensures ∙ ap folded c.byte_at.ensures ∙ e ∙ sym (c.fold-in-loop-i.ensures ∙ ap folded c.byte_at-in-loop-i.ensures)))))
-    (sym (and-false (eqb (length s) (length t))))
-
-pub loop-i-preserved : goal.loop-i-preserved
-loop-i-preserved c = (
-  search rules,
-  all_more (λ k. eqb (folded (get_or c.args.s.now k 0)) (folded (get_or c.args.t.now k 0))) _ c.loop-i.invariant.1
-      (eq-eqb _ _ (sym (c.fold.ensures ∙ ap folded c.byte_at.ensures) ∙ c.if-fold.false ∙ c.fold-in-loop-i.ensures ∙ ap folded c.byte_at-in-loop-i.ensures)),
+-- names that are the same in lower case
+lowered : (s t : List ℕ) → (map to_ascii_lowercase s ≡ map to_ascii_lowercase t) ↔ SameName s t
+lowered s t = (
+  λ e. record {
+    lengths = sym (length-map s to_ascii_lowercase) ∙ ap length e ∙ length-map t to_ascii_lowercase;
+    bytes = λ i l. sym (lower_at s i) ∙ ap (λ (x : List ℕ). get_or x i 0) e ∙ lower_at t i;
+  },
+  λ h. ext_get_or 0 (map to_ascii_lowercase s) (map to_ascii_lowercase t)
+      (length-map s to_ascii_lowercase ∙ h.lengths ∙ sym (length-map t to_ascii_lowercase))
+      (λ i l. lower_at s i ∙ h.bytes i (omega (arith, length-map s to_ascii_lowercase)) ∙ sym (lower_at t i)),
 )
 
 pub returns : goal.returns
-unfolding same_name
 returns c =
     let s = c.args.s.now in
-    rw (eq-eqb _ _ c.if-s-t.false)
-    (sym
-    (all_end (λ k. eqb (folded (get_or s k 0)) (folded (get_or c.args.t.now k 0))) c.loop-i.i (length s) (search rules) (search rules)
-    c.loop-i.invariant.1))
+    let t = c.args.t.now in
+    let h = c.eq_ignore_ascii_case.ensures.test in
+    says_same (record { holds = λ e. (lowered s t).0 (h.0 e); passes = λ q. h.1 ((lowered s t).1 q) }) (says_same_name s t)

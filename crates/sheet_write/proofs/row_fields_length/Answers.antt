@@ -11,30 +11,30 @@ use Prim.Native.Nat.{ℕ}
 use native.Mathlib.Omega.{arith}
 use Rattle.sheet_write.proofs.row_fields_length.Goals as goal
 
-pub row_count-count-requires : goal.row_count-count-requires
-row_count-count-requires c =
+pub row_count-k-end-requires : goal.row_count-k-end-requires
+row_count-k-end-requires c =
     c.requires.long
 
 pub loop-k-init : goal.loop-k-init
 loop-k-init c =
     let table = c.args.table in
-    (omega arith, sym (ap length (concat_none (field_of_row table (table_in table c.args.store.now)))))
+    sym (ap length (concat_none (field_of_row table (table_in table c.args.store.now))))
 
 pub row_id-requires : goal.row_id-requires
 row_id-requires c =
-    omega (arith, c.requires.few, c.row_count-count.ensures, c.loop-k-test.true)
+    omega (arith, c.requires.few, c.row_count-k-end.ensures, c.loop-k-test.true)
 
 pub row-requires : goal.row-requires
 row-requires c =
     id_within c.args.table c.loop-k.k
-    c.args.store.now c.row_id.ensures c.requires.long (omega (arith, c.requires.few, c.row_count-count.ensures, c.loop-k-test.true))
+    c.args.store.now c.row_id.ensures c.requires.long (omega (arith, c.requires.few, c.row_count-k-end.ensures, c.loop-k-test.true))
 
 pub row_field_length-total-requires : goal.row_field_length-total-requires
 row_field_length-total-requires c =
     let table = c.args.table in
     let store = c.args.store.now in
     rw (c.row.ensures ∙ id_row table c.loop-k.k store c.row_id.ensures)
-    (row_writable table store c.loop-k.k c.requires (omega (arith, c.row_count-count.ensures, c.loop-k-test.true)))
+    (row_writable table store c.loop-k.k c.requires (omega (arith, c.row_count-k-end.ensures, c.loop-k-test.true)))
 
 pub overflow_add-total : goal.overflow_add-total
 overflow_add-total c =
@@ -45,10 +45,10 @@ overflow_add-total c =
       arith,
       concat_more_length f c.loop-k.k,
       e,
-      c.loop-k.invariant.1,
+      c.loop-k.invariant,
       c.row_field_length-total.ensures,
       next_short table (table_in table store)
-          c.loop-k.k (omega (arith, limit_most table, c.requires.few, c.row_count-count.ensures, c.loop-k-test.true)),
+          c.loop-k.k (omega (arith, limit_most table, c.requires.few, c.row_count-k-end.ensures, c.loop-k-test.true)),
     )
 
 pub loop-k-preserved : goal.loop-k-preserved
@@ -57,12 +57,12 @@ loop-k-preserved c =
     let store = c.args.store.now in
     let f = field_of_row table (table_in table store) in let e = ap
     (λ (x : List ℕ). length (row_field table x)) (c.row.ensures ∙ id_row table c.loop-k.k store c.row_id.ensures) in
-    (omega (arith, c.loop-k-test.true), omega (arith, concat_more_length f c.loop-k.k, e, c.loop-k.invariant.1, c.row_field_length-total.ensures))
+    omega (arith, concat_more_length f c.loop-k.k, e, c.loop-k.invariant, c.row_field_length-total.ensures)
 
 pub returns : goal.returns
 returns c =
     let table = c.args.table in
     let store = c.args.store.now in
     let e : c.loop-k.k ≡ (table_in table store).count = omega
-    (arith, c.loop-k.invariant.0, c.loop-k-test.false, c.row_count-count.ensures) in c.loop-k.invariant.1 ∙ sym
+    (arith, c.loop-k-test.false, c.row_count-k-end.ensures) in c.loop-k.invariant ∙ sym
     (ap length (fields_all table (table_in table store) e))

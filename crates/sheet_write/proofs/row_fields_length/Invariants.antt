@@ -3,11 +3,7 @@ use Rattle.prelude.specs.Concat.{concat_below}
 use Rattle.schema.specs.Store.{table_in}
 use lib.ListN.{length}
 use mathlib.Core.Path.{◌≡◌}
-use Prim.Native.Nat.{◌≤◌, ◌-◌}
 use Rattle.sheet_write.proofs.row_fields_length.Given as goal
 
 abbrev pub invariant-loop-k : goal.invariant-loop-k
-invariant-loop-k l = (l.k ≤ l.count) × (l.total ≡ length (concat_below l.k (field_of_row l.table (table_in l.table l.store))))
-
-abbrev pub decreases-loop-k : goal.decreases-loop-k
-decreases-loop-k l = l.count - l.k
+invariant-loop-k l = l.total ≡ length (concat_below l.k (field_of_row l.table (table_in l.table l.store)))

@@ -32,7 +32,7 @@ returns-then-row_count-number_of c =
     sym (asked_absent c.args.change c.args.scratch.now (schema_in c.args.attributes.now c.args.classes.now) (sym
     c.is_addition.ensures ∙ c.if-is_addition.false) (target_past c.args.change c.args.scratch.now c.args.attributes.now
     c.args.classes.now c.table_for-table.ensures c.store_of-store.ensures c.target_of.ensures (number_is
-    c.table_for-table.result c.target_of.result (sym c.number_read.ensures ∙ c.in-Row.is)).0 c.number_of.ensures
+    c.table_for-table.result c.target_of.result (sym c.number_read.ensures ∙ c.in-Some.is)).0 c.number_of.ensures
     c.row_count.ensures c.if-row_count-number_of.true))
 
 pub target_asked-requires : goal.target_asked-requires
@@ -41,10 +41,10 @@ target_asked-requires c = (
   c.requires.1,
   table_target c.args.change c.args.scratch.now c.args.attributes.now
       c.args.classes.now c.table_for-table.ensures c.store_of-store.ensures c.target_of.ensures (number_is c.table_for-table.result
-      c.target_of.result (sym c.number_read.ensures ∙ c.in-Row.is)).0 c.number_of.ensures c.row_count.ensures,
+      c.target_of.result (sym c.number_read.ensures ∙ c.in-Some.is)).0 c.number_of.ensures c.row_count.ensures,
   target_there c.args.change c.args.scratch.now c.args.attributes.now c.args.classes.now
       c.table_for-table.ensures c.store_of-store.ensures c.target_of.ensures (number_is c.table_for-table.result
-      c.target_of.result (sym c.number_read.ensures ∙ c.in-Row.is)).0 c.number_of.ensures
+      c.target_of.result (sym c.number_read.ensures ∙ c.in-Some.is)).0 c.number_of.ensures
       c.row_count.ensures c.if-row_count-number_of.false,
 )
 
@@ -52,5 +52,5 @@ pub returns : goal.returns
 returns c =
     c.target_asked.ensures ∙ target_found c.args.change c.args.scratch.now c.args.attributes.now
     c.args.classes.now c.table_for-table.ensures c.store_of-store.ensures c.target_of.ensures (number_is c.table_for-table.result
-    c.target_of.result (sym c.number_read.ensures ∙ c.in-Row.is)).0 c.number_of.ensures c.row_count.ensures (sym
+    c.target_of.result (sym c.number_read.ensures ∙ c.in-Some.is)).0 c.number_of.ensures c.row_count.ensures (sym
     c.is_addition.ensures ∙ c.if-is_addition.false) c.if-row_count-number_of.false

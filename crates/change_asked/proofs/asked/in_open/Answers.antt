@@ -20,6 +20,6 @@ part_of-requires c =
 pub returns : goal.returns
 returns c =
     let row = c.args.row.now in
-    let entry = (entry_is c.args.scratch.now (sym c.entry_read.ensures ∙ c.in-Row.is)).number in
+    let entry = (entry_is c.args.scratch.now (sym c.entry_read.ensures ∙ c.in-Some.is)).number in
     c.has.ensures ∙ ap₂ member (c.part_of.ensures ∙ ap₂ (λ a w. part a w row) c.open_at.ensures c.list_width.ensures
     ∙ ap (λ l. open_of l row) c.list_of-list.ensures) (c.number_of.ensures ∙ entry)

@@ -1,18 +1,12 @@
-use borrow.Author.Tests.{eq-eqb, ne_eqb}
+use mathlib.Core.List.{[], ◌∷◌}
+use mathlib.Core.Path.{refl}
+use Rattle.prelude.specs.Unlike.{among}
+use Rattle.prelude.specs.UnlikeLaws.{unlike_key}
 use Rattle.change_read.specs.Carried.{open_list}
 use Rattle.change_read.proofs.carried.list_of.Goals as goal
 
-pub returns-then-tag-eq-OPTIONAL_LIST : goal.returns-then-tag-eq-OPTIONAL_LIST
-unfolding open_list
-returns-then-tag-eq-OPTIONAL_LIST c =
-    rw (← c.byte_at-tag.ensures, eq-eqb _ 21 c.if-tag-eq-OPTIONAL_LIST.true)
-
-pub returns-then-tag-eq-AUXILIARY_LIST : goal.returns-then-tag-eq-AUXILIARY_LIST
-unfolding open_list
-returns-then-tag-eq-AUXILIARY_LIST c =
-    rw (← c.byte_at-tag.ensures, ne_eqb _ 21 c.if-tag-eq-OPTIONAL_LIST.false, eq-eqb _ 23 c.if-tag-eq-AUXILIARY_LIST.true)
-
-pub returns : goal.returns
-unfolding open_list
-returns c =
-    rw (← c.byte_at-tag.ensures, ne_eqb _ 21 c.if-tag-eq-OPTIONAL_LIST.false, ne_eqb _ 23 c.if-tag-eq-AUXILIARY_LIST.false)
+pub returns-in_default : goal.returns-in_default
+unfolding open_list among
+returns-in_default c =
+    let no = unlike_key _ (23 ∷ 21 ∷ []) c.in_default.in_default-own.rest in
+    rw (← c.byte_at.ensures, no 21 refl, no 23 refl)

@@ -45,5 +45,5 @@ returns c =
     let t = table_for c.args.change in
     let n = target_of c.args.scratch.now in
     let read = c.number_read.ensures ∙ ap₂ number_read c.table_for-table.ensures c.target_of.ensures in
-    (number_is t n (sym read ∙ c.in-Row.is)).0
+    (number_is t n (sym read ∙ c.in-Some.is)).0
     ∙ ap (row_id t) (sym (ap (λ b. cond b (count_in t c.args.store.now) n) fixed))

@@ -37,12 +37,12 @@ pub bounds-row-150-in-Reactivate : goal.bounds-row-150-in-Reactivate
 bounds-row-150-in-Reactivate c =
     omega (arith, common_row c.args.change c.args.row.now c.requires.2)
 
-pub add_entry-requires : goal.add_entry-requires
-add_entry-requires c =
+pub edit_entry-requires : goal.edit_entry-requires
+edit_entry-requires c =
     (c.requires.1, wide_row c.args.row.now c.in-AddEntry.is c.requires.2)
 
-pub remove_entry-requires : goal.remove_entry-requires
-remove_entry-requires c =
+pub edit_entry-requires-in-RemoveEntry : goal.edit_entry-requires-in-RemoveEntry
+edit_entry-requires-in-RemoveEntry c =
     (c.requires.1, wide_row c.args.row.now c.in-RemoveEntry.is c.requires.2)
 
 pub returns-in-Add : goal.returns-in-Add
@@ -79,8 +79,8 @@ returns-in-Reactivate c =
 
 pub returns-in-AddEntry : goal.returns-in-AddEntry
 returns-in-AddEntry c =
-    rw c.in-AddEntry.is c.add_entry.ensures
+    rw c.in-AddEntry.is c.edit_entry.ensures
 
 pub returns-in-RemoveEntry : goal.returns-in-RemoveEntry
 returns-in-RemoveEntry c =
-    rw c.in-RemoveEntry.is c.remove_entry.ensures
+    rw c.in-RemoveEntry.is c.edit_entry-in-RemoveEntry.ensures

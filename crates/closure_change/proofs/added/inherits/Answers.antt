@@ -13,13 +13,13 @@ is_superclass-requires c = (
 pub returns-then-is_superclass : goal.returns-then-is_superclass
 unfolding inherits
 returns-then-is_superclass c =
-    rw (← c.class_row-row.ensures, sym c.is_superclass.ensures ∙ c.if-is_superclass.true)
+    rw (← c.class_row-row.ensures, sym c.is_superclass.ensures ∙ c.if-is_superclass.true) c.if-is_superclass.true
 
 pub is_listed-requires : goal.is_listed-requires
 is_listed-requires c =
     table_row_wide Classes c.args.classes.now _ c.args.n.0 c.requires.0.long c.requires.1 c.class_row-row.ensures
 
-pub returns : goal.returns
+pub returns-else-is_superclass : goal.returns-else-is_superclass
 unfolding inherits
-returns c =
+returns-else-is_superclass c =
     rw (← c.class_row-row.ensures, sym c.is_superclass.ensures ∙ c.if-is_superclass.false) c.is_listed.ensures

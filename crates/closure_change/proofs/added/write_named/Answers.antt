@@ -7,12 +7,11 @@ use Rattle.schema.specs.Layout.{closure_width}
 use Rattle.prelude.specs.Part.{zeros}
 use Rattle.prelude.specs.PartLaws.{zeros_length}
 use Rattle.sets.specs.SetsLaws.{set_length}
-use borrow.Author.Rules.{rules}
+use native.Mathlib.Omega.{arith}
 use Rattle.closure_change.proofs.added.write_named.Goals as goal
 
 pub loop-y-init : goal.loop-y-init
 loop-y-init c = (
-  search rules,
   ap length c.clear.ensures ∙ zeros_length _ ∙ c.requires.n_lt_class_limit.1,
   named_none (table_in Classes c.args.classes.now)
       c.args.closure.now c.args.n.0 _ (c.clear.ensures ∙ ap zeros c.requires.n_lt_class_limit.1),
@@ -20,14 +19,13 @@ loop-y-init c = (
 
 pub loop-y-preserved : goal.loop-y-preserved
 loop-y-preserved c = (
-  search rules,
   ap length c.join_named.ensures ∙ set_length closure_width _,
   named_more (table_in Classes c.args.classes.now)
-      c.args.closure.now c.args.n.0 c.loop-y.y c.loop-y.out _ c.loop-y.invariant.2
+      c.args.closure.now c.args.n.0 c.loop-y.y c.loop-y.out _ c.loop-y.invariant.1
       (rw c.class_at.ensures at c.join_named.ensures),
 )
 
 pub returns : goal.returns
 returns c =
     named_end (table_in Classes c.args.classes.now) c.args.closure.now c.args.n.0 c.loop-y.y c.loop-y.out
-    c.loop-y.invariant.0 (search rules) c.loop-y.invariant.2
+    (omega arith) (omega arith) c.loop-y.invariant.1

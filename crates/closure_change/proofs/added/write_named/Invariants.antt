@@ -1,7 +1,5 @@
 use mathlib.Core.Path.{◌≡◌}
-use Prim.Native.Nat.{◌≤◌, ◌-◌}
 use lib.ListN.{length}
-use Rattle.schema.specs.Numbers.{class_limit}
 use Rattle.schema.specs.Store.{table_in}
 use Rattle.schema.specs.declared.number.TableId.TheVariants.{Classes}
 use Rattle.closure_change.proofs.Joining.{Named}
@@ -9,7 +7,4 @@ use Rattle.schema.specs.Layout.{closure_width}
 use Rattle.closure_change.proofs.added.write_named.Given as goal
 
 abbrev pub invariant-loop-y : goal.invariant-loop-y
-invariant-loop-y l = (l.y ≤ class_limit) × (length l.out ≡ closure_width) × Named (table_in Classes l.classes) l.closure l.n.0 l.y l.out
-
-abbrev pub decreases-loop-y : goal.decreases-loop-y
-decreases-loop-y l = class_limit - l.y
+invariant-loop-y l = (length l.out ≡ closure_width) × Named (table_in Classes l.classes) l.closure l.n.0 l.y l.out

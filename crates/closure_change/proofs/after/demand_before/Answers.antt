@@ -16,8 +16,8 @@ returns-in_default c =
           c.in-RemoveEntry.is,
     ))
 
-pub returns-in-Class : goal.returns-in-Class
-returns-in-Class c =
-    let w = class_is c.target_of.result _ (sym c.new.ensures ∙ c.in-Class.is) in
+pub returns-in-Some : goal.returns-in-Some
+returns-in-Some c =
+    let w = class_is c.target_of.result _ (sym c.new.ensures ∙ c.in-Some.is) in
     rw c.in-RemoveEntry.is (c.write_demanded.ensures ∙ ap (demanded_set (table_in Classes c.args.classes.now)) (sym w.0
     ∙ c.target_of.ensures))

@@ -32,8 +32,8 @@ returns-in_default-entry_read c =
 
 pub entry_demands-requires : goal.entry_demands-requires
 entry_demands-requires c =
-    let entry = entry_is c.args.scratch.now (sym c.entry_read.ensures ∙ c.in-Row.is) in
-    let target = class_is c.target_of.result _ (sym c.new.ensures ∙ c.in-Class.is) in
+    let entry = entry_is c.args.scratch.now (sym c.entry_read.ensures ∙ c.in-Some-entry_read.is) in
+    let target = class_is c.target_of.result _ (sym c.new.ensures ∙ c.in-Some.is) in
     (c.requires.long, entry.table ∙ ap list_table (sym c.list_of.ensures), entry.below, omega (arith, target.0, target.1))
 
 pub returns-in_default-new : goal.returns-in_default-new
@@ -45,15 +45,15 @@ returns-in_default-new c =
       c.requires.removed c.in-RemoveEntry.is,
     ))
 
-pub returns-in-Row : goal.returns-in-Row
-returns-in-Row c =
-    let entry = entry_is c.args.scratch.now (sym c.entry_read.ensures ∙ c.in-Row.is) in
-    let target = class_is c.target_of.result _ (sym c.new.ensures ∙ c.in-Class.is) in
+pub returns-in-Some-entry_read : goal.returns-in-Some-entry_read
+returns-in-Some-entry_read c =
+    let entry = entry_is c.args.scratch.now (sym c.entry_read.ensures ∙ c.in-Some-entry_read.is) in
+    let target = class_is c.target_of.result _ (sym c.new.ensures ∙ c.in-Some.is) in
     rw c.in-AddEntry.is (c.entry_demands.ensures
     ∙ entry_same c.list_of.ensures entry.number (sym target.0 ∙ c.target_of.ensures) c.args.closure.now)
 
-pub returns-in-Class-new : goal.returns-in-Class-new
-returns-in-Class-new c =
-    let target = class_is c.target_of-in-RemoveEntry.result _ (sym c.new-in-RemoveEntry.ensures ∙ c.in-Class-new.is) in
+pub returns-in-Some-new : goal.returns-in-Some-new
+returns-in-Some-new c =
+    let target = class_is c.target_of-in-RemoveEntry.result _ (sym c.new-in-RemoveEntry.ensures ∙ c.in-Some-new.is) in
     rw c.in-RemoveEntry.is (c.demand_differs.ensures ∙ ap (λ k. not (same_bytes c.args.before.now (demanded_set (table_in Classes
     c.args.classes.now) k))) (sym target.0 ∙ c.target_of-in-RemoveEntry.ensures))

@@ -9,7 +9,6 @@ use mathlib.Core.Path.{refl, ap, ◌∙◌}
 use Rattle.schema.specs.declared.number.TableId.TheVariants.{Classes}
 use Rattle.schema.specs.Store.{closure_at, table_in}
 use native.Mathlib.Omega.{arith}
-use borrow.Author.Rules.{rules}
 use Rattle.graph.proofs.closure.refresh_all.Goals as goal
 
 pub write_firsts-requires : goal.write_firsts-requires
@@ -22,27 +21,22 @@ row_count-n-requires c =
 
 pub loop-k-init : goal.loop-k-init
 loop-k-init c = (
-  search rules,
   refl,
   staged_again (table_in Classes c.args.classes.now) c.args.closure.now c.requires.closure_length_in_bounds 0
       c.write_firsts.new.closure c.write_firsts.ensures,
 )
-
-pub class_at-requires : goal.class_at-requires
-class_at-requires c =
-    omega (arith, c.loop-k-test.true, c.row_count-n.ensures, c.requires.readable.few)
 
 pub pass_on-requires : goal.pass_on-requires
 pass_on-requires c = (
   omega (
     arith,
     c.requires.closure_length_in_bounds,
-    c.loop-k.invariant.1,
+    c.loop-k.invariant.0,
     staged_length (table_in Classes c.args.classes.now) c.args.closure.now
         c.requires.closure_length_in_bounds 0 c.write_firsts.new.closure c.write_firsts.ensures,
   ),
   omega
-      (arith, c.class_at.ensures, c.loop-k-test.true, c.row_count-n.ensures, c.requires.readable.few),
+      (arith, c.class_at.ensures, c.row_count-n.ensures, c.requires.readable.few),
   omega (arith, c.row_count-n.ensures, c.requires.readable.few),
 )
 
@@ -55,11 +49,10 @@ loop-k-preserved c =
           c.args.classes.now) c.args.closure.now c.requires.closure_length_in_bounds 0 c.write_firsts.new.closure c.write_firsts.ensures,
     )) in
     let next = staged_more (table_in Classes c.args.classes.now) c.write_firsts.new.closure long c.requires.readable.few c.loop-k.k
-    c.loop-k.closure _ (omega (arith, c.loop-k-test.true, c.row_count-n.ensures)) c.loop-k.invariant.2
+    c.loop-k.closure _ (omega (arith, c.row_count-n.ensures)) c.loop-k.invariant.1
     (rw c.class_at.ensures at c.pass_on.ensures ∙ ap (λ (m : ℕ). splice 0
     (concat_below m (λ i. passed_row c.loop-k.k (closure_at c.loop-k.closure c.loop-k.k) (closure_at c.loop-k.closure i))) c.loop-k.closure)
     c.row_count-n.ensures) in (
-      omega (arith, c.loop-k-test.true),
       staged_length (table_in Classes c.args.classes.now) c.write_firsts.new.closure long
           (c.loop-k.k + 1) _ next,
       next,
@@ -74,4 +67,4 @@ returns c =
       staged_length (table_in Classes c.args.classes.now) c.args.closure.now c.requires.closure_length_in_bounds 0
           c.write_firsts.new.closure c.write_firsts.ensures,
     )) c.loop-k.k c.loop-k.closure (omega
-    (arith, c.loop-k.invariant.0, c.loop-k-test.false, c.row_count-n.ensures)) c.loop-k.invariant.2)
+    (arith, c.row_count-n.ensures)) c.loop-k.invariant.1)

@@ -1,5 +1,5 @@
 use mathlib.Core.Path.{◌∙◌}
-use borrow.Author.Rules.{rules}
+use native.Mathlib.Omega.{arith}
 use Rattle.sets.specs.Sets.{member}
 use Rattle.schema.specs.Store.{table_in}
 use Rattle.schema.specs.declared.number.TableId.TheVariants.{Classes}
@@ -8,7 +8,6 @@ use Rattle.graph.proofs.collect.add_all.Goals as goal
 
 pub loop-k-init : goal.loop-k-init
 loop-k-init c = (
-  search rules,
   c.requires.attribute_set_bound.1,
   add_none (table_in Classes c.args.classes.now) (member c.args.chosen.bits) c.args.at
       c.args.out.now c.requires.attribute_set_bound.1 (λ i. (c.slice_known-1.given i).fits),
@@ -16,14 +15,13 @@ loop-k-init c = (
 
 pub loop-k-preserved : goal.loop-k-preserved
 loop-k-preserved c = (
-  search rules,
-  c.add_chosen.auto.out ∙ c.loop-k.invariant.1,
+  c.add_chosen.auto.out ∙ c.loop-k.invariant.0,
   add_more (table_in Classes c.args.classes.now)
-      (member c.args.chosen.bits) c.args.at c.loop-k.k c.args.out.now c.loop-k.out _ c.loop-k.invariant.2
+      (member c.args.chosen.bits) c.args.at c.loop-k.k c.args.out.now c.loop-k.out _ c.loop-k.invariant.1
       (rw c.class_at.ensures at c.add_chosen.ensures),
 )
 
 pub returns : goal.returns
 returns c =
-    add_end (table_in Classes c.args.classes.now) (member c.args.chosen.bits) c.args.at c.loop-k.k c.row_count-n.result
-    c.args.out.now c.loop-k.out c.row_count-n.ensures c.loop-k.invariant.0 (search rules) c.loop-k.invariant.2
+    add_end (table_in Classes c.args.classes.now) (member c.args.chosen.bits) c.args.at c.loop-k.k c.row_count-k-end.result
+    c.args.out.now c.loop-k.out c.row_count-k-end.ensures (omega arith) (omega arith) c.loop-k.invariant.1

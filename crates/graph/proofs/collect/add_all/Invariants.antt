@@ -1,5 +1,4 @@
 use mathlib.Core.Path.{◌≡◌}
-use Prim.Native.Nat.{◌≤◌, ◌-◌}
 use lib.ListN.{length}
 use Rattle.sets.specs.Sets.{member}
 use Rattle.schema.specs.Layout.{attribute_set}
@@ -9,7 +8,4 @@ use Rattle.graph.proofs.Gather.{Added}
 use Rattle.graph.proofs.collect.add_all.Given as goal
 
 abbrev pub invariant-loop-k : goal.invariant-loop-k
-invariant-loop-k l = (l.k ≤ l.n) × (length l.out ≡ attribute_set) × Added (table_in Classes l.classes) (member l.chosen.bits) l.at l.k l.initial.out l.out
-
-abbrev pub decreases-loop-k : goal.decreases-loop-k
-decreases-loop-k l = l.n - l.k
+invariant-loop-k l = (length l.out ≡ attribute_set) × Added (table_in Classes l.classes) (member l.chosen.bits) l.at l.k l.initial.out l.out

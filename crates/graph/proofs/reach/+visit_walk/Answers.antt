@@ -100,7 +100,7 @@ visit-walk-requires-2 t c =
     c.with-marked.ensures in
     let more = c.visit-more.result.bits in
     let lm : length m ≡ class_set = ap length c.with-marked.ensures ∙ with_length c.args.c.0 b ∙ long in
-    let no_more : unvisited_count more ≤ unvisited_count m = visit_no_more t0 c.requires.few m more c.in-Class.up.0 lm
+    let no_more : unvisited_count more ≤ unvisited_count m = visit_no_more t0 c.requires.few m more c.in-Some.up.0 lm
     c.visit-more.ensures in
     (omega (arith, c.decreases, fewer, no_more), (c.requires, omega arith))
 
@@ -115,12 +115,12 @@ visit-returns t c =
     let fewer : unvisited_count m < unvisited_count b = marked_fewer t0 c.requires.few b m c.args.c.0 long (omega arith) z
     c.with-marked.ensures in
     let up = superclass_of (t0.row c.args.c.0) in
-    let is : (up ≡ c.in-Class.up.0)
-    × (up < class_limit) = class_is up c.in-Class.up
+    let is : (up ≡ c.in-Some.up.0)
+    × (up < class_limit) = class_is up c.in-Some.up
     (sym (c.superclass-above.ensures
     ∙ ap (λ (r : List ℕ). class_read (superclass_of r)) c.class_row.ensures)
-    ∙ c.in-Class.is) in
-    visit_above t0 c.requires.few c.args.c.0 c.in-Class.up.0 b m c.visit-more.result.bits
+    ∙ c.in-Some.is) in
+    visit_above t0 c.requires.few c.args.c.0 c.in-Some.up.0 b m c.visit-more.result.bits
     c.walk-2.result.bits long (omega arith) z is.0 c.with-marked.ensures
     c.walk-2.ensures c.visit-more.ensures
 
@@ -139,10 +139,10 @@ walk-visit-more-requires t c =
     let b = c.args.seen.bits in
     let t0 = table_in Classes c.args.classes.now in
     let long : length b ≡ class_set = search rules in
-    let d = c.in-Class.d.0 in
+    let d = c.in-Some.d.0 in
     let p = from c.args.start (λ x. lists Auxiliaries (t0.row c.args.c.0) x && not (member b x)) in
-    let f : Found t0.count p d = next_found t0 c.args.c.0 c.args.start b c.in-Class.d
-    (sym c.in-Class.is ∙ c.next_unvisited-next.ensures) in
+    let f : Found t0.count p d = next_found t0 c.args.c.0 c.args.start b c.in-Some.d
+    (sym c.in-Some.is ∙ c.next_unvisited-next.ensures) in
     let late : c.args.start ≤ d = found_late t0 c.args.c.0 c.args.start b d f in
     (omega (arith, c.decreases, f.within, late, c.requires.readable.few), c.requires.readable)
 
@@ -151,10 +151,10 @@ walk-overflow_add-d t c =
     let b = c.args.seen.bits in
     let t0 = table_in Classes c.args.classes.now in
     let long : length b ≡ class_set = search rules in
-    let d = c.in-Class.d.0 in
+    let d = c.in-Some.d.0 in
     let p = from c.args.start (λ x. lists Auxiliaries (t0.row c.args.c.0) x && not (member b x)) in
-    let f : Found t0.count p d = next_found t0 c.args.c.0 c.args.start b c.in-Class.d
-    (sym c.in-Class.is ∙ c.next_unvisited-next.ensures) in
+    let f : Found t0.count p d = next_found t0 c.args.c.0 c.args.start b c.in-Some.d
+    (sym c.in-Some.is ∙ c.next_unvisited-next.ensures) in
     let late : c.args.start ≤ d = found_late t0 c.args.c.0 c.args.start b d f in
     omega (arith, f.within, c.requires.readable.few)
 
@@ -163,10 +163,10 @@ walk-walk-requires t c =
     let b = c.args.seen.bits in
     let t0 = table_in Classes c.args.classes.now in
     let long : length b ≡ class_set = search rules in
-    let d = c.in-Class.d.0 in
+    let d = c.in-Some.d.0 in
     let p = from c.args.start (λ x. lists Auxiliaries (t0.row c.args.c.0) x && not (member b x)) in
-    let f : Found t0.count p d = next_found t0 c.args.c.0 c.args.start b c.in-Class.d
-    (sym c.in-Class.is ∙ c.next_unvisited-next.ensures) in
+    let f : Found t0.count p d = next_found t0 c.args.c.0 c.args.start b c.in-Some.d
+    (sym c.in-Some.is ∙ c.next_unvisited-next.ensures) in
     let late : c.args.start ≤ d = found_late t0 c.args.c.0 c.args.start b d f in
     let no_more : unvisited_count c.visit-more.result.bits ≤ unvisited_count b = visit_no_more t0 c.requires.readable.few b
     c.visit-more.result.bits d long c.visit-more.ensures in
@@ -177,10 +177,10 @@ walk-returns t c =
     let b = c.args.seen.bits in
     let t0 = table_in Classes c.args.classes.now in
     let long : length b ≡ class_set = search rules in
-    let d = c.in-Class.d.0 in
+    let d = c.in-Some.d.0 in
     let p = from c.args.start (λ x. lists Auxiliaries (t0.row c.args.c.0) x && not (member b x)) in
-    let f : Found t0.count p d = next_found t0 c.args.c.0 c.args.start b c.in-Class.d
-    (sym c.in-Class.is ∙ c.next_unvisited-next.ensures) in
+    let f : Found t0.count p d = next_found t0 c.args.c.0 c.args.start b c.in-Some.d
+    (sym c.in-Some.is ∙ c.next_unvisited-next.ensures) in
     let late : c.args.start ≤ d = found_late t0 c.args.c.0 c.args.start b d f in
     walk_on t0 c.requires.readable.few c.args.c.0 c.args.start d b c.visit-more.result.bits c.walk.result.bits long
     f.within f.passes f.before c.visit-more.ensures c.walk.ensures

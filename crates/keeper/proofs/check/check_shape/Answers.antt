@@ -6,7 +6,7 @@ use Rattle.keeper.proofs.check.check_shape.Goals as goal
 
 pub returns-then-any_short : goal.returns-then-any_short
 returns-then-any_short c =
-    c.refused.ensures ∙ short_stores
+    short_stores
     (stores c.args.attributes.now c.args.classes.now c.args.closure.now) (sym c.any_short.ensures ∙ c.if-any_short.true)
 
 pub stores_formed-requires : goal.stores_formed-requires
@@ -17,10 +17,10 @@ stores_formed-requires c =
 
 pub returns-then-stores_formed : goal.returns-then-stores_formed
 returns-then-stores_formed c =
-    c.passed.ensures ∙ formed_stores (stores c.args.attributes.now c.args.classes.now c.args.closure.now)
+    formed_stores (stores c.args.attributes.now c.args.classes.now c.args.closure.now)
     (sym c.any_short.ensures ∙ c.if-any_short.false) (sym c.stores_formed.ensures ∙ c.if-stores_formed.true)
 
 pub returns-else-stores_formed : goal.returns-else-stores_formed
 returns-else-stores_formed c =
-    c.refused-else-stores_formed.ensures ∙ broken_stores (stores c.args.attributes.now c.args.classes.now c.args.closure.now)
+    broken_stores (stores c.args.attributes.now c.args.classes.now c.args.closure.now)
     (sym c.any_short.ensures ∙ c.if-any_short.false) (sym c.stores_formed.ensures ∙ c.if-stores_formed.false)

@@ -1,4 +1,4 @@
-use mathlib.Core.Path.{sym, ◌∙◌}
+use mathlib.Core.Path.{refl, sym, ◌∙◌}
 use Rattle.schema.specs.Store.{stores}
 use Rattle.schema.specs.StoreLaws.{long_enough}
 use Rattle.keeper.proofs.Loading.{stores_lent, short_ends, found_readable, found_long, filled_ends, emptied_ends}
@@ -10,8 +10,8 @@ returns-then-any_short c =
     c.args.sheet.now (stores c.args.attributes.now c.args.classes.now c.args.closure.now) c.refused.ensures
     (sym c.any_short.ensures ∙ c.if-any_short.true)
 
-pub read_and_judge-found-requires : goal.read_and_judge-found-requires
-read_and_judge-found-requires c =
+pub read_and_judge-requires : goal.read_and_judge-requires
+read_and_judge-requires c =
     stores_lent
     (stores c.args.attributes.now c.args.classes.now c.args.closure.now) (sym c.any_short.ensures ∙ c.if-any_short.false)
 
@@ -19,7 +19,7 @@ pub refresh_all-requires : goal.refresh_all-requires
 refresh_all-requires c =
     let s = stores c.args.attributes.now
     c.args.classes.now c.args.closure.now in let e = sym c.any_short.ensures ∙ c.if-any_short.false in record {
-      readable = found_readable c.args.sheet.now s e (λ i. (c.shared_slice_known-1.given i).fits) c.read_and_judge-found.ensures;
+      readable = found_readable c.args.sheet.now s e (λ i. (c.shared_slice_known-1.given i).fits) c.read_and_judge.ensures.left;
       closure_length_in_bounds = (long_enough s
           e).closure;
     }
@@ -28,16 +28,16 @@ pub empty_all-requires : goal.empty_all-requires
 empty_all-requires c =
     let s = stores c.args.attributes.now
     c.args.classes.now c.args.closure.now in found_long c.args.sheet.now s (sym c.any_short.ensures ∙ c.if-any_short.false)
-    (λ i. (c.shared_slice_known-1.given i).fits) c.read_and_judge-found.ensures
+    (λ i. (c.shared_slice_known-1.given i).fits) c.read_and_judge.ensures.left
 
-pub returns-then-found-eq-DONE : goal.returns-then-found-eq-DONE
-returns-then-found-eq-DONE c =
-    let s = stores c.args.attributes.now c.args.classes.now c.args.closure.now in filled_ends c.args.sheet.now
-    s (sym c.any_short.ensures ∙ c.if-any_short.false) (λ i. (c.shared_slice_known-1.given i).fits) c.read_and_judge-found.ensures c.if-found-eq-DONE.true
-    c.refresh_all.ensures
+pub returns-in-Ok : goal.returns-in-Ok
+returns-in-Ok c =
+    let s = stores c.args.attributes.now c.args.classes.now c.args.closure.now in
+    rw c.passed.ensures (filled_ends c.args.sheet.now s (sym c.any_short.ensures ∙ c.if-any_short.false)
+    (λ i. (c.shared_slice_known-1.given i).fits) c.in-Ok.ensures.left refl c.refresh_all.ensures)
 
-pub returns-else-found-eq-DONE : goal.returns-else-found-eq-DONE
-returns-else-found-eq-DONE c =
-    let s = stores c.args.attributes.now
-    c.args.classes.now c.args.closure.now in emptied_ends c.args.sheet.now s (sym c.any_short.ensures ∙ c.if-any_short.false)
-    (λ i. (c.shared_slice_known-1.given i).fits) c.read_and_judge-found.ensures c.if-found-eq-DONE.false c.empty_all.ensures
+pub returns-in-Err : goal.returns-in-Err
+returns-in-Err c =
+    let s = stores c.args.attributes.now c.args.classes.now c.args.closure.now in
+    emptied_ends c.args.sheet.now s (sym c.any_short.ensures ∙ c.if-any_short.false)
+    (λ i. (c.shared_slice_known-1.given i).fits) c.in-Err.ensures.left c.in-Err.ensures.refused c.empty_all.ensures

@@ -26,13 +26,13 @@ returns-in_default-new c =
           c.in-AddEntry.is,
     ))
 
-pub returns-in-Class : goal.returns-in-Class
-returns-in-Class c =
-    let w = class_is c.args.n _ (sym c.new.ensures ∙ c.in-Class.is) in
+pub returns-in-Some : goal.returns-in-Some
+returns-in-Some c =
+    let w = class_is c.args.n _ (sym c.new.ensures ∙ c.in-Some.is) in
     rw (c.in-Add.is, c.in-Classes.is) (ap (λ (x : ℕ). Class (record { 0 = x })) (sym w.0))
 
-pub returns-in-Class-new : goal.returns-in-Class-new
-returns-in-Class-new c =
-    let w = class_is c.target_of.result _ (sym c.new-in-AddEntry.ensures ∙ c.in-Class-new.is) in
+pub returns-in-Some-new : goal.returns-in-Some-new
+returns-in-Some-new c =
+    let w = class_is c.target_of.result _ (sym c.new-in-AddEntry.ensures ∙ c.in-Some-new.is) in
     rw c.in-AddEntry.is (λ i. Entry (record { 0 = (sym w.0 ∙ c.target_of.ensures) i }) ((c.list_table.ensures
     ∙ ap list_table c.list_of.ensures) i) (c.entry_of.ensures i))

@@ -6,15 +6,17 @@ use Rattle.rules.proofs.JudgeLaws.{judged_number}
 use Rattle.rules.specs.RulesLaws.{nonzero}
 use Rattle.rules.specs.Rules.{schema_rules}
 use Rattle.keeper_change.specs.Judged.{judged_whole}
+use Rattle.schema.specs.RefusedLaws.{number_some}
+use Rattle.schema.specs.declared.answer.Answer.{Answer}
 use Rattle.schema.specs.Store.{schema_in}
 use Rattle.keeper_change.proofs.judge.judged_whole.Goals as goal
 
-pub returns-then-number-ne-DONE : goal.returns-then-number-ne-DONE
+pub returns-in-Err : goal.returns-in-Err
 unfolding judged_whole
-returns-then-number-ne-DONE c =
-    ap (λ a. a.number) c.judge-broken.ensures ∙ judged_number c.args.added (schema_in c.args.attributes.now
+returns-in-Err c =
+    ap (λ (a : Answer). a.number) c.in-Err.ensures ∙ judged_number c.args.added (schema_in c.args.attributes.now
     c.args.classes.now) ∙ sym (append_first (broken_cases (schema_rules c.args.added) (schema_in c.args.attributes.now
-    c.args.classes.now)) _ (λ z. c.if-number-ne-DONE.true (ap (λ a. a.number) c.judge-broken.ensures ∙ judged_number c.args.added
+    c.args.classes.now)) _ (λ z. number_some c.in-Err.broken.rule (ap (λ (a : Answer). a.number) c.in-Err.ensures ∙ judged_number c.args.added
     (schema_in c.args.attributes.now c.args.classes.now) ∙ z)))
 
 pub returns-then-demands_differ : goal.returns-then-demands_differ
@@ -22,13 +24,13 @@ unfolding judged_whole
 returns-then-demands_differ c =
     sym (append_second (broken_cases (schema_rules c.args.added) (schema_in c.args.attributes.now c.args.classes.now)) _
     (nonzero c.args.added (broken (schema_in c.args.attributes.now c.args.classes.now))) (sym (judged_number
-    c.args.added (schema_in c.args.attributes.now c.args.classes.now)) ∙ sym (ap (λ a. a.number)
-    c.judge-broken.ensures) ∙ c.if-number-ne-DONE.false) ∙ first_hit _ [] (sym c.demands_differ.ensures ∙ c.if-demands_differ.true))
+    c.args.added (schema_in c.args.attributes.now c.args.classes.now)) ∙ sym (ap (λ (a : Answer). a.number) c.in_default.ensures)) ∙ first_hit _ []
+    (sym c.demands_differ.ensures ∙ c.if-demands_differ.true))
 
 pub returns : goal.returns
 unfolding judged_whole
 returns c =
     sym (append_second (broken_cases (schema_rules c.args.added) (schema_in c.args.attributes.now c.args.classes.now)) _
     (nonzero c.args.added (broken (schema_in c.args.attributes.now c.args.classes.now))) (sym (judged_number
-    c.args.added (schema_in c.args.attributes.now c.args.classes.now)) ∙ sym (ap (λ a. a.number)
-    c.judge-broken.ensures) ∙ c.if-number-ne-DONE.false) ∙ first_miss _ [] (sym c.demands_differ.ensures ∙ c.if-demands_differ.false) ∙ first_none)
+    c.args.added (schema_in c.args.attributes.now c.args.classes.now)) ∙ sym (ap (λ (a : Answer). a.number) c.in_default.ensures)) ∙ first_miss _ []
+    (sym c.demands_differ.ensures ∙ c.if-demands_differ.false) ∙ first_none)

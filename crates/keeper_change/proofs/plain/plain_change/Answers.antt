@@ -1,14 +1,15 @@
 use mathlib.Core.Path.{◌∙◌, refl}
 use Rattle.keeper_change.proofs.Whole.{change_read, change_bad, change_in_order, change_order}
+use Rattle.schema.specs.RefusedLaws.{number_some}
 use Rattle.schema.specs.Store.{stores}
 use Rattle.prelude.specs.Part.{zeros}
 use Rattle.keeper_change.proofs.plain.plain_change.Goals as goal
 
-pub returns-then-order-ne-DONE : goal.returns-then-order-ne-DONE
-returns-then-order-ne-DONE c =
+pub returns-in-Err : goal.returns-in-Err
+returns-in-Err c =
     let s = stores c.args.attributes.now c.args.classes.now c.args.closure.now in
     let x = c.args.change.now in
-    change_order x s c.check_order-order.ensures c.if-order-ne-DONE.true
+    rw c.refused.ensures (change_order x s c.in-Err.ensures (number_some c.in-Err.refusal))
 
 pub read_change-requires : goal.read_change-requires
 unfolding zeros
@@ -19,17 +20,24 @@ pub plain_read-requires : goal.plain_read-requires
 plain_read-requires c =
     let s = stores c.args.attributes.now c.args.classes.now c.args.closure.now in
     let x = c.args.change.now in
-    change_in_order x s c.check_order-order.ensures c.if-order-ne-DONE.false c.read_change.ensures _ c.in-Read.is
+    change_in_order x s c.in_default.ensures refl c.read_change.ensures _ c.in-Ok.is
     (λ i. (c.shared_slice_known-1.given i).fits)
 
-pub returns-in-Bad : goal.returns-in-Bad
-returns-in-Bad c =
+pub returns-in-Err-read_change : goal.returns-in-Err-read_change
+returns-in-Err-read_change c =
     let s = stores c.args.attributes.now c.args.classes.now c.args.closure.now in
     let x = c.args.change.now in
-    change_bad x s c.check_order-order.ensures c.if-order-ne-DONE.false c.read_change.ensures _ _ c.in-Bad.is c.unreadable.ensures
+    change_bad x s c.in_default.ensures refl c.read_change.ensures _ _ c.in-Err-read_change.is c.unreadable.ensures
 
-pub returns-in-Read : goal.returns-in-Read
-returns-in-Read c =
+pub returns-in-Ok-plain_read : goal.returns-in-Ok-plain_read
+returns-in-Ok-plain_read c =
     let s = stores c.args.attributes.now c.args.classes.now c.args.closure.now in
     let x = c.args.change.now in
-    c.plain_read.ensures ∙ change_read x s c.check_order-order.ensures c.if-order-ne-DONE.false c.read_change.ensures _ c.in-Read.is
+    rw c.changed.ensures (c.in-Ok-plain_read.ensures ∙ change_read x s c.in_default.ensures refl c.read_change.ensures _ c.in-Ok.is)
+
+pub returns-in-Err-plain_read : goal.returns-in-Err-plain_read
+returns-in-Err-plain_read c =
+    let s = stores c.args.attributes.now c.args.classes.now c.args.closure.now in
+    let x = c.args.change.now in
+    rw c.refused-in-Err-plain_read.ensures
+    (c.in-Err-plain_read.ensures ∙ change_read x s c.in_default.ensures refl c.read_change.ensures _ c.in-Ok.is)

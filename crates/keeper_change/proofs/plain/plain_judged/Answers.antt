@@ -1,5 +1,5 @@
 use native.Mathlib.Omega.{arith}
-use mathlib.Core.Path.{◌∙◌, ap, ap₂, subst, sym, subst₂}
+use mathlib.Core.Path.{◌∙◌, ap, ap₂, refl, subst, sym, subst₂}
 use Rattle.schema.specs.declared.number.TableId.TheVariants.{Classes}
 use Rattle.keeper_change.proofs.Making.{addable, applicable, back, closure_long_lem, few_rows, made_readable, made_shaped, restorable, store_bytes}
 use Rattle.keeper_change.proofs.Whole.{judged_at, judged_done, judged_refused, number_found, refreshed_made}
@@ -7,6 +7,7 @@ use Rattle.graph.specs.Graph.{Readable}
 use Rattle.keeper_change.specs.Made.{Restorable, rows_back}
 use Rattle.tables.specs.Shaped.{Shaped}
 use Rattle.schema.specs.Numbers.{number_of, table_of}
+use Rattle.schema.specs.RefusedLaws.{number_some}
 use Rattle.schema.specs.Store.{stores}
 use Rattle.schema.specs.Answers.{changed}
 use Rattle.change_rows.specs.Rows.{table_for}
@@ -40,8 +41,8 @@ added_by-added-requires c =
     let r = c.args.scratch.now in
     addable change r s c.requires.allowed _ c.row_count-present.ensures
 
-pub judged_whole-number-requires : goal.judged_whole-number-requires
-judged_whole-number-requires c =
+pub judged_whole-judged-requires : goal.judged_whole-judged-requires
+judged_whole-judged-requires c =
     let s = stores c.args.attributes.now c.args.classes.now c.args.closure.now in
     let change = c.args.change in
     let r = c.args.scratch.now in (
@@ -58,13 +59,13 @@ undo-requires c =
     subst₂ (λ b x. Restorable b x.attributes x.classes) (sym c.save-before.ensures) (sym (c.make.ensures s.closure))
     (restorable change r s c.requires.allowed)
 
-pub returns-then-number-ne-DONE : goal.returns-then-number-ne-DONE
-returns-then-number-ne-DONE c =
+pub returns-in-Err : goal.returns-in-Err
+returns-in-Err c =
     let s = stores c.args.attributes.now c.args.classes.now c.args.closure.now in
     let change = c.args.change in
     let r = c.args.scratch.now in
-    judged_refused change r s c.requires _ _ _ (number_found change r s c.requires _ (c.judged_whole-number.ensures ∙ judged_at change r s
-    c.requires (c.make.ensures s.closure) c.row_count-present.ensures c.added_by-added.ensures)) c.if-number-ne-DONE.true c.refused.ensures
+    judged_refused change r s c.requires _ _ _ (number_found change r s c.requires _ (c.in-Err.ensures ∙ judged_at change r s
+    c.requires (c.make.ensures s.closure) c.row_count-present.ensures c.added_by-added.ensures)) (number_some c.in-Err.refusal) refl
     (c.undo.ensures s.closure ∙ ap₂ rows_back c.save-before.ensures (c.make.ensures s.closure) ∙ back change r s c.requires.allowed
     (store_bytes (table_for change) s.attributes s.classes (λ i. (c.slice_known-1.given i).fits) (λ i. (c.slice_known-2-1.given i).fits)))
 
@@ -72,13 +73,17 @@ pub refresh_all-requires : goal.refresh_all-requires
 refresh_all-requires c =
     let s = stores c.args.attributes.now c.args.classes.now c.args.closure.now in
     let change = c.args.change in
-    let r = c.args.scratch.now in record { readable = subst (λ x. Readable x.classes) (sym (c.make.ensures s.closure)) (made_readable change r s c.requires.allowed); closure_length_in_bounds = closure_long_lem change r s c.requires.allowed }
+    let r = c.args.scratch.now in record {
+      readable = subst (λ x. Readable x.classes) (sym (c.make.ensures s.closure)) (made_readable change r s
+          c.requires.allowed);
+      closure_length_in_bounds = closure_long_lem change r s c.requires.allowed;
+    }
 
 pub returns : goal.returns
 returns c =
     let s = stores c.args.attributes.now c.args.classes.now c.args.closure.now in
     let change = c.args.change in
     let r = c.args.scratch.now in
-    judged_done change r s c.requires _ _ _ (number_found change r s c.requires _ (c.judged_whole-number.ensures ∙ judged_at change r s c.requires
-    (c.make.ensures s.closure) c.row_count-present.ensures c.added_by-added.ensures)) c.if-number-ne-DONE.false (c.changed.ensures ∙ ap (λ b. changed
+    judged_done change r s c.requires _ _ _ (number_found change r s c.requires _ (c.in_default.ensures ∙ judged_at change r s c.requires
+    (c.make.ensures s.closure) c.row_count-present.ensures c.added_by-added.ensures)) refl (ap (λ b. changed
     (table_of b.id) (number_of b.id)) c.save-before.ensures) (refreshed_made s (c.make.ensures s.closure) c.refresh_all.ensures)

@@ -2,6 +2,7 @@ use Rattle.keeper_change.proofs.Making.{addable, applicable, back, restorable, s
 use Rattle.keeper_change.proofs.Alone.{judged_there, judged_refused, judged_done, to_update}
 use mathlib.Core.Path.{◌∙◌, ap, ap₂, refl, subst₂, sym}
 use Rattle.keeper_change.specs.Made.{Restorable, rows_back}
+use Rattle.schema.specs.RefusedLaws.{number_some}
 use Rattle.schema.specs.Store.{stores}
 use Rattle.schema.specs.Layout.{attribute_set}
 use Rattle.prelude.specs.Part.{zeros}
@@ -43,8 +44,8 @@ added_by-added-requires c =
     let r = c.args.scratch.now in
     addable change r s c.requires _ c.row_count-present.ensures
 
-pub judged_row-number-requires : goal.judged_row-number-requires
-judged_row-number-requires c =
+pub judged_row-judged-requires : goal.judged_row-judged-requires
+judged_row-judged-requires c =
     let s = stores c.args.attributes.now c.args.classes.now c.args.closure.now in
     let change = c.args.change in
     let r = c.args.scratch.now in
@@ -58,14 +59,14 @@ undo-requires c =
     subst₂ (λ b x. Restorable b x.attributes x.classes) (sym c.save-before.ensures) (sym (c.make.ensures s.closure)) (restorable change r s
     c.requires)
 
-pub returns-then-number-ne-DONE : goal.returns-then-number-ne-DONE
+pub returns-in-Err : goal.returns-in-Err
 unfolding zeros
-returns-then-number-ne-DONE c =
+returns-in-Err c =
     let s = stores c.args.attributes.now c.args.classes.now c.args.closure.now in
     let change = c.args.change in
     let r = c.args.scratch.now in
     judged_refused change r s c.requires c.added_by-added.ensures c.row_count-present.ensures (c.make.ensures s.closure) c.save-before.ensures
-    (zeros attribute_set) c.demand_before.ensures _ c.judged_row-number.ensures _ _ c.if-number-ne-DONE.true c.refused.ensures (c.undo.ensures
+    (zeros attribute_set) c.demand_before.ensures _ c.in-Err.ensures _ _ (number_some c.in-Err.refusal) refl (c.undo.ensures
     s.closure ∙ ap₂ rows_back c.save-before.ensures (c.make.ensures s.closure) ∙ back change r s c.requires (store_bytes (table_for change)
     s.attributes s.classes (λ i. (c.slice_known-1.given i).fits) (λ i. (c.slice_known-2-1.given i).fits)))
 
@@ -76,7 +77,7 @@ update-requires c =
     let change = c.args.change in
     let r = c.args.scratch.now in
     to_update change r s c.requires c.added_by-added.ensures c.row_count-present.ensures (c.make.ensures s.closure) c.save-before.ensures
-    (zeros attribute_set) c.demand_before.ensures _ c.judged_row-number.ensures c.if-number-ne-DONE.false
+    (zeros attribute_set) c.demand_before.ensures _ c.in_default.ensures refl
 
 pub returns : goal.returns
 unfolding zeros
@@ -85,4 +86,4 @@ returns c =
     let change = c.args.change in
     let r = c.args.scratch.now in
     judged_done change r s c.requires c.added_by-added.ensures c.row_count-present.ensures (c.make.ensures s.closure) c.save-before.ensures
-    (zeros attribute_set) c.demand_before.ensures _ c.judged_row-number.ensures c.if-number-ne-DONE.false _ c.changed.ensures c.update.ensures
+    (zeros attribute_set) c.demand_before.ensures _ c.in_default.ensures refl _ refl c.update.ensures

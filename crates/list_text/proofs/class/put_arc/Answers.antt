@@ -1,45 +1,37 @@
-use mathlib.Core.List.{[], ◌∷◌}
-use mathlib.Core.Path.{ap, ◌∙◌}
-use native.Mathlib.Omega.{arith}
-use lib.ListN.{length, length-append}
-use Rattle.prelude.specs.WrittenLaws.{written_as, written_then}
+use Rattle.std.proofs.Common.{refl, ◌+◌, ◌≤◌, ◌≡◌, ◌∙◌, ◌++◌, List, ℕ, ap, sym, length, append-nil, length-append, arith}
 use Rattle.list_text.specs.Text.{decimal}
-use Rattle.list_text.proofs.Lines.{first_arc, later_arc}
+use Rattle.list_text.specs.Listing.{arc_text}
+use Rattle.list_text.proofs.Lines.{put_length, put_then, dot, arc_dotted, dot_later, dot_first}
+use Rattle.schema.specs.Row.{arc_of}
 use Rattle.list_text.proofs.class.put_arc.Goals as goal
+use Rattle.list_text.proofs.class.put_arc.Goals.{then-k-gt0, else-k-gt0}
+
+long : (row : List ℕ) (k : ℕ) {n : ℕ} → n ≡ arc_of row k → length (arc_text row k) ≡ length (dot k) + length (decimal n)
+long row k {n} e = ap length (arc_dotted row k e) ∙ length-append (dot k) (decimal n)
+
+none : (k : ℕ) (o : List ℕ) {m : List ℕ} → k ≤ 0 → m ≡ o → m ≡ o ++ dot k
+none k o l e = rw (dot_first k l, append-nil, e)
+
+pub put_byte-requires : goal.put_byte-requires
+put_byte-requires c =
+    omega (arith, c.requires.2, long c.args.row.now c.args.k refl, ap length (dot_later c.args.k c.if-k-gt0.true))
 
 pub put_decimal-requires : goal.put_decimal-requires
 put_decimal-requires c =
-    omega (arith, c.requires.2, ap length (first_arc c.args.row.now c.args.k c.if-k-eq0.true c.arc-number.ensures))
-
-pub returns-then-k-eq0 : goal.returns-then-k-eq0
-returns-then-k-eq0 c =
-    written_as (first_arc c.args.row.now c.args.k c.if-k-eq0.true c.arc-number.ensures) c.put_decimal.ensures
-
-pub put_byte-next-requires : goal.put_byte-next-requires
-put_byte-next-requires c =
-    omega (
-      arith,
-      c.requires.2,
-      ap length (later_arc c.args.row.now c.args.k c.if-k-eq0.false c.arc-number.ensures) ∙ length-append (46 ∷ [])
-          (decimal c.arc-number.result),
-    )
-
-pub put_decimal-requires-2 : goal.put_decimal-requires-2
-put_decimal-requires-2 c =
-    omega (
-      arith,
-      c.requires.2,
-      ap length (later_arc c.args.row.now c.args.k c.if-k-eq0.false c.arc-number.ensures) ∙ length-append (46 ∷ [])
-          (decimal c.arc-number.result),
-      c.put_byte-next.ensures.place,
-      c.put_byte-next.auto.out,
-    )
+    let o = c.args.text.now in
+    let k = c.args.k in
+    let m : c.if-k-gt0.text ≡ o ++ dot k = elim c.if-k-gt0.branch [
+      | then-k-gt0 w ↦ w.text-is ∙ w.put_byte.ensures ∙ ap (λ (x : List ℕ). o ++ x) (sym (dot_later k w.if-k-gt0.true))
+      | else-k-gt0 w ↦ none k o w.if-k-gt0.false w.text-is
+    ] in
+    omega (arith, c.requires.2, long c.args.row.now k c.arc.ensures, put_length o (dot k) m)
 
 pub returns : goal.returns
 returns c =
-    let row = c.args.row.now in
+    let o = c.args.text.now in
     let k = c.args.k in
-    let x = later_arc row k c.if-k-eq0.false c.arc-number.ensures in
-    written_as x
-    (written_then (omega (arith, c.requires.2, ap length x ∙ length-append (46 ∷ []) (decimal c.arc-number.result))) c.put_byte-next.ensures
-    c.put_decimal-2.ensures)
+    let m : c.if-k-gt0.text ≡ o ++ dot k = elim c.if-k-gt0.branch [
+      | then-k-gt0 w ↦ w.text-is ∙ w.put_byte.ensures ∙ ap (λ (x : List ℕ). o ++ x) (sym (dot_later k w.if-k-gt0.true))
+      | else-k-gt0 w ↦ none k o w.if-k-gt0.false w.text-is
+    ] in
+    put_then o (dot k) (decimal c.arc.result) m c.put_decimal.ensures ∙ ap (λ (x : List ℕ). o ++ x) (sym (arc_dotted c.args.row.now k c.arc.ensures))

@@ -1,20 +1,15 @@
-use mathlib.Core.List.{List}
-use mathlib.Core.Path.{ap, ◌∙◌}
-use Prim.Native.Nat.{ℕ}
-use native.Mathlib.Omega.{arith}
-use lib.ListN.{length}
-use Rattle.prelude.specs.WrittenLaws.{written_as}
+use Rattle.std.proofs.Common.{◌∙◌, ◌++◌, sym, List, ℕ, [], ◌∷◌, ap, length, arith}
 use Rattle.schema.specs.Row.{name_of}
 use Rattle.schema.specs.declared.number.TableId.TheVariants.{Classes}
 use Rattle.schema.specs.Store.{table_in}
-use Rattle.list_text.specs.Text.{decimal}
+use Rattle.list_text.specs.Text.{decimal, word}
 use Rattle.list_text.specs.TextLaws.{word_length}
 use Rattle.list_text.specs.Listing.{kept_counts, identifier_text}
-use Rattle.list_text.proofs.Lines.{five_written, listed_row, class_length, class_read_lem}
+use Rattle.list_text.proofs.Lines.{put_length, five_put, listed_row, class_length, class_read_lem}
 use Rattle.list_text.proofs.class.put_class.Goals as goal
 
-pub put_number-named-requires : goal.put_number-named-requires
-put_number-named-requires c =
+pub put_number-requires : goal.put_number-requires
+put_number-requires c =
     omega (
       arith,
       c.requires.1,
@@ -27,127 +22,94 @@ name-requires c =
     let h = listed_row c.args.classes.now c.args.closure.now c.class_row-row.result.now c.args.c.0 c.requires.0
     c.class_row-row.ensures in (h.wide, h.name)
 
-pub put_word-identified-requires : goal.put_word-identified-requires
-put_word-identified-requires c =
+pub put_word-requires : goal.put_word-requires
+put_word-requires c =
     omega (
       arith,
       c.requires.1,
       class_length (kept_counts c.args.closure.now) (table_in Classes c.args.classes.now) c.args.c.0,
       word_length (decimal c.args.c.0) 32,
       ap length (c.name.ensures ∙ ap name_of c.class_row-row.ensures),
-      word_length
-          c.name.result.now 32,
-      c.put_number-named.ensures.place,
-      c.put_number-named.auto.out,
+      word_length c.name.result.now 32,
+      put_length c.args.text.now (word (decimal c.args.c.0) 32) c.put_number.ensures,
     )
 
-pub put_identifier-behind-requires : goal.put_identifier-behind-requires
-put_identifier-behind-requires c =
-    let classes = c.args.classes.now in
-    let closure = c.args.closure.now in
-    let h = listed_row classes closure c.class_row-row.result.now c.args.c.0 c.requires.0 c.class_row-row.ensures in (
+pub put_identifier-requires : goal.put_identifier-requires
+put_identifier-requires c =
+    let h = listed_row c.args.classes.now c.args.closure.now c.class_row-row.result.now c.args.c.0 c.requires.0
+    c.class_row-row.ensures in (
       h.wide,
       h.arcs,
       omega (
         arith,
         c.requires.1,
-        class_length (kept_counts closure) (table_in Classes classes) c.args.c.0,
-        word_length (decimal c.args.c.0)
-            32,
+        class_length (kept_counts c.args.closure.now) (table_in Classes c.args.classes.now) c.args.c.0,
+        word_length (decimal c.args.c.0) 32,
         ap length (c.name.ensures ∙ ap name_of c.class_row-row.ensures),
         word_length c.name.result.now 32,
-        ap
-            (λ (r : List ℕ). length (identifier_text r)) c.class_row-row.ensures,
-        c.put_number-named.ensures.place,
-        c.put_number-named.auto.out,
-        c.put_word-identified.ensures.place,
-        c.put_word-identified.auto.out,
+        ap (λ (r : List ℕ). length (identifier_text r)) c.class_row-row.ensures,
+        put_length c.args.text.now (word (decimal c.args.c.0) 32) c.put_number.ensures,
+        put_length c.put_number.new.self (word c.name.result.now 32) c.put_word.ensures,
       ),
     )
 
-pub put_byte-counted-requires : goal.put_byte-counted-requires
-put_byte-counted-requires c =
+pub put_byte-requires : goal.put_byte-requires
+put_byte-requires c =
     omega (
       arith,
       c.requires.1,
       class_length (kept_counts c.args.closure.now) (table_in Classes c.args.classes.now) c.args.c.0,
       word_length (decimal c.args.c.0) 32,
       ap length (c.name.ensures ∙ ap name_of c.class_row-row.ensures),
-      word_length
-          c.name.result.now 32,
+      word_length c.name.result.now 32,
       ap (λ (r : List ℕ). length (identifier_text r)) c.class_row-row.ensures,
-      c.put_number-named.ensures.place,
-      c.put_number-named.auto.out,
-      c.put_word-identified.ensures.place,
-      c.put_word-identified.auto.out,
-      c.put_identifier-behind.ensures.place,
-      c.put_identifier-behind.auto.out,
+      put_length c.args.text.now (word (decimal c.args.c.0) 32) c.put_number.ensures,
+      put_length c.put_number.new.self (word c.name.result.now 32) c.put_word.ensures,
+      put_length c.put_word.new.self (identifier_text c.class_row-row.result.now) c.put_identifier.ensures,
     )
 
-pub kept_count-requires : goal.kept_count-requires
-kept_count-requires c =
-    (c.requires.0.closure_long, c.requires.0.below, omega arith)
-
-pub put_number-last-requires : goal.put_number-last-requires
-put_number-last-requires c =
+pub put_number-requires-2 : goal.put_number-requires-2
+put_number-requires-2 c =
     omega (
       arith,
       c.requires.1,
       class_length (kept_counts c.args.closure.now) (table_in Classes c.args.classes.now) c.args.c.0,
       word_length (decimal c.args.c.0) 32,
       ap length (c.name.ensures ∙ ap name_of c.class_row-row.ensures),
-      word_length
-          c.name.result.now 32,
+      word_length c.name.result.now 32,
       ap (λ (r : List ℕ). length (identifier_text r)) c.class_row-row.ensures,
-      ap (λ (n : ℕ). length (decimal n))
-          c.kept_count.ensures,
+      ap (λ (n : ℕ). length (decimal n)) c.kept_count.ensures,
       word_length (decimal c.kept_count.result) 32,
-      c.put_number-named.ensures.place,
-      c.put_number-named.auto.out,
-      c.put_word-identified.ensures.place,
-      c.put_word-identified.auto.out,
-      c.put_identifier-behind.ensures.place,
-      c.put_identifier-behind.auto.out,
-      c.put_byte-counted.ensures.place,
-      c.put_byte-counted.auto.out,
+      put_length c.args.text.now (word (decimal c.args.c.0) 32) c.put_number.ensures,
+      put_length c.put_number.new.self (word c.name.result.now 32) c.put_word.ensures,
+      put_length c.put_word.new.self (identifier_text c.class_row-row.result.now) c.put_identifier.ensures,
+      put_length c.put_identifier.new.text (32 ∷ []) c.put_byte.ensures,
     )
 
-pub kept_count-requires-2 : goal.kept_count-requires-2
-kept_count-requires-2 c =
-    (c.requires.0.closure_long, c.requires.0.below, omega arith)
-
-pub put_number-requires : goal.put_number-requires
-put_number-requires c =
+pub put_number-requires-3 : goal.put_number-requires-3
+put_number-requires-3 c =
     omega (
       arith,
       c.requires.1,
       class_length (kept_counts c.args.closure.now) (table_in Classes c.args.classes.now) c.args.c.0,
       word_length (decimal c.args.c.0) 32,
       ap length (c.name.ensures ∙ ap name_of c.class_row-row.ensures),
-      word_length
-          c.name.result.now 32,
+      word_length c.name.result.now 32,
       ap (λ (r : List ℕ). length (identifier_text r)) c.class_row-row.ensures,
-      ap (λ (n : ℕ). length (decimal n))
-          c.kept_count.ensures,
+      ap (λ (n : ℕ). length (decimal n)) c.kept_count.ensures,
       word_length (decimal c.kept_count.result) 32,
       ap (λ (n : ℕ). length (decimal n)) c.kept_count-2.ensures,
       word_length (decimal c.kept_count-2.result) 10,
-      c.put_number-named.ensures.place,
-      c.put_number-named.auto.out,
-      c.put_word-identified.ensures.place,
-      c.put_word-identified.auto.out,
-      c.put_identifier-behind.ensures.place,
-      c.put_identifier-behind.auto.out,
-      c.put_byte-counted.ensures.place,
-      c.put_byte-counted.auto.out,
-      c.put_number-last.ensures.place,
-      c.put_number-last.auto.out,
+      put_length c.args.text.now (word (decimal c.args.c.0) 32) c.put_number.ensures,
+      put_length c.put_number.new.self (word c.name.result.now 32) c.put_word.ensures,
+      put_length c.put_word.new.self (identifier_text c.class_row-row.result.now) c.put_identifier.ensures,
+      put_length c.put_identifier.new.text (32 ∷ []) c.put_byte.ensures,
+      put_length c.put_byte.new.self (word (decimal c.kept_count.result) 32) c.put_number-2.ensures,
     )
 
 pub returns : goal.returns
 returns c =
-    let e = class_read_lem (kept_counts c.args.closure.now) (table_in Classes c.args.classes.now) c.args.c.0
-    c.class_row-row.ensures c.name.ensures c.kept_count.ensures c.kept_count-2.ensures in written_as e
-    (five_written c.args.c.0 c.name.result.now (identifier_text c.class_row-row.result.now) c.kept_count.result
-    c.kept_count-2.result (rw e at c.requires.1) c.put_number-named.ensures c.put_word-identified.ensures c.put_identifier-behind.ensures
-    c.put_byte-counted.ensures c.put_number-last.ensures c.put_number.ensures)
+    five_put c.args.c.0 c.name.result.now (identifier_text c.class_row-row.result.now) c.kept_count.result c.kept_count-2.result c.args.text.now
+    c.put_number.ensures c.put_word.ensures c.put_identifier.ensures c.put_byte.ensures c.put_number-2.ensures c.put_number-3.ensures
+    ∙ ap (λ (x : List ℕ). c.args.text.now ++ x) (sym (class_read_lem (kept_counts c.args.closure.now) (table_in Classes c.args.classes.now) c.args.c.0
+    c.class_row-row.ensures c.name.ensures c.kept_count.ensures c.kept_count-2.ensures))

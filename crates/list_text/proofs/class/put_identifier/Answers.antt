@@ -1,12 +1,8 @@
-use mathlib.Core.List.{List}
-use mathlib.Core.Path.{◌≡◌}
-use Prim.Native.Nat.{ℕ, ◌+◌, ◌≤◌}
-use native.Mathlib.Omega.{arith}
-use lib.ListN.{length}
+use Rattle.std.proofs.Common.{◌≡◌, ℕ, ◌∙◌, List, ◌++◌, ap, sym, arith}
 use Rattle.prelude.specs.Concat.{concat_below}
-use Rattle.prelude.specs.WrittenLaws.{written_as, writing_none, writing_room, writing_more, writing_done}
 use Rattle.schema.specs.Row.{arc_count}
 use Rattle.list_text.specs.Listing.{arc_text, identifier_text}
+use Rattle.list_text.proofs.Lines.{put_none, put_more, put_room}
 use Rattle.list_text.proofs.class.put_identifier.Goals as goal
 
 -- by the number of arcs that was read
@@ -14,38 +10,24 @@ arcs : (row : List ℕ) {n : ℕ} → n ≡ arc_count row → identifier_text ro
 unfolding identifier_text
 arcs row e = rw e
 
-room : (row : List ℕ) (at : ℕ) (out : List ℕ) {n : ℕ} → n ≡ arc_count row → at + length (identifier_text row) ≤ length out
-    → at + length (concat_below n (arc_text row)) ≤ length out
-room row at out e h = rw (arcs row e) at h
-
 pub loop-k-init : goal.loop-k-init
 loop-k-init c =
-    writing_none
+    put_none c.args.text.now (arc_text c.args.row.now)
 
-pub put_arc-next-requires : goal.put_arc-next-requires
-put_arc-next-requires c = (
-  c.requires.0,
-  omega (arith, c.requires.1, c.arc_count-n.ensures, c.loop-k-test.true),
-  writing_room
-      (room c.args.row.now c.args.at c.args.out.now c.arc_count-n.ensures c.requires.2) c.loop-k.invariant
-      c.loop-k-test.true,
-)
-
-pub overflow_add-k : goal.overflow_add-k
-overflow_add-k c =
-    omega arith
-
-pub loop-k-smaller : goal.loop-k-smaller
-loop-k-smaller c =
-    omega (arith, c.loop-k-test.true)
+pub put_arc-requires : goal.put_arc-requires
+put_arc-requires c =
+    let e = arcs c.args.row.now c.arc_count-n.ensures in (
+      c.requires.0,
+      omega (arith, c.requires.1, c.arc_count-n.ensures),
+      put_room c.args.text.now (arc_text c.args.row.now) c.loop-k.k c.loop-k.invariant c.arc_count-n.result _ (omega arith) (rw e at c.requires.2),
+    )
 
 pub loop-k-preserved : goal.loop-k-preserved
 loop-k-preserved c =
-    writing_more (room c.args.row.now c.args.at c.args.out.now c.arc_count-n.ensures c.requires.2) c.loop-k.invariant
-    c.loop-k-test.true c.put_arc-next.ensures
+    put_more c.args.text.now (arc_text c.args.row.now) c.loop-k.k c.loop-k.invariant c.put_arc.ensures
 
 pub returns : goal.returns
 returns c =
     let row = c.args.row.now in
-    written_as (arcs row c.arc_count-n.ensures)
-    (writing_done (room row c.args.at c.args.out.now c.arc_count-n.ensures c.requires.2) c.loop-k.invariant c.loop-k-test.false)
+    let k : c.loop-k.k ≡ c.arc_count-n.result = omega arith in
+    c.loop-k.invariant ∙ ap (λ (x : List ℕ). c.args.text.now ++ x) (ap (λ (j : ℕ). concat_below j (arc_text row)) k ∙ sym (arcs row c.arc_count-n.ensures))

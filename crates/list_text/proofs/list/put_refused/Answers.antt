@@ -1,75 +1,65 @@
-use mathlib.Core.Path.{refl}
-use native.Mathlib.Omega.{arith}
-use Rattle.list_text.specs.Text.{ascii, decimal}
+use Rattle.std.proofs.Common.{refl, ap, length, arith}
+use Rattle.list_text.specs.Text.{ascii, decimal, word}
 use Rattle.list_text.specs.TextLaws.{word_length}
-use Rattle.list_text.proofs.Lines.{refused_length, refused_written}
+use Rattle.list_text.proofs.Lines.{put_length, refused_length, refused_put}
 use Rattle.list_text.proofs.Room.{refused_short}
 use Rattle.list_text.proofs.list.put_refused.Goals as goal
 
-pub put_word-first-requires : goal.put_word-first-requires
+pub put_word-requires : goal.put_word-requires
 unfolding ascii
-put_word-first-requires c =
-    omega (arith, c.requires, word_length (ascii "refused") 32)
-
-pub put_number-second-requires : goal.put_number-second-requires
-unfolding ascii
-put_number-second-requires c =
-    let answer = c.args.answer in
+put_word-requires c =
     omega (
       arith,
-      c.requires,
-      refused_short answer (omega arith) (omega arith) (omega arith),
-      refused_length answer,
+      ap length c.requires,
       word_length (ascii "refused") 32,
-      word_length (decimal c.args.answer.number) 32,
-      c.put_word-first.ensures.place,
-      c.put_word-first.auto.out,
-    )
-
-pub put_number-third-requires : goal.put_number-third-requires
-unfolding ascii
-put_number-third-requires c =
-    let answer = c.args.answer in
-    omega (
-      arith,
-      c.requires,
-      refused_short answer (omega arith) (omega arith) (omega arith),
-      refused_length answer,
-      word_length (ascii "refused") 32,
-      word_length (decimal c.args.answer.number) 32,
-      word_length (decimal c.args.answer.table) 32,
-      c.put_word-first.ensures.place,
-      c.put_word-first.auto.out,
-      c.put_number-second.ensures.place,
-      c.put_number-second.auto.out,
     )
 
 pub put_number-requires : goal.put_number-requires
 unfolding ascii
 put_number-requires c =
-    let answer = c.args.answer in
     omega (
       arith,
-      c.requires,
-      refused_short answer (omega arith) (omega arith) (omega arith),
-      refused_length answer,
+      ap length c.requires,
       word_length (ascii "refused") 32,
+      refused_short c.args.answer (omega arith) (omega arith) (omega arith),
+      refused_length c.args.answer,
+      word_length (decimal c.args.answer.number) 32,
+      put_length c.args.text.now (word (ascii "refused") 32) c.put_word.ensures,
+    )
+
+pub put_number-requires-2 : goal.put_number-requires-2
+unfolding ascii
+put_number-requires-2 c =
+    omega (
+      arith,
+      ap length c.requires,
+      word_length (ascii "refused") 32,
+      refused_short c.args.answer (omega arith) (omega arith) (omega arith),
+      refused_length c.args.answer,
       word_length (decimal c.args.answer.number) 32,
       word_length (decimal c.args.answer.table) 32,
-      word_length
-          (decimal c.args.answer.place) 10,
-      c.put_word-first.ensures.place,
-      c.put_word-first.auto.out,
-      c.put_number-second.ensures.place,
-      c.put_number-second.auto.out,
-      c.put_number-third.ensures.place,
-      c.put_number-third.auto.out,
+      put_length c.args.text.now (word (ascii "refused") 32) c.put_word.ensures,
+      put_length c.put_word.new.self (word (decimal c.args.answer.number) 32) c.put_number.ensures,
+    )
+
+pub put_number-requires-3 : goal.put_number-requires-3
+unfolding ascii
+put_number-requires-3 c =
+    omega (
+      arith,
+      ap length c.requires,
+      word_length (ascii "refused") 32,
+      refused_short c.args.answer (omega arith) (omega arith) (omega arith),
+      refused_length c.args.answer,
+      word_length (decimal c.args.answer.number) 32,
+      word_length (decimal c.args.answer.table) 32,
+      word_length (decimal c.args.answer.place) 10,
+      put_length c.args.text.now (word (ascii "refused") 32) c.put_word.ensures,
+      put_length c.put_word.new.self (word (decimal c.args.answer.number) 32) c.put_number.ensures,
+      put_length c.put_number.new.self (word (decimal c.args.answer.table) 32) c.put_number-2.ensures,
     )
 
 pub returns : goal.returns
 unfolding ascii
 returns c =
-    let answer = c.args.answer in
-    let short = refused_short answer (omega (arith, c.well_formed)) (omega (arith, c.well_formed)) (omega (arith, c.well_formed)) in
-    refused_written answer (omega (arith, c.requires, short)) refl c.put_word-first.ensures c.put_number-second.ensures c.put_number-third.ensures
-    c.put_number.ensures
+    refused_put c.args.answer refl (rw c.requires at c.put_word.ensures) c.put_number.ensures c.put_number-2.ensures c.put_number-3.ensures

@@ -1,7 +1,6 @@
+use Rattle.std.proofs.Common.{arith}
 use Rattle.prelude.specs.BigEndianLaws.{two_bytes}
-use native.Mathlib.Omega.{arith}
 use Rattle.prelude.proofs.number.read_u16.Goals as goal
 
 pub returns : goal.returns
-returns c =
-    omega (arith, two_bytes c.args.at c.args.s.now)
+returns c = omega (arith, two_bytes c.args.at c.args.s.now)

@@ -1,7 +1,7 @@
-use Rattle.prelude.specs.BigEndianLaws.{four_bytes}
-use native.Mathlib.Omega.{arith}
+use Rattle.std.proofs.Common.{ap, arith, add-zero, get_or, ℕ}
+use Rattle.prelude.specs.BigEndian.{big_endian}
 use Rattle.prelude.proofs.number.read_u32.Goals as goal
 
 pub returns : goal.returns
-returns c =
-    omega (arith, four_bytes c.args.at c.args.s.now)
+unfolding big_endian
+returns c = omega (arith, ap (λ (i : ℕ). get_or c.args.s.now i 0) (add-zero c.args.at))

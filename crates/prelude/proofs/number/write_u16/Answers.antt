@@ -1,15 +1,8 @@
+use Rattle.std.proofs.Common.{rules, ◌+◌, refl}
 use Rattle.prelude.specs.BigEndian.{big_endian_bytes}
-use Rattle.prelude.specs.SpliceLaws.{set_splice_two}
-use lib.ListN.{length-set}
-use native.Mathlib.Omega.{arith}
-use borrow.Author.Rules.{rules}
+use Rattle.prelude.specs.LentLaws.{lent_back}
 use Rattle.prelude.proofs.number.write_u16.Goals as goal
-
-pub bounds-d-at-2 : goal.bounds-d-at-2
-bounds-d-at-2 c =
-    simp length-set (omega arith)
 
 pub returns : goal.returns
 unfolding big_endian_bytes
-returns c =
-    set_splice_two _ _ _ _ (search rules)
+returns c = lent_back c.args.at (c.args.at + 2) c.args.d.now _ (big_endian_bytes 2 c.args.x) refl (search rules)

@@ -1,17 +1,14 @@
-use mathlib.Core.Bool.{◌&&◌}
-use mathlib.Core.List.{List}
-use mathlib.Core.Path.{◌≡◌, sym, ap, ◌∙◌}
-use Prim.Native.Nat.{ℕ, ◌+◌}
-use native.Mathlib.Numerals.{add-one}
-use native.Mathlib.Omega.{arith}
-use borrow.Author.Rules.{rules}
+use Rattle.std.proofs.Common.{rules, arith, ◌≡◌, ◌&&◌, List, [], ◌∷◌, ℕ, sym, ap, ◌∙◌}
+use Rattle.std.specs.List.{fold, list_all}
+use Rattle.std.proofs.lemmas.Iterator.{YieldsList-from_slice}
+use Rattle.std.proofs.lemmas.Iterator.Consumers.{fold_from_yields_List}
 use lib.Bits.{bit_or, or_zero_l, or_add_and, and_le_l, and_le_r}
 use lib.Dec.{eqb}
-use lib.ListN.{length, get_or}
 use Rattle.prelude.specs.Part.{is_zero}
-use Rattle.prelude.specs.Below.{all_below}
-use Rattle.prelude.specs.BelowLaws.{all_zero, all_not}
+use Rattle.prelude.specs.BelowLaws.{all_not}
 use Rattle.prelude.specs.SaysLaws.{says_eq, says_and, says_iff, says_same, says_false}
+use Rattle.prelude.proofs.Ranges.{and_over, and_true}
+use Rattle.prelude.proofs.Places.{all_places}
 use Rattle.prelude.proofs.part.is_zero.Goals as goal
 
 -- bytes gathered are zero where each is
@@ -24,33 +21,16 @@ gathered a b =
     ))
     (says_and (says_eq a 0) (says_eq b 0))
 
--- a turn of the loop
-turn : (s : List ℕ) (i all : ℕ) → eqb all 0 ≡ all_below i (λ k. eqb (get_or s k 0) 0) → eqb (bit_or all (get_or s i 0)) 0 ≡ all_below (i + 1) (λ k. eqb (get_or s k 0) 0)
-unfolding all_below
-turn s i all h = gathered all (get_or s i 0) ∙ rw (h, add-one)
-
-pub returns-then-s-eq0 : goal.returns-then-s-eq0
-unfolding is_zero
-returns-then-s-eq0 c =
-    rw c.if-s-eq0.true (sym (all_zero _))
+all_gathered : (s : List ℕ) (a : ℕ) → eqb (fold bit_or a s) 0 ≡ eqb a 0 && list_all (λ b. eqb b 0) s
+all_gathered [] a = sym (and_true (eqb a 0))
+all_gathered (x ∷ s) a = all_gathered s (bit_or a x) ∙ rw (gathered a x) (and_over (eqb a 0) (eqb x 0) (list_all (λ b. eqb b 0) s))
 
 pub returns-then-s-ne0 : goal.returns-then-s-ne0
 unfolding is_zero
-returns-then-s-ne0 c =
-    sym (all_not _ 0 _ (omega (arith, c.if-s-eq0.false)) (says_false (says_eq _ _) c.if-s-ne0.true))
-
-pub loop-i-init : goal.loop-i-init
-loop-i-init c =
-    (search rules, sym (all_zero _))
-
-pub loop-i-preserved : goal.loop-i-preserved
-loop-i-preserved c =
-    let l = c.loop-i in (search rules, turn c.args.s.now l.i l.all l.invariant.1)
+returns-then-s-ne0 c = sym (all_not _ 0 _ (search rules) (says_false (says_eq _ _) c.if-s-ne0.true))
 
 pub returns : goal.returns
 unfolding is_zero
 returns c =
-    let s = c.args.s.now in
-    let l = c.loop-i in
-    let e : l.i ≡ length s = omega (arith, l.invariant.0, c.loop-i-test.false) in
-    l.invariant.1 ∙ ap (λ (n : ℕ). all_below n (λ k. eqb (get_or s k 0) 0)) e
+    ap (λ n. eqb n 0) (fold_from_yields_List _ bit_or 0 c.fold.result c.fold.ensures.ran (YieldsList-from_slice c.args.s.now (cc)) (λ a x b q h. search rules))
+    ∙ all_gathered c.args.s.now 0 ∙ all_places 0 (λ b. eqb b 0) c.args.s.now

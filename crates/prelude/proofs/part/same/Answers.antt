@@ -1,41 +1,29 @@
-use mathlib.Core.Path.{◌≡◌, sym, ap}
-use mathlib.Core.List.{List}
-use Prim.Native.Nat.{ℕ, ◌≤◌, ◌-◌}
-use native.Mathlib.Decide.{ℕ_discrete}
-use lib.ListN.{length, get_or}
-use lib.Seq.{ext_get_or}
-use Rattle.prelude.specs.SaysLaws.{says_true, says_false}
+use Rattle.std.proofs.lemmas.Bool.Decides.{Decides-eqb}
+use Rattle.std.proofs.lemmas.Slice.Eq.{slice_eq-Decides}
+use Rattle.std.proofs.Common.{◌≡◌, ℕ, List, length, eqb, true, sym, ◌∙◌, ap, refl, ◌-◌, eq-eqb}
+use Rattle.std.proofs.lemmas.Bool.{false≢true}
+use Rattle.std.specs.Prelude.{Option, None, Some}
+use Rattle.std.specs.Option.{option_eq, option_copied}
+use Rattle.std.specs.List.{slice_get}
+use denote.Ref.{Bor}
+use Rattle.prelude.specs.SaysLaws.{says_same, says_false}
 use Rattle.prelude.specs.PartLaws.{says_same_bytes}
-use native.Mathlib.Omega.{arith}
-use borrow.Author.Rules.{rules}
-use Rattle.prelude.proofs.part.same.Invariants.{From}
 use Rattle.prelude.proofs.part.same.Goals as goal
 
--- one byte more, in front
-from_more : (a b : List ℕ) (i : ℕ) → get_or a (i - 1) 0 ≡ get_or b (i - 1) 0 → From a b i → From a b (i - 1)
-from_more a b i e h k l m = go (ℕ_discrete k (i - 1))
-  where
-    go : Dec (k ≡ i - 1) → get_or a k 0 ≡ get_or b k 0
-    go (yes q) = rw q e
-    go (no d) = h k (omega arith) m
+-- references to the same byte, or none
+copies_alike : (p q : Option (Bor ℕ)) → option_copied p ≡ option_copied q → option_eq (λ x y. eqb x.now y.now) p q ≡ true
+copies_alike None None e = refl
+copies_alike None (Some y) e = absurd (cc)
+copies_alike (Some x) None e = absurd (cc)
+copies_alike (Some x) (Some y) e = eq-eqb x.now y.now (cc)
 
-pub returns-then-a-b : goal.returns-then-a-b
-returns-then-a-b c =
-    sym (says_false (says_same_bytes _ _) (λ e. c.if-a-b.true (ap length e)))
+pub returns-then-eq : goal.returns-then-eq
+returns-then-eq c =
+    let decided = slice_eq-Decides Decides-eqb c.args.a.now c.args.b.now _ c.eq-then-eq.ensures in
+    says_same (record { holds = decided.0; passes = decided.1 }) (says_same_bytes _ _)
 
-pub loop-i-init : goal.loop-i-init
-loop-i-init c =
-    (search rules, λ k l m. absurd (omega arith))
-
-pub returns-then-a-i : goal.returns-then-a-i
-returns-then-a-i c =
-    sym (says_false (says_same_bytes _ _) (λ e. c.if-a-i.true (ap (λ (l : List ℕ). get_or l (c.loop-i.i - 1) 0) e)))
-
-pub loop-i-preserved : goal.loop-i-preserved
-loop-i-preserved c =
-    let l = c.loop-i in (search rules, from_more c.args.a.now c.args.b.now l.i c.if-a-i.false l.invariant.1)
-
-pub returns : goal.returns
-returns c =
-    let h : c.loop-i.i ≤ 0 = omega arith in sym
-    (says_true (says_same_bytes _ _) (ext_get_or 0 _ _ c.if-a-b.false (λ k l. c.loop-i.invariant.1 k (omega arith) (omega arith))))
+pub returns-else-eq : goal.returns-else-eq
+returns-else-eq c =
+    c.if-eq.false ∙ sym (says_false (says_same_bytes c.args.a.now c.args.b.now) (λ e. false≢true
+    (sym c.if-eq.false ∙ c.eq.ensures ∙ copies_alike c.last.result c.last-2.result
+    (c.last.ensures.value ∙ ap (λ (s : List ℕ). slice_get s (length s - 1)) e ∙ sym c.last-2.ensures.value))))

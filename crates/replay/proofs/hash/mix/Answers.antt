@@ -1,7 +1,8 @@
+use Rattle.std.proofs.Common.{rules}
 use Rattle.replay.specs.Hash.{mixed}
 use Rattle.replay.proofs.hash.mix.Goals as goal
 
 pub returns : goal.returns
 unfolding mixed
 returns c =
-    c.times_prime.ensures
+    search rules

@@ -1,6 +1,6 @@
 use mathlib.Core.List.{List}
-use mathlib.Core.Path.{refl, sym, ap, ◌∙◌}
-use Prim.Native.Nat.{◌+◌, ℕ}
+use mathlib.Core.Path.{◌≡◌, refl, sym, ap, ◌∙◌}
+use Prim.Native.Nat.{◌+◌, ◌*◌, ℕ}
 use native.Mathlib.Omega.{arith}
 use lib.ListN.{drop}
 use Rattle.sets.specs.Sets.{set_of}
@@ -9,40 +9,26 @@ use Rattle.rows_format.specs.Entries.{entries}
 use Rattle.rows_read.proofs.Entering.{insert_begin, insert_all, insert_turn, insert_done, within_rest}
 use Rattle.rows_read.proofs.entries.store_entries.Goals as goal
 
-pub loop-i-init : goal.loop-i-init
-loop-i-init c =
+pub loop-k-init : goal.loop-k-init
+loop-k-init c =
     let b = insert_begin c.args.v.now c.args.cell.now c.clear.new.d c.requires.1 c.clear.ensures in record
-    { whole = c.requires.0; even = omega arith; within = omega arith; long = refl; small = b.0; same = b.1 }
+    { long = refl; small = b.0; same = b.1 }
 
-pub read_u16-n-requires : goal.read_u16-n-requires
-read_u16-n-requires c =
-    omega arith
-
-pub overflow_add-i : goal.overflow_add-i
-overflow_add-i c =
-    omega arith
-
-pub loop-i-smaller : goal.loop-i-smaller
-loop-i-smaller c =
-    omega arith
-
-pub loop-i-preserved : goal.loop-i-preserved
-loop-i-preserved c =
+pub loop-k-preserved : goal.loop-k-preserved
+loop-k-preserved c =
     let v = c.args.v.now in
+    let e : 2 * (c.loop-k.k + 1) ≡ 2 * c.loop-k.k + 2 = omega arith in
     record {
-      whole = c.loop-i.invariant.whole;
-      even = omega arith;
-      within = omega arith;
-      long = c.insert.auto.s ∙ c.loop-i.invariant.long;
-      small = within_rest
-          c.loop-i.i c.read_u16-n.result v c.loop-i.cell (omega arith) c.read_u16-n.ensures _ c.loop-i.invariant.small;
-      same = ap
-          (λ (x : List ℕ). insert_all x (entries (drop (c.loop-i.i + 2) v))) c.insert.ensures ∙ sym
-          (insert_turn c.loop-i.i c.read_u16-n.result v c.loop-i.cell (omega arith) c.read_u16-n.ensures) ∙ c.loop-i.invariant.same;
+      long = c.insert.auto.s ∙ c.loop-k.invariant.long;
+      small = rw e (within_rest
+          (2 * c.loop-k.k) c.read_u16.result v c.loop-k.cell (omega arith) c.read_u16.ensures _ c.loop-k.invariant.small);
+      same = rw e (ap
+          (λ (x : List ℕ). insert_all x (entries (drop ((2 * c.loop-k.k) + 2) v))) c.insert.ensures ∙ sym
+          (insert_turn (2 * c.loop-k.k) c.read_u16.result v c.loop-k.cell (omega arith) c.read_u16.ensures) ∙ c.loop-k.invariant.same);
     }
 
 pub returns : goal.returns
 returns c =
     let v = c.args.v.now in
-    sym (insert_done c.loop-i.i v c.loop-i.cell (omega arith)) ∙ c.loop-i.invariant.same ∙ ap (λ (n : ℕ). set_of n (among (entries v)))
+    sym (insert_done (2 * c.loop-k.k) v c.loop-k.cell (omega arith)) ∙ c.loop-k.invariant.same ∙ ap (λ (n : ℕ). set_of n (among (entries v)))
     c.clear.auto.d

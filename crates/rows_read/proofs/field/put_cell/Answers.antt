@@ -3,13 +3,13 @@ use Rattle.rows_format.proofs.ColumnsLaws.{width_small, cell_length, takes_accep
 use Rattle.rows_read.proofs.Storing.{cell_stored}
 use Rattle.rows_read.proofs.field.put_cell.Goals as goal
 
-pub column_width-requires : goal.column_width-requires
-column_width-requires c =
+pub width-requires : goal.width-requires
+width-requires c =
     width_small _ c.requires.0.sound
 
 pub returns : goal.returns
 returns c =
     let column = c.args.column in
     let v = c.args.v.now in
-    cell_stored c.args.column.at c.column_width.result c.args.row.now c.store_cell.new.cell _
-    (c.column_width.ensures ∙ sym (cell_length column v (takes_accepts column v c.requires.1))) c.store_cell.ensures
+    cell_stored c.args.column.at c.width.result c.args.row.now c.store_cell.new.cell _
+    (c.width.ensures ∙ sym (cell_length column v (takes_accepts column v c.requires.1))) c.store_cell.ensures

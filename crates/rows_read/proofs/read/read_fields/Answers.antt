@@ -1,65 +1,56 @@
+use Rattle.std.specs.Prelude.{Err}
 use mathlib.Core.Path.{refl, sym, ap, ◌∙◌}
-use Prim.Native.Nat.{◌<◌}
 use native.Mathlib.Omega.{arith}
-use lib.ListN.{length}
-use Rattle.rows_format.specs.Formats.{columns_of, no_column}
-use Rattle.rows_format.proofs.FormatsLaws.{fits_in}
+use Rattle.std.proofs.lemmas.Result.{err_from_is_err_and}
+use Rattle.rows_format.specs.Formats.{no_column}
+use Rattle.rows_format.proofs.FormatsLaws.{fits_item}
 use Rattle.rows_read.specs.Reading.{Out}
 use Rattle.rows_read.specs.ReadingLaws.{took_within, read_next, read_stop, read_leftover, read_missing, read_whole}
 use Rattle.rows_read.proofs.read.read_fields.Goals as goal
 
-pub loop-i-init : goal.loop-i-init
-loop-i-init c =
-    record { few = omega arith; within = omega arith; long = refl; same = refl }
-
 pub take_field-requires : goal.take_field-requires
-take_field-requires c =
-    let format = c.args.format in
-    let l : c.loop-i.i < length (columns_of format) = omega (arith, c.column_count-count.ensures, c.loop-i-test.true) in
-    (omega arith, omega arith, fits_in format c.loop-i.i c.column_of.ensures l (omega (arith, c.loop-i.invariant.long, c.requires.2)))
+take_field-requires c = (
+  omega arith,
+  omega arith,
+  fits_item c.args.format _ _ _ c.columns-column-items.ensures c.loop-column-test.true
+      (omega (arith, c.loop-column.invariant.long, c.requires.2)),
+)
 
-pub returns-in_default : goal.returns-in_default
-returns-in_default c =
-    let e = sym c.loop-i.invariant.same ∙ read_stop (columns_of c.args.format) no_column c.args.s.now c.args.end c.loop-i.i
-    c.loop-i.at c.loop-i.missing c.loop-i.row (omega (arith, c.column_count-count.ensures, c.loop-i-test.true)) c.column_of.ensures
-    c.take_field.ensures c.in_default.is in (sym (ap (λ (x : Out). x.answer) e), sym (ap (λ (x : Out). x.row) e))
+pub returns-in_err-progress : goal.returns-in_err-progress
+returns-in_err-progress c =
+    let p = err_from_is_err_and c.from_residual.result c.from_residual.ensures.1 in
+    let e = sym c.loop-column.invariant.same ∙ read_stop c.columns-column-items.result.now _ c.args.s.now c.args.end c.loop-column.column-index
+    c.loop-column.progress.at c.loop-column.progress.missing c.loop-column.row c.loop-column-test.true refl
+    c.take_field.ensures c.in_err-progress.was in
+    (p.1 ∙ ap Err p.2 ∙ sym (ap (λ (x : Out). x.answer) e), sym (ap (λ (x : Out). x.row) e))
 
-pub overflow_add-i : goal.overflow_add-i
-overflow_add-i c =
-    omega arith
-
-pub loop-i-smaller : goal.loop-i-smaller
-loop-i-smaller c =
-    omega arith
-
-pub loop-i-preserved : goal.loop-i-preserved
-loop-i-preserved c =
+pub loop-column-preserved : goal.loop-column-preserved
+loop-column-preserved c =
     record {
-      few = omega arith;
-      within = took_within _ _ _ _ _ c.take_field.ensures.0 c.in-Next.is c.loop-i.invariant.within;
-      long =
-          (c.take_field.auto.row) ∙ c.loop-i.invariant.long;
+      within = took_within _ _ _ _ _ c.take_field.ensures.0 c.in_ok-progress.was c.loop-column.invariant.within;
+      long = c.take_field.auto.row ∙ c.loop-column.invariant.long;
       same = sym
-          (read_next (columns_of c.args.format) no_column c.args.s.now c.args.end c.loop-i.i c.loop-i.at c.loop-i.missing
-          c.loop-i.row (omega (arith, c.column_count-count.ensures, c.loop-i-test.true)) c.column_of.ensures c.take_field.ensures
-          c.in-Next.is)
-          ∙ c.loop-i.invariant.same;
+          (read_next c.columns-column-items.result.now _ c.args.s.now c.args.end c.loop-column.column-index c.loop-column.progress.at
+          c.loop-column.progress.missing c.loop-column.row c.loop-column-test.true refl c.take_field.ensures
+          c.in_ok-progress.was)
+          ∙ c.loop-column.invariant.same;
     }
 
-pub returns-then-at-end : goal.returns-then-at-end
-returns-then-at-end c =
-    let e = sym c.loop-i.invariant.same ∙ read_leftover (columns_of c.args.format) no_column c.args.s.now c.args.end
-    c.loop-i.i c.loop-i.at c.loop-i.missing c.loop-i.row (omega (arith, c.column_count-count.ensures, c.loop-i-test.false)) c.if-at-end.true
+pub returns-then-progress-end : goal.returns-then-progress-end
+returns-then-progress-end c =
+    let e = sym c.loop-column.invariant.same ∙ read_leftover c.columns-column-items.result.now no_column c.args.s.now c.args.end
+    c.loop-column.column-index c.loop-column.progress.at c.loop-column.progress.missing c.loop-column.row c.loop-column-test.false
+    c.if-progress-end.true
     in (sym (ap (λ (x : Out). x.answer) e), sym (ap (λ (x : Out). x.row) e))
 
-pub returns-then-missing : goal.returns-then-missing
-returns-then-missing c =
-    let e = sym c.loop-i.invariant.same ∙ read_missing (columns_of c.args.format) no_column c.args.s.now c.args.end c.loop-i.i
-    c.loop-i.at c.loop-i.missing c.loop-i.row (omega (arith, c.column_count-count.ensures, c.loop-i-test.false)) c.if-at-end.false c.if-missing.true
+pub returns-then-progress : goal.returns-then-progress
+returns-then-progress c =
+    let e = sym c.loop-column.invariant.same ∙ read_missing c.columns-column-items.result.now no_column c.args.s.now c.args.end c.loop-column.column-index
+    c.loop-column.progress.at c.loop-column.progress.missing c.loop-column.row c.loop-column-test.false c.if-progress-end.false c.if-progress.true
     in (sym (ap (λ (x : Out). x.answer) e), sym (ap (λ (x : Out). x.row) e))
 
 pub returns : goal.returns
 returns c =
-    let e = sym c.loop-i.invariant.same ∙ read_whole (columns_of c.args.format) no_column c.args.s.now c.args.end c.loop-i.i
-    c.loop-i.at c.loop-i.missing c.loop-i.row (omega (arith, c.column_count-count.ensures, c.loop-i-test.false)) c.if-at-end.false c.if-missing.false
+    let e = sym c.loop-column.invariant.same ∙ read_whole c.columns-column-items.result.now no_column c.args.s.now c.args.end c.loop-column.column-index
+    c.loop-column.progress.at c.loop-column.progress.missing c.loop-column.row c.loop-column-test.false c.if-progress-end.false c.if-progress.false
     in (sym (ap (λ (x : Out). x.answer) e), sym (ap (λ (x : Out). x.row) e))

@@ -11,10 +11,6 @@ use Rattle.rows_format.specs.Entries.{entry_bytes}
 use Rattle.rows_write.proofs.Listing.{entries_none, entries_more, entries_fit, entries_all}
 use Rattle.rows_write.proofs.entries.write_entries.Goals as goal
 
-pub overflow_mul-end : goal.overflow_mul-end
-overflow_mul-end c =
-    omega arith
-
 pub loop-n-init : goal.loop-n-init
 loop-n-init c =
     let cell = c.args.cell.now in
@@ -22,7 +18,6 @@ loop-n-init c =
     let out = c.args.out.now in
     let x = entries_none (member cell) in
     record {
-      few = omega arith;
       long = refl;
       place = sym (ap (λ (v : List ℕ). c.args.at + length v) x ∙ add-zero at);
       same = sym
@@ -36,14 +31,6 @@ write_entry-to-requires c =
     entries_fit (member cell) (c.loop-n.n + 1) (length cell * 8) (omega arith) in
     (omega arith, omega (arith, m, k, c.loop-n.invariant.place, c.loop-n.invariant.long, ap (λ (xs : List ℕ). length (entry_bytes xs)) (entries_all cell)))
 
-pub overflow_add-n : goal.overflow_add-n
-overflow_add-n c =
-    omega arith
-
-pub loop-n-smaller : goal.loop-n-smaller
-loop-n-smaller c =
-    omega arith
-
 pub loop-n-preserved : goal.loop-n-preserved
 loop-n-preserved c =
     let cell = c.args.cell.now in
@@ -52,7 +39,6 @@ loop-n-preserved c =
     let x = entry_bytes (list_below c.loop-n.n (member cell)) in
     let m = entries_more (member cell) c.loop-n.n in let lm = ap length m ∙ length-append x _ in let k = entries_fit (member cell)
     (c.loop-n.n + 1) (length cell * 8) (omega arith) in record {
-      few = omega arith;
       long = c.write_entry-to.auto.out ∙ c.loop-n.invariant.long;
       place = c.write_entry-to.ensures.0 ∙ omega
           (arith, lm, c.loop-n.invariant.place);

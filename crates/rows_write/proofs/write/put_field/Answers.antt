@@ -8,10 +8,6 @@ use Rattle.rows_format.specs.Encodings.{stored}
 use Rattle.rows_write.proofs.Writing.{holding_short, field_put}
 use Rattle.rows_write.proofs.write.put_field.Goals as goal
 
-pub value_length-n-requires : goal.value_length-n-requires
-value_length-n-requires c =
-    (c.requires.0, c.requires.1, c.requires.2)
-
 pub overflow_cast-n : goal.overflow_cast-n
 overflow_cast-n c =
     let encoding = c.args.encoding in
@@ -21,13 +17,6 @@ overflow_cast-n c =
 
 pub write_header-requires : goal.write_header-requires
 write_header-requires c =
-    let encoding = c.args.encoding in
-    let cell = c.args.cell.now in
-    let s = holding_short encoding cell (c.requires.0, c.requires.1, c.requires.2) in let l = field_length c.args.tag
-    (stored encoding cell) in omega (arith, l, c.requires.3)
-
-pub overflow_add-start : goal.overflow_add-start
-overflow_add-start c =
     let encoding = c.args.encoding in
     let cell = c.args.cell.now in
     let s = holding_short encoding cell (c.requires.0, c.requires.1, c.requires.2) in let l = field_length c.args.tag

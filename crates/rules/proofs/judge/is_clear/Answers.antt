@@ -1,3 +1,5 @@
+use Rattle.schema.specs.Refused.{refusal_number}
+use Rattle.schema.specs.RefusedLaws.{numbers_differ}
 use Rattle.rules.specs.Clear.{is_clear, key_numbers}
 use Rattle.rules.specs.Judge.{broken}
 use Rattle.rules.specs.Rules.{numbered, schema_rules}
@@ -13,49 +15,66 @@ pub any_taken-requires : goal.any_taken-requires
 any_taken-requires c =
     c.requires
 
-pub any_taken-requires-in-15 : goal.any_taken-requires-in-15
-any_taken-requires-in-15 c =
+pub any_taken-requires-in-IdentifierTaken : goal.any_taken-requires-in-IdentifierTaken
+any_taken-requires-in-IdentifierTaken c =
     c.requires
 
-pub any_taken-requires-in-16 : goal.any_taken-requires-in-16
-any_taken-requires-in-16 c =
+pub any_taken-requires-in-GuidTaken : goal.any_taken-requires-in-GuidTaken
+any_taken-requires-in-GuidTaken c =
     c.requires
 
-pub any_taken-requires-in-24 : goal.any_taken-requires-in-24
-any_taken-requires-in-24 c =
+pub any_taken-requires-in-MapiTaken : goal.any_taken-requires-in-MapiTaken
+any_taken-requires-in-MapiTaken c =
     c.requires
 
-pub any_taken-requires-in-28 : goal.any_taken-requires-in-28
-any_taken-requires-in-28 c =
+pub any_taken-requires-in-LinkTaken : goal.any_taken-requires-in-LinkTaken
+any_taken-requires-in-LinkTaken c =
     c.requires
 
-pub returns-in-13 : goal.returns-in-13
+pub returns-in-NameTaken : goal.returns-in-NameTaken
 unfolding is_clear among any_taken numbered
-returns-in-13 c =
-    rw c.in-13.is (ap not c.any_taken.ensures)
+returns-in-NameTaken c =
+    rw c.in-NameTaken.is (ap not c.any_taken.ensures)
 
-pub returns-in-15 : goal.returns-in-15
+pub returns-in-IdentifierTaken : goal.returns-in-IdentifierTaken
 unfolding is_clear among any_taken numbered
-returns-in-15 c =
-    rw c.in-15.is (ap not c.any_taken-in-15.ensures)
+returns-in-IdentifierTaken c =
+    rw c.in-IdentifierTaken.is (ap not c.any_taken-in-IdentifierTaken.ensures)
 
-pub returns-in-16 : goal.returns-in-16
+pub returns-in-GuidTaken : goal.returns-in-GuidTaken
 unfolding is_clear among any_taken numbered
-returns-in-16 c =
-    rw c.in-16.is (ap not c.any_taken-in-16.ensures)
+returns-in-GuidTaken c =
+    rw c.in-GuidTaken.is (ap not c.any_taken-in-GuidTaken.ensures)
 
-pub returns-in-24 : goal.returns-in-24
+pub returns-in-MapiTaken : goal.returns-in-MapiTaken
 unfolding is_clear among any_taken numbered
-returns-in-24 c =
-    rw c.in-24.is (ap not c.any_taken-in-24.ensures)
+returns-in-MapiTaken c =
+    rw c.in-MapiTaken.is (ap not c.any_taken-in-MapiTaken.ensures)
 
-pub returns-in-28 : goal.returns-in-28
+pub returns-in-LinkTaken : goal.returns-in-LinkTaken
 unfolding is_clear among any_taken numbered
-returns-in-28 c =
-    rw c.in-28.is (ap not c.any_taken-in-28.ensures)
+returns-in-LinkTaken c =
+    rw c.in-LinkTaken.is (ap not c.any_taken-in-LinkTaken.ensures)
 
 pub returns-in_default : goal.returns-in_default
 unfolding is_clear
 returns-in_default c =
     sym (ap (λ (q : Bool). q && not (broken (schema_in c.args.attributes.now c.args.classes.now) (numbered (schema_rules
-    c.args.added) c.args.number))) (unlike_among c.args.number key_numbers c.in_default.in_default-own.rest))
+    c.args.added) (refusal_number c.args.rule)))) (unlike_among (refusal_number c.args.rule) key_numbers (
+      (
+        (
+          (
+            (
+              tt,
+              numbers_differ
+                  c.in_default.not-NameTaken,
+            ),
+            numbers_differ c.in_default.not-IdentifierTaken,
+          ),
+          numbers_differ c.in_default.not-GuidTaken,
+        ),
+        numbers_differ
+            c.in_default.not-MapiTaken,
+      ),
+      numbers_differ c.in_default.not-LinkTaken,
+    )))

@@ -1,39 +1,28 @@
-use mathlib.Core.Path.{refl, sym, ap, ◌∙◌}
-use Prim.Native.Nat.{ℕ}
-use Rattle.schema.specs.Answers.{passed}
-use Rattle.schema.specs.declared.answer.Answer.{Answer}
+use mathlib.Core.Path.{refl, sym, ◌∙◌}
+use Rattle.std.specs.Prelude.{map}
+use Rattle.std.proofs.lemmas.List.{length-map}
+use Rattle.schema.specs.Refused.{refusal_number}
 use Rattle.schema.specs.Store.{schema_in}
-use Rattle.rules.specs.Rules.{schema_rules, numbered}
-use Rattle.rules.specs.Judge.{judge_rule}
-use Rattle.rules.proofs.JudgeLaws.{judge_found, judge_next, judge_over}
+use Rattle.rules.specs.Rules.{schema_rules}
+use Rattle.rules.proofs.JudgeLaws.{broken_found, broken_next, judge_over}
 use native.Mathlib.Omega.{arith}
 use Rattle.rules.proofs.judge.judge_by.Goals as goal
 
-pub loop-i-init : goal.loop-i-init
-loop-i-init c =
-    refl
+pub loop-rule-init : goal.loop-rule-init
+loop-rule-init c = refl
 
-pub judge_rule-found-requires : goal.judge_rule-found-requires
-judge_rule-found-requires c =
-    c.requires
+pub returns-in-Some : goal.returns-in-Some
+returns-in-Some c =
+    broken_found (schema_rules c.args.added) c.args.order.now (schema_in c.args.attributes.now c.args.classes.now) c.loop-rule.rule-index
+    c.loop-rule-test.true c.in-Some.row c.judge_rule.ensures c.in-Some.is ∙ sym c.loop-rule.invariant
 
-pub returns-then-found-ne0 : goal.returns-then-found-ne0
-returns-then-found-ne0 c =
-    let added = c.args.added in
-    let m = schema_in c.args.attributes.now c.args.classes.now in let e =
-    c.judge_rule-found.ensures ∙ ap (λ (n : ℕ). judge_rule (numbered (schema_rules added) n) m passed) c.byte_at.ensures in e ∙ sym
-    (c.loop-i.invariant ∙ judge_found (schema_rules added) c.args.order.now m c.loop-i.i c.loop-i-test.true
-    (λ z. c.if-found-ne0.true (ap (λ (x : Answer). x.table) e ∙ z)))
-
-pub loop-i-preserved : goal.loop-i-preserved
-loop-i-preserved c =
-    let added = c.args.added in
-    let m = schema_in c.args.attributes.now c.args.classes.now in let e =
-    c.judge_rule-found.ensures ∙ ap (λ (n : ℕ). judge_rule (numbered (schema_rules added) n) m passed) c.byte_at.ensures in c.loop-i.invariant ∙ judge_next
-    (schema_rules added) c.args.order.now m c.loop-i.i c.loop-i-test.true (sym (ap (λ (x : Answer). x.table) e) ∙ c.if-found-ne0.false)
+pub loop-rule-preserved : goal.loop-rule-preserved
+loop-rule-preserved c =
+    c.loop-rule.invariant ∙ broken_next (schema_rules c.args.added) c.args.order.now (schema_in c.args.attributes.now c.args.classes.now)
+    c.loop-rule.rule-index c.loop-rule-test.true c.judge_rule.ensures c.in_default.is
 
 pub returns : goal.returns
 returns c =
-    c.passed.ensures ∙ sym
-    (c.loop-i.invariant ∙ judge_over (schema_rules c.args.added) c.args.order.now
-    (schema_in c.args.attributes.now c.args.classes.now) c.loop-i.i (omega (arith, c.loop-i-test.false)))
+    sym (c.loop-rule.invariant ∙ judge_over (schema_rules c.args.added) (map refusal_number c.args.order.now)
+    (schema_in c.args.attributes.now c.args.classes.now) c.loop-rule.rule-index
+    (omega (arith, c.loop-rule-test.false, length-map c.args.order.now refusal_number)))

@@ -1,41 +1,55 @@
+use mathlib.Core.Path.{refl, sym, ap, ◌∙◌}
+use native.Mathlib.Omega.{arith}
+use Rattle.schema.specs.Refused.{refusal_number}
+use Rattle.schema.specs.Store.{schema_in}
+use Rattle.schema.specs.declared.number.TableId.TheVariants.{Attributes, Classes}
+use Rattle.rules.specs.Judge.{first_row}
+use Rattle.rules.specs.Found.{row_answer}
+use Rattle.rules.specs.Rules.{numbered, schema_rules}
 use Rattle.rules.proofs.Calm.{clear_passed}
 use Rattle.rules.proofs.Asked.{broken_at}
-use Rattle.schema.specs.declared.number.TableId.TheVariants.{Attributes, Classes}
-use Rattle.schema.specs.Store.{schema_in}
-use Rattle.rules.proofs.JudgeLaws.{answer_attribute, answer_class, answer_none}
-use Rattle.rules.specs.Rules.{schema_rules}
-use mathlib.Core.Path.{sym, ◌∙◌}
-use native.Mathlib.Omega.{arith}
+use Rattle.rules.proofs.JudgeLaws.{answer_attribute, answer_class, answer_none, found_row, found_no_row}
 use Rattle.rules.proofs.judge.judge_rule.Goals as goal
 
 pub returns-then-is_clear : goal.returns-then-is_clear
 returns-then-is_clear c =
-    c.passed.ensures ∙ sym (clear_passed c.args.added (schema_in c.args.attributes.now c.args.classes.now) c.args.number
+    sym (clear_passed c.args.added (schema_in c.args.attributes.now c.args.classes.now) (refusal_number c.args.rule)
     (sym c.is_clear.ensures ∙ c.if-is_clear.true))
 
 pub row_id-requires : goal.row_id-requires
 row_id-requires c =
-    omega (arith, c.if-a-row_count.true, c.row_count.ensures, c.requires.attributes.few)
+    let m = schema_in c.args.attributes.now c.args.classes.now in
+    let r = numbered (schema_rules c.args.added) (refusal_number c.args.rule) in
+    omega (arith, (found_row r m Attributes c.first_row.ensures c.in-Some.a c.in-Some.is).1, c.requires.attributes.few)
 
-pub returns-then-a-row_count : goal.returns-then-a-row_count
-returns-then-a-row_count c =
-    c.broken_by.ensures ∙ broken_at Attributes c.first_row-a.result c.row_id.ensures c.args.number ∙ answer_attribute (schema_rules
-    c.args.added) c.args.number (schema_in c.args.attributes.now c.args.classes.now) c.first_row-a.result
-    c.first_row-a.ensures (omega (arith, c.row_count.ensures, c.if-a-row_count.true))
+pub returns-in-Some : goal.returns-in-Some
+returns-in-Some c =
+    let m = schema_in c.args.attributes.now c.args.classes.now in
+    let r = numbered (schema_rules c.args.added) (refusal_number c.args.rule) in
+    let f = found_row r m Attributes c.first_row.ensures c.in-Some.a c.in-Some.is in
+    broken_at Attributes c.in-Some.a c.row_id.ensures (refusal_number c.args.rule)
+    ∙ answer_attribute (schema_rules c.args.added) (refusal_number c.args.rule) m c.in-Some.a f.0 f.1
 
-pub row_id-requires-then-c-row_count : goal.row_id-requires-then-c-row_count
-row_id-requires-then-c-row_count c =
-    omega (arith, c.if-c-row_count.true, c.row_count-2.ensures, c.requires.classes.few)
+pub returns-in_err-c : goal.returns-in_err-c
+returns-in_err-c c =
+    let m = schema_in c.args.attributes.now c.args.classes.now in
+    let r = numbered (schema_rules c.args.added) (refusal_number c.args.rule) in
+    ap (row_answer (refusal_number c.args.rule)) c.from_residual.ensures
+    ∙ answer_none (schema_rules c.args.added) (refusal_number c.args.rule) m (first_row r m Attributes) refl
+    (found_no_row r m Attributes c.first_row.ensures c.in_default.is) (first_row r m Classes) refl
+    (found_no_row r m Classes c.first_row-2.ensures c.in_err-c.was)
 
-pub returns-then-c-row_count : goal.returns-then-c-row_count
-returns-then-c-row_count c =
-    c.broken_by-then-c-row_count.ensures ∙ broken_at Classes c.first_row-c.result c.row_id-then-c-row_count.ensures c.args.number ∙ answer_class (schema_rules
-    c.args.added) c.args.number (schema_in c.args.attributes.now c.args.classes.now) c.first_row-a.result
-    c.first_row-a.ensures (omega (arith, c.row_count.ensures, c.if-a-row_count.false)) c.first_row-c.result c.first_row-c.ensures (omega
-    (arith, c.row_count-2.ensures, c.if-c-row_count.true))
+pub row_id-requires-2 : goal.row_id-requires-2
+row_id-requires-2 c =
+    let m = schema_in c.args.attributes.now c.args.classes.now in
+    let r = numbered (schema_rules c.args.added) (refusal_number c.args.rule) in
+    omega (arith, (found_row r m Classes c.first_row-2.ensures c.in_ok-c.c c.in_ok-c.was).1, c.requires.classes.few)
 
 pub returns : goal.returns
 returns c =
-    c.passed-2.ensures ∙ answer_none (schema_rules c.args.added) c.args.number (schema_in c.args.attributes.now
-    c.args.classes.now) c.first_row-a.result c.first_row-a.ensures (omega (arith, c.row_count.ensures, c.if-a-row_count.false))
-    c.first_row-c.result c.first_row-c.ensures (omega (arith, c.row_count-2.ensures, c.if-c-row_count.false))
+    let m = schema_in c.args.attributes.now c.args.classes.now in
+    let r = numbered (schema_rules c.args.added) (refusal_number c.args.rule) in
+    let f = found_row r m Classes c.first_row-2.ensures c.in_ok-c.c c.in_ok-c.was in
+    broken_at Classes c.in_ok-c.c c.row_id-2.ensures (refusal_number c.args.rule)
+    ∙ answer_class (schema_rules c.args.added) (refusal_number c.args.rule) m (first_row r m Attributes) refl
+    (found_no_row r m Attributes c.first_row.ensures c.in_default.is) c.in_ok-c.c f.0 f.1

@@ -1,3 +1,5 @@
+use Rattle.schema.specs.Refused.{refusal_number}
+use Rattle.schema.specs.RefusedLaws.{numbers_differ}
 use Rattle.rules.specs.Rules.{numbered, schema_rules, common_numbers}
 use Rattle.prelude.specs.Unlike.{among}
 use Rattle.rules.specs.RulesLaws.{strays, numbered_unlike}
@@ -40,34 +42,48 @@ link_syntax_wrong-requires c =
     rw c.attribute_row-row.ensures
     (omega (arith, shaped_wide c.requires.0 Attributes c.args.a.0 c.requires.1))
 
-pub returns-in-25 : goal.returns-in-25
+pub returns-in-RangeCrossed : goal.returns-in-RangeCrossed
 unfolding numbered
-returns-in-25 c =
-    rw (c.in-25.is, ← c.attribute_row-row.ensures) c.range_wrong.ensures
+returns-in-RangeCrossed c =
+    rw (c.in-RangeCrossed.is, ← c.attribute_row-row.ensures) c.range_wrong.ensures
 
-pub returns-in-26 : goal.returns-in-26
+pub returns-in-SyntaxMisfit : goal.returns-in-SyntaxMisfit
 unfolding numbered
-returns-in-26 c =
-    rw (c.in-26.is, ← c.attribute_row-row.ensures) c.syntax_wrong.ensures
+returns-in-SyntaxMisfit c =
+    rw (c.in-SyntaxMisfit.is, ← c.attribute_row-row.ensures) c.syntax_wrong.ensures
 
-pub returns-in-27 : goal.returns-in-27
+pub returns-in-ObjectClassWrong : goal.returns-in-ObjectClassWrong
 unfolding numbered
-returns-in-27 c =
-    rw (c.in-27.is, ← c.attribute_row-row.ensures) c.object_class_wrong.ensures
+returns-in-ObjectClassWrong c =
+    rw (c.in-ObjectClassWrong.is, ← c.attribute_row-row.ensures) c.object_class_wrong.ensures
 
-pub returns-in-29 : goal.returns-in-29
+pub returns-in-LinkAlone : goal.returns-in-LinkAlone
 unfolding numbered
-returns-in-29 c =
-    rw (c.in-29.is, ← c.attribute_row-row.ensures) c.forward_missing.ensures
+returns-in-LinkAlone c =
+    rw (c.in-LinkAlone.is, ← c.attribute_row-row.ensures) c.forward_missing.ensures
 
-pub returns-in-45 : goal.returns-in-45
+pub returns-in-LinkSyntaxUnfit : goal.returns-in-LinkSyntaxUnfit
 unfolding numbered
-returns-in-45 c =
-    rw (c.in-45.is, ← c.attribute_row-row.ensures) c.link_syntax_wrong.ensures
+returns-in-LinkSyntaxUnfit c =
+    rw (c.in-LinkSyntaxUnfit.is, ← c.attribute_row-row.ensures) c.link_syntax_wrong.ensures
 
 pub returns-in_default : goal.returns-in_default
 returns-in_default c =
     sym
     (numbered_unlike (λ r. r.breaks (schema_in c.args.attributes.now c.args.classes.now) Attributes c.args.a.0) (λ n. refl)
     (refusal.link_syntax_unfit ∷ refusal.link_alone ∷ refusal.object_class_wrong ∷ refusal.syntax_misfit ∷ refusal.range_crossed ∷ []) common_numbers
-    (schema_rules c.args.added) c.args.number c.in_default.in_default-own.rest c.requires.2 (unfold strays among in refl))
+    (schema_rules c.args.added) (refusal_number c.args.rule) (
+      (
+        (
+          (
+            (tt, numbers_differ c.in_default.not-RangeCrossed),
+            numbers_differ
+                c.in_default.not-SyntaxMisfit,
+          ),
+          numbers_differ c.in_default.not-ObjectClassWrong,
+        ),
+        numbers_differ c.in_default.not-LinkAlone,
+      ),
+      numbers_differ
+          c.in_default.not-LinkSyntaxUnfit,
+    ) c.requires.2 (unfold strays among in refl))

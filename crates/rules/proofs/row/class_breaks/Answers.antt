@@ -1,3 +1,5 @@
+use Rattle.schema.specs.Refused.{refusal_number}
+use Rattle.schema.specs.RefusedLaws.{numbers_differ}
 use Rattle.rules.specs.Rules.{numbered, schema_rules, common_numbers}
 use Rattle.prelude.specs.Unlike.{among}
 use Rattle.rules.specs.RulesLaws.{strays, numbered_unlike}
@@ -14,58 +16,61 @@ pub category_wrong-requires : goal.category_wrong-requires
 category_wrong-requires c =
     (c.requires.0.classes, rw c.class_row-row.ensures (omega (arith, shaped_wide c.requires.0 Classes c.args.c.0 c.requires.1)))
 
-pub category_wrong-requires-in-20 : goal.category_wrong-requires-in-20
-category_wrong-requires-in-20 c =
+pub category_wrong-requires-in-NotASuperior : goal.category_wrong-requires-in-NotASuperior
+category_wrong-requires-in-NotASuperior c =
     (c.requires.0.classes, rw c.class_row-row.ensures (omega (arith, shaped_wide c.requires.0 Classes c.args.c.0 c.requires.1)))
 
 pub naming_wrong-requires : goal.naming_wrong-requires
 naming_wrong-requires c =
     (c.requires.0.attributes, rw c.class_row-row.ensures (omega (arith, shaped_wide c.requires.0 Classes c.args.c.0 c.requires.1)))
 
-pub returns-in-17 : goal.returns-in-17
+pub returns-in-AttributeNotLive : goal.returns-in-AttributeNotLive
 unfolding numbered
-returns-in-17 c =
-    rw c.in-17.is c.attribute_not_live.ensures
+returns-in-AttributeNotLive c =
+    rw c.in-AttributeNotLive.is c.attribute_not_live.ensures
 
-pub returns-in-18 : goal.returns-in-18
+pub returns-in-ClassNotLive : goal.returns-in-ClassNotLive
 unfolding numbered
-returns-in-18 c =
-    rw c.in-18.is c.class_not_live.ensures
+returns-in-ClassNotLive c =
+    rw c.in-ClassNotLive.is c.class_not_live.ensures
 
-pub returns-in-19 : goal.returns-in-19
+pub returns-in-NotAnAuxiliary : goal.returns-in-NotAnAuxiliary
 unfolding numbered
-returns-in-19 c =
-    rw (c.in-19.is, ← c.class_row-row.ensures) c.category_wrong.ensures
+returns-in-NotAnAuxiliary c =
+    rw (c.in-NotAnAuxiliary.is, ← c.class_row-row.ensures) c.category_wrong.ensures
 
-pub returns-in-20 : goal.returns-in-20
+pub returns-in-NotASuperior : goal.returns-in-NotASuperior
 unfolding numbered
-returns-in-20 c =
-    rw (c.in-20.is, ← c.class_row-row.ensures) c.category_wrong-in-20.ensures
+returns-in-NotASuperior c =
+    rw (c.in-NotASuperior.is, ← c.class_row-row.ensures) c.category_wrong-in-NotASuperior.ensures
 
-pub returns-in-21 : goal.returns-in-21
+pub returns-in-RootNotAbstract : goal.returns-in-RootNotAbstract
 unfolding numbered
-returns-in-21 c =
-    rw c.in-21.is (rw c.in-21.is at c.inheritance_wrong.ensures)
+returns-in-RootNotAbstract c =
+    rw c.in-RootNotAbstract.is (rw (c.number.ensures, c.in-RootNotAbstract.is) at c.inheritance_wrong.ensures)
 
-pub returns-in-38 : goal.returns-in-38
+pub returns-in-AbstractUnderOther : goal.returns-in-AbstractUnderOther
 unfolding numbered
-returns-in-38 c =
-    rw c.in-38.is (rw c.in-38.is at c.inheritance_wrong-in-38.ensures)
+returns-in-AbstractUnderOther c =
+    rw c.in-AbstractUnderOther.is (rw (c.number-in-AbstractUnderOther.ensures, c.in-AbstractUnderOther.is) at
+    c.inheritance_wrong-in-AbstractUnderOther.ensures)
 
-pub returns-in-39 : goal.returns-in-39
+pub returns-in-AuxiliaryUnderStructural : goal.returns-in-AuxiliaryUnderStructural
 unfolding numbered
-returns-in-39 c =
-    rw c.in-39.is (rw c.in-39.is at c.inheritance_wrong-in-39.ensures)
+returns-in-AuxiliaryUnderStructural c =
+    rw c.in-AuxiliaryUnderStructural.is (rw (c.number-in-AuxiliaryUnderStructural.ensures, c.in-AuxiliaryUnderStructural.is) at
+    c.inheritance_wrong-in-AuxiliaryUnderStructural.ensures)
 
-pub returns-in-40 : goal.returns-in-40
+pub returns-in-StructuralUnderAuxiliary : goal.returns-in-StructuralUnderAuxiliary
 unfolding numbered
-returns-in-40 c =
-    rw c.in-40.is (rw c.in-40.is at c.inheritance_wrong-in-40.ensures)
+returns-in-StructuralUnderAuxiliary c =
+    rw c.in-StructuralUnderAuxiliary.is (rw (c.number-in-StructuralUnderAuxiliary.ensures, c.in-StructuralUnderAuxiliary.is) at
+    c.inheritance_wrong-in-StructuralUnderAuxiliary.ensures)
 
-pub returns-in-23 : goal.returns-in-23
+pub returns-in-NamingUnfit : goal.returns-in-NamingUnfit
 unfolding numbered
-returns-in-23 c =
-    rw (c.in-23.is, ← c.class_row-row.ensures) c.naming_wrong.ensures
+returns-in-NamingUnfit c =
+    rw (c.in-NamingUnfit.is, ← c.class_row-row.ensures) c.naming_wrong.ensures
 
 pub returns-in_default : goal.returns-in_default
 returns-in_default c =
@@ -73,4 +78,34 @@ returns-in_default c =
     (numbered_unlike (λ r. r.breaks (schema_in c.args.attributes.now c.args.classes.now) Classes c.args.c.0) (λ n. refl)
     (refusal.naming_unfit ∷ refusal.structural_under_auxiliary ∷ refusal.auxiliary_under_structural ∷ refusal.abstract_under_other ∷
     refusal.root_not_abstract ∷ refusal.not_a_superior ∷ refusal.not_an_auxiliary ∷ refusal.class_not_live ∷ refusal.attribute_not_live ∷ [])
-    common_numbers (schema_rules c.args.added) c.args.number c.in_default.in_default-own.rest c.requires.2 (unfold strays among in refl))
+    common_numbers (schema_rules c.args.added) (refusal_number c.args.rule) (
+      (
+        (
+          (
+            (
+              (
+                (
+                  (
+                    (
+                      tt,
+                      numbers_differ
+                          c.in_default.not-AttributeNotLive,
+                    ),
+                    numbers_differ c.in_default.not-ClassNotLive,
+                  ),
+                  numbers_differ c.in_default.not-NotAnAuxiliary,
+                ),
+                numbers_differ c.in_default.not-NotASuperior,
+              ),
+              numbers_differ c.in_default.not-RootNotAbstract,
+            ),
+            numbers_differ
+                c.in_default.not-AbstractUnderOther,
+          ),
+          numbers_differ c.in_default.not-AuxiliaryUnderStructural,
+        ),
+        numbers_differ
+            c.in_default.not-StructuralUnderAuxiliary,
+      ),
+      numbers_differ c.in_default.not-NamingUnfit,
+    ) c.requires.2 (unfold strays among in refl))

@@ -31,7 +31,7 @@ returns-in_default c =
 
 pub is_live-requires : goal.is_live-requires
 is_live-requires c =
-    let id = (number_is c.args.table _ (sym c.number_read.ensures ∙ c.in-Row.is)).0 in
+    let id = (number_is c.args.table _ (sym c.number_read.ensures ∙ c.in-Some.is)).0 in
     rw (id, id_table) c.requires
 
 pub returns-in-Nothing : goal.returns-in-Nothing
@@ -44,13 +44,13 @@ unfolding entry_dead
 returns-in-Class c =
     rw c.in-Class.is
 
-pub returns-in-Row : goal.returns-in-Row
+pub returns-in-Some : goal.returns-in-Some
 unfolding entry_dead
-returns-in-Row c =
+returns-in-Some c =
     let table = c.args.table in
     let store = c.args.store.now in
     let row = c.args.row.now in
-    let id = (number_is table _ (sym c.number_read.ensures ∙ c.in-Row.is)).0 in
+    let id = (number_is table _ (sym c.number_read.ensures ∙ c.in-Some.is)).0 in
     let named = c.is_live.ensures ∙ ap (λ x. live (table_in (table_of x) store) row (number_of x)) id ∙ ap₂ (λ t k. live (table_in t store) row k)
     (id_table table _) (id_number table _) in
     rw (c.in-Entry.is, eq-eqb _ _ c.if-class-c.false, sym c.same_table.ensures ∙ not-false _ c.if-not-same_table.false-raw) (ap not named)

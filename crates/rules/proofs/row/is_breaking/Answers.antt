@@ -22,41 +22,37 @@ identifier_invalid-requires c =
     let y = schema_keyed c.requires.0 (table_of id)
     (number_of id) c.requires.1 in rw c.schema_row-row.ensures (omega (arith, y.wide))
 
-pub own_breaks-requires : goal.own_breaks-requires
-own_breaks-requires c =
-    (c.requires.0, c.requires.1, c.in_default.in_default-own.rest)
-
-pub returns-in-12 : goal.returns-in-12
+pub returns-in-NameInvalid : goal.returns-in-NameInvalid
 unfolding numbered
-returns-in-12 c =
-    rw (c.in-12.is, ← c.schema_row-row.ensures) c.name_invalid.ensures
+returns-in-NameInvalid c =
+    rw (c.in-NameInvalid.is, ← c.schema_row-row.ensures) c.name_invalid.ensures
 
-pub returns-in-13 : goal.returns-in-13
+pub returns-in-NameTaken : goal.returns-in-NameTaken
 unfolding numbered
-returns-in-13 c =
-    rw c.in-13.is c.is_taken.ensures
+returns-in-NameTaken c =
+    rw c.in-NameTaken.is c.is_taken.ensures
 
-pub returns-in-14 : goal.returns-in-14
+pub returns-in-IdentifierInvalid : goal.returns-in-IdentifierInvalid
 unfolding numbered
-returns-in-14 c =
-    rw (c.in-14.is, ← c.schema_row-row.ensures) c.identifier_invalid.ensures
+returns-in-IdentifierInvalid c =
+    rw (c.in-IdentifierInvalid.is, ← c.schema_row-row.ensures) c.identifier_invalid.ensures
 
-pub returns-in-15 : goal.returns-in-15
+pub returns-in-IdentifierTaken : goal.returns-in-IdentifierTaken
 unfolding numbered
-returns-in-15 c =
-    rw c.in-15.is c.is_taken-in-15.ensures
+returns-in-IdentifierTaken c =
+    rw c.in-IdentifierTaken.is c.is_taken-in-IdentifierTaken.ensures
 
-pub returns-in-16 : goal.returns-in-16
+pub returns-in-GuidTaken : goal.returns-in-GuidTaken
 unfolding numbered
-returns-in-16 c =
-    rw c.in-16.is c.is_taken-in-16.ensures
+returns-in-GuidTaken c =
+    rw c.in-GuidTaken.is c.is_taken-in-GuidTaken.ensures
 
-pub returns-in-24 : goal.returns-in-24
+pub returns-in-MapiTaken : goal.returns-in-MapiTaken
 unfolding numbered
-returns-in-24 c =
-    rw c.in-24.is c.is_taken-in-24.ensures
+returns-in-MapiTaken c =
+    rw c.in-MapiTaken.is c.is_taken-in-MapiTaken.ensures
 
-pub returns-in-28 : goal.returns-in-28
+pub returns-in-LinkTaken : goal.returns-in-LinkTaken
 unfolding numbered
-returns-in-28 c =
-    rw c.in-28.is c.is_taken-in-28.ensures
+returns-in-LinkTaken c =
+    rw c.in-LinkTaken.is c.is_taken-in-LinkTaken.ensures

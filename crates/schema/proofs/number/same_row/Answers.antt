@@ -1,14 +1,15 @@
-use mathlib.Core.Path.{sym, ◌∙◌}
-use Rattle.schema.specs.Numbers.{same_row}
+use Rattle.schema.specs.Numbers.{same_table, same_row, table_of, number_of}
+use Rattle.schema.specs.declared.number.RowId.{RowId}
+use Rattle.schema.specs.declared.number.RowId.TheVariants.{Attribute, Class}
+use Rattle.std.proofs.Common.{◌≡◌, refl}
 use Rattle.schema.proofs.number.same_row.Goals as goal
 
-pub returns-then-same_table : goal.returns-then-same_table
-unfolding same_row
-returns-then-same_table c =
-    let same = sym (rw (c.table_of.ensures, c.table_of-2.ensures) at c.same_table.ensures) ∙ c.if-same_table.true in
-    rw (same, c.number_of.ensures, c.number_of-then-same_table.ensures)
-
 pub returns : goal.returns
-unfolding same_row
-returns c =
-    rw (sym (rw (c.table_of.ensures, c.table_of-2.ensures) at c.same_table.ensures) ∙ c.if-same_table.false)
+unfolding same_table same_row
+returns c = go c.args.a c.args.b refl refl
+  where
+    go : (a b : RowId) → c.args.a ≡ a → c.args.b ≡ b → c.eq.result ≡ same_row (table_of c.args.a) (number_of c.args.a) (table_of c.args.b) (number_of c.args.b)
+    go (Attribute a) (Attribute b) p q = rw (p, q) (rw (p, q) at c.eq.ensures)
+    go (Attribute a) (Class b) p q = rw (p, q) (rw (p, q) at c.eq.ensures)
+    go (Class a) (Attribute b) p q = rw (p, q) (rw (p, q) at c.eq.ensures)
+    go (Class a) (Class b) p q = rw (p, q) (rw (p, q) at c.eq.ensures)

@@ -1,22 +1,18 @@
+use Rattle.std.specs.Prelude.{◌≡◌}
+use Rattle.std.proofs.Common.{refl, ◌∙◌}
+use denote.Enum.Bare.{sameb}
 use Rattle.schema.specs.Numbers.{same_table}
+use Rattle.schema.specs.declared.number.TableId.{TableId}
+use Rattle.schema.specs.declared.number.TableId.TheVariants.{Attributes, Classes}
+use Rattle.schema.specs.contracts.number.TableId.{the_type}
 use Rattle.schema.proofs.number.same_table.Goals as goal
 
-pub returns-in-Attributes-b : goal.returns-in-Attributes-b
+each : (a b : TableId) → sameb the_type a b ≡ same_table a b
 unfolding same_table
-returns-in-Attributes-b c =
-    rw (c.in-Attributes.is, c.in-Attributes-b.is)
+each Attributes Attributes = refl
+each Attributes Classes = refl
+each Classes Attributes = refl
+each Classes Classes = refl
 
-pub returns-in-Classes-b : goal.returns-in-Classes-b
-unfolding same_table
-returns-in-Classes-b c =
-    rw (c.in-Attributes.is, c.in-Classes-b.is)
-
-pub returns-in-Attributes-b-2 : goal.returns-in-Attributes-b-2
-unfolding same_table
-returns-in-Attributes-b-2 c =
-    rw (c.in-Classes.is, c.in-Attributes-b-2.is)
-
-pub returns-in-Classes-b-2 : goal.returns-in-Classes-b-2
-unfolding same_table
-returns-in-Classes-b-2 c =
-    rw (c.in-Classes.is, c.in-Classes-b-2.is)
+pub returns : goal.returns
+returns c = c.eq.ensures ∙ each c.args.a c.args.b

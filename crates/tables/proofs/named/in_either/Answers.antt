@@ -1,9 +1,0 @@
-use Rattle.tables.proofs.named.in_either.Goals as goal
-
-pub returns-then-has : goal.returns-then-has
-returns-then-has c =
-    rw (← c.has.ensures, c.if-has.true)
-
-pub returns : goal.returns
-returns c =
-    rw (← c.has.ensures, c.if-has.false) c.has-2.ensures
