@@ -8,7 +8,13 @@ use Rattle.schema.specs.declared.number.TableId.TheVariants.{Attributes, Classes
 use Rattle.schema.specs.declared.number.RowId.TheVariants.{Attribute, Class}
 use Rattle.change_read.specs.declared.read.Change.TheVariants.{Deactivate}
 use Rattle.change_read.specs.declared.read.Change.{Change}
-use Rattle.change_read.specs.Carried.{target_of}
+use Rattle.std.specs.Prelude.{Option, Some, None}
+use Rattle.std.specs.Option.{MatchOption}
+use Rattle.prelude.specs.Part.{part}
+use Rattle.sets.specs.Sets.{member}
+use Rattle.change_rows.specs.Lists.{entry_read, list_width}
+use Rattle.change_rows.specs.ListsLaws.{entry_absent, entry_is}
+use Rattle.change_read.specs.Carried.{entry_of, list_of, target_of}
 use Rattle.schema.specs.declared.number.AttributeNumber.{AttributeNumber}
 use Rattle.schema.specs.declared.number.RowId.{RowId}
 use Rattle.schema.specs.Store.{Schema, schema_in, table, table_in, Table, store_of}
@@ -39,6 +45,14 @@ needed_by_class (Class x) m e = sym e
 pub needed_target : (id : RowId) (m : Schema) {change : Change} {t : TableId} {b : Bool} → change ≡ Deactivate t → table_of id ≡ table_for change
     → b ≡ needed m (table_of id) (number_of id) → b ≡ still_needed change (number_of id) m
 needed_target id m e q n = rw e (n ∙ ap (λ (x : TableId). needed m x (number_of id)) (q ∙ ap table_for e))
+
+-- whether a list holds the entry that a change names: one beyond the limit is in no list
+pub entry_held : (r : List ℕ) (at : ℕ) (row : List ℕ) (got : Option RowId) (b : Bool) (P : RowId → Type 0) → got ≡ entry_read r → MatchOption got (b ≡ false) P
+    → ((id : RowId) → P id → b ≡ member (part at (list_width (list_of r)) row) (number_of id))
+    → b ≡ member (part at (list_width (list_of r)) row) (entry_of r)
+entry_held r at row None b P e h says = h ∙ sym (entry_absent r (sym e) at row)
+entry_held r at row (Some id) b P e h says =
+    says id h ∙ ap (member (part at (list_width (list_of r)) row)) (entry_is r (sym e)).number
 
 -- ---- the two ways of asking
 

@@ -30,12 +30,12 @@ fn state_wrong(change: Change, row: &[u8]) -> bool
 {
     match change {
         Change::Add(_) => false,
-        Change::SetRange => is_defunct(row),
-        Change::Rename(_) => is_defunct(row),
-        Change::Deactivate(_) => is_defunct(row),
         Change::Reactivate(_) => !is_defunct(row),
-        Change::AddEntry => is_defunct(row),
-        Change::RemoveEntry => is_defunct(row),
+        Change::SetRange
+        | Change::Rename(_)
+        | Change::Deactivate(_)
+        | Change::AddEntry
+        | Change::RemoveEntry => is_defunct(row),
     }
 }
 
@@ -45,26 +45,19 @@ fn base_touched(change: Change, row: &[u8]) -> bool
     ensures { result ≡ base_touched change row.now }
 {
     match change {
-        Change::Add(_) => false,
-        Change::SetRange => is_base(row),
-        Change::Rename(_) => is_base(row),
-        Change::Deactivate(_) => is_base(row),
-        Change::Reactivate(_) => false,
-        Change::AddEntry => false,
-        Change::RemoveEntry => false,
+        Change::SetRange | Change::Rename(_) | Change::Deactivate(_) => is_base(row),
+        Change::Add(_) | Change::Reactivate(_) | Change::AddEntry | Change::RemoveEntry => false,
     }
 }
 
-// Whether the open list holds the entry that the change names.
+// Whether the open list holds the entry that the change names. Apart from in_fixed: one function of list and place has an argument more.
 fn in_open(scratch: &[u8], row: &[u8]) -> bool
     requires { (length scratch.now ≡ class_width) × (length row.now ≡ class_width) }
     ensures { result ≡ member (open_of (list_of scratch.now) row.now) (entry_of scratch.now) }
 {
-    let Some(id) = entry_read(scratch) else {
-        return false;
-    };
     let list = list_of(scratch);
-    has(part_of(row, open_at(list), list_width(list)), number_of(id))
+    let held = part_of(row, open_at(list), list_width(list));
+    entry_read(scratch).is_some_and(|id| has(held, number_of(id)))
 }
 
 // Whether the fixed list does.
@@ -72,14 +65,9 @@ fn in_fixed(scratch: &[u8], row: &[u8]) -> bool
     requires { (length scratch.now ≡ class_width) × (length row.now ≡ class_width) }
     ensures { result ≡ member (fixed_of (list_of scratch.now) row.now) (entry_of scratch.now) }
 {
-    let Some(id) = entry_read(scratch) else {
-        return false;
-    };
     let list = list_of(scratch);
-    has(
-        part_of(row, fixed_at(list), list_width(list)),
-        number_of(id),
-    )
+    let held = part_of(row, fixed_at(list), list_width(list));
+    entry_read(scratch).is_some_and(|id| has(held, number_of(id)))
 }
 
 // Whether the entry is in the list already, or, to be removed, is not.
@@ -88,18 +76,13 @@ fn entry_conflict(change: Change, scratch: &[u8], row: &[u8]) -> bool
     ensures { result ≡ entry_conflict change scratch.now row.now }
 {
     match change {
-        Change::Add(_) => false,
-        Change::SetRange => false,
-        Change::Rename(_) => false,
-        Change::Deactivate(_) => false,
-        Change::Reactivate(_) => false,
-        Change::AddEntry => {
-            if in_open(scratch, row) {
-                return true;
-            }
-            in_fixed(scratch, row)
-        }
+        Change::AddEntry => in_open(scratch, row) || in_fixed(scratch, row),
         Change::RemoveEntry => !in_open(scratch, row),
+        Change::Add(_)
+        | Change::SetRange
+        | Change::Rename(_)
+        | Change::Deactivate(_)
+        | Change::Reactivate(_) => false,
     }
 }
 
@@ -110,13 +93,13 @@ fn still_needed<'a>(change: Change, id: RowId, attributes: &'a [u8], classes: &'
     ensures { result ≡ still_needed change (number_of id) (schema_in attributes.now classes.now) }
 {
     match change {
-        Change::Add(_) => false,
-        Change::SetRange => false,
-        Change::Rename(_) => false,
         Change::Deactivate(_) => is_needed(id, attributes, classes),
-        Change::Reactivate(_) => false,
-        Change::AddEntry => false,
-        Change::RemoveEntry => false,
+        Change::Add(_)
+        | Change::SetRange
+        | Change::Rename(_)
+        | Change::Reactivate(_)
+        | Change::AddEntry
+        | Change::RemoveEntry => false,
     }
 }
 
@@ -177,9 +160,7 @@ pub fn first_asked<'a>(
     if is_addition(change) {
         return addition_asked(table, scratch, store);
     }
-    let Some(id) = number_read(table, target_of(scratch) as usize) else {
-        return Err(Refusal::NoSuchRow);
-    };
+    let id = number_read(table, target_of(scratch) as usize).ok_or(Refusal::NoSuchRow)?;
     if row_count(table, store) <= number_of(id) {
         return Err(Refusal::NoSuchRow);
     }

@@ -27,7 +27,7 @@ fn class_needs(id: RowId, classes: &[u8], j: ClassNumber) -> bool
     !same_row(id, RowId::Class(j)) && !is_defunct(row) && is_naming(row, id)
 }
 
-// Whether some class is.
+// Whether some class is. Apart from some_link_needs: one function of both takes this very closure, and each call is no shorter.
 fn some_class_needs(id: RowId, classes: &[u8]) -> bool
     requires { TableShaped Classes classes.now × (number_of id < limit (table_of id)) }
     ensures { result ≡ any_below (table_in Classes classes.now).count

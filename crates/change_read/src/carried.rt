@@ -32,6 +32,7 @@ pub fn target_of(row: &[u8]) -> u16
 }
 
 // The list that an entry is added to or removed from.
+// No TryFrom: a value that was read has one of the three tags, so each byte gives a list.
 #[tactic(auto, unfolding(crate::specs::Carried::open_list))]
 pub fn list_of(row: &[u8]) -> OpenList
     requires { entry_width ≤ length row.now }

@@ -46,6 +46,7 @@ pub const ADD_ENTRY: u8 = 0x49;
 pub const REMOVE_ENTRY: u8 = 0x4A;
 
 // The change that a tag stands for, if it is that of one.
+// An Option, as the definition has it: the error of a TryFrom would say no more of another tag.
 #[tactic(auto, unfolding(crate::specs::Reading::change_of))]
 fn change_of(tag: u8) -> Option<Change>
     ensures { result ≡ change_of tag }
@@ -67,6 +68,7 @@ fn change_of(tag: u8) -> Option<Change>
 }
 
 // What the value of a change is read as.
+// No From: several changes have one format, and the definition of this name says which.
 #[tactic(auto, unfolding(crate::specs::Reading::format_of))]
 fn format_of(change: Change) -> Format
     ensures { result ≡ format_of change }
@@ -75,13 +77,12 @@ fn format_of(change: Change) -> Format
         Change::Add(table) => Format::NewRow(table),
         Change::SetRange => Format::Range,
         Change::Rename(_) => Format::Name,
-        Change::Deactivate(_) => Format::Target,
-        Change::Reactivate(_) => Format::Target,
-        Change::AddEntry => Format::Entry,
-        Change::RemoveEntry => Format::Entry,
+        Change::Deactivate(_) | Change::Reactivate(_) => Format::Target,
+        Change::AddEntry | Change::RemoveEntry => Format::Entry,
     }
 }
 
+// Bytes and places stand apart, as read_row takes them.
 // The value of a change, and nothing behind it: last says that the bytes end there. Leftover bytes are told by their start.
 fn read_value(
     change: Change,

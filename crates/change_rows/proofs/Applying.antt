@@ -1,4 +1,6 @@
 -- A row of a store that was lent to be edited, and comes back.
+use Rattle.std.specs.Option.{unwrap_or}
+use Rattle.prelude.specs.SaysLaws.{says_lt, says_true}
 use lib.ListN.{drop, length, take}
 use native.Mathlib.Omega.{arith}
 use Prim.Native.Nat.{◌*◌, ◌+◌, ◌-◌, ◌≤◌, ℕ}
@@ -11,8 +13,8 @@ use Rattle.change_read.specs.declared.read.Change.{Change}
 use Rattle.change_read.specs.Carried.{added_row, target_of}
 use Rattle.schema.specs.declared.number.TableId.{TableId}
 use Rattle.schema.specs.Layout.{row_width, rows_at}
-use Rattle.schema.specs.Numbers.{limit, number_read, table_of, number_of}
-use Rattle.schema.specs.NumbersLaws.{id_table, id_number, number_beyond}
+use Rattle.schema.specs.Numbers.{limit, number_read, row_id, table_of, number_of}
+use Rattle.schema.specs.NumbersLaws.{id_table, id_number}
 use Rattle.schema.specs.declared.number.RowId.{RowId}
 use Rattle.schema.specs.Store.{count_in, table_in}
 use Rattle.change_rows.specs.Stores.{Applicable, row_changed, store_after}
@@ -22,7 +24,7 @@ use Rattle.prelude.specs.LentLaws.{lent_back}
 use Rattle.prelude.specs.Part.{part, splice}
 use Rattle.prelude.specs.PartLaws.{part_cut, part_length, row_fits}
 use Rattle.tables.specs.Filled.{plus_in, put_in}
-use Rattle.std.specs.Prelude.{None}
+use Rattle.std.specs.Prelude.{None, Some}
 
 -- the row of a change that has a target
 pub row_target : (change : Change) (r s : List ℕ) {id : RowId} → is_addition change ≡ false → id ≡ row_changed change r s
@@ -33,9 +35,12 @@ row_target change r s fixed e = (
 )
 
 -- its number is never beyond the limit
-pub target_read : (change : Change) (r s : List ℕ) → Applicable change r s → is_addition change ≡ false → number_read (table_for change) (target_of r) ≡ None
-    → ⊥
-target_read change r s ok fixed e = omega (arith, ok.within fixed, number_beyond (table_for change) (target_of r) e)
+pub target_read : (change : Change) (r s : List ℕ) → Applicable change r s → is_addition change ≡ false → (other : RowId)
+    → unwrap_or (number_read (table_for change) (target_of r)) other ≡ row_id (table_for change) (target_of r)
+target_read change r s ok fixed other =
+    let t = table_for change in
+    let n = target_of r in
+    ap (λ b. unwrap_or (cond b (Some (row_id t n)) None) other) (says_true (says_lt n (limit t)) (omega (arith, ok.within fixed)))
 
 -- where it stands
 pub target_start : (change : Change) (r s : List ℕ) {at : ℕ} {id : RowId} → is_addition change ≡ false → id ≡ row_changed change r s

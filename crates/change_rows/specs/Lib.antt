@@ -1,4 +1,5 @@
 -- The rows after a change: the row that it is about, that row as the change leaves it, the schema and the stores.
+pub mod Edits
 pub mod Lists
 pub mod ListsLaws
 pub mod Rows

@@ -24,10 +24,7 @@ pub fn row_changed(change: Change, scratch: &[u8], store: &[u8]) -> RowId
     if is_addition(change) {
         return row_id(table, row_count(table, store));
     }
-    let Some(id) = number_read(table, target_of(scratch) as usize) else {
-        return row_id(table, 0);
-    };
-    id
+    number_read(table, target_of(scratch) as usize).unwrap_or(row_id(table, 0))
 }
 
 // The change is made: its row added last, or edited where it stands.

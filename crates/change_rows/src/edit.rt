@@ -1,7 +1,9 @@
 // The row that a change is about, as the change leaves it.
-ghost use Rattle.std.specs.Prelude.{false, if◌then◌else◌, ◌≡◌, length};
+ghost use Rattle.std.specs.Prelude.{false, List, ℕ, ◌≡◌, length};
 ghost use Rattle.schema.specs.Layout.{class_width, row_width};
+ghost use Rattle.change_read.specs.Carried.{entry_of, list_of};
 ghost use Rattle.change_rows.specs.Rows.{table_for, is_addition, edited_row};
+ghost use Rattle.change_rows.specs.Edits.{IsEdit, LeavesEdited, TakesSet, list_edited};
 
 use crate::list::{entry_read, list_width, open_at};
 use change_read::carried::{list_of, new_name, new_range};
@@ -32,10 +34,12 @@ pub fn is_addition(change: Change) -> bool
     matches!(change, Change::Add(_))
 }
 
-// An entry more in an open list of a class row, or one less. For one beyond the limit no list has a bit.
-fn edit_entry(scratch: &[u8], row: &mut [u8], there: bool)
-    requires { (length scratch.now ≡ class_width) × (length row.old ≡ class_width) }
-    ensures { row.new ≡ edited_row (if there then Change.AddEntry else Change.RemoveEntry) scratch.now row.old }
+// An open list of a class row, edited by a step: an entry more, or one less. For one beyond the limit no list has a bit.
+fn edit_entry<F: FnOnce(&mut [u8], usize)>(scratch: &[u8], row: &mut [u8], edit: F)
+    requires wide { (length scratch.now ≡ class_width) × (length row.old ≡ class_width) }
+    requires callable { TakesSet (F.pre edit) }
+    ensures { (f : List ℕ → List ℕ) → IsEdit (entry_of scratch.now) f → LeavesEdited (F.post edit) (entry_of scratch.now) f
+        → row.new ≡ list_edited (list_of scratch.now) f row.old }
 {
     let Some(id) = entry_read(scratch) else {
         return;
@@ -43,11 +47,7 @@ fn edit_entry(scratch: &[u8], row: &mut [u8], there: bool)
     let list = list_of(scratch);
     let at = open_at(list);
     let end = at + list_width(list);
-    if there {
-        insert(&mut row[at..end], number_of(id));
-    } else {
-        remove(&mut row[at..end], number_of(id));
-    }
+    edit(&mut row[at..end], number_of(id));
 }
 
 // The row of a change that has a target.
@@ -65,7 +65,7 @@ pub fn edit_row(change: Change, scratch: &[u8], row: &mut [u8])
         }
         Change::Deactivate(_) => row[DEFUNCT] = 1,
         Change::Reactivate(_) => row[DEFUNCT] = 0,
-        Change::AddEntry => edit_entry(scratch, row, true),
-        Change::RemoveEntry => edit_entry(scratch, row, false),
+        Change::AddEntry => edit_entry(scratch, row, insert),
+        Change::RemoveEntry => edit_entry(scratch, row, remove),
     }
 }

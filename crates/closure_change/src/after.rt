@@ -75,10 +75,9 @@ pub fn update(change: Change, scratch: &[u8], classes: &[u8], n: usize, closure:
 {
     match change {
         Change::Add(TableId::Classes) => {
-            let Some(c) = ClassNumber::new(n) else {
-                return;
-            };
-            write_new(classes, c, closure)
+            if let Some(c) = ClassNumber::new(n) {
+                write_new(classes, c, closure);
+            }
         }
         Change::Add(TableId::Attributes)
         | Change::SetRange
@@ -89,16 +88,14 @@ pub fn update(change: Change, scratch: &[u8], classes: &[u8], n: usize, closure:
             let Some(k) = ClassNumber::new(target_of(scratch) as usize) else {
                 return;
             };
-            let Some(entry) = entry_read(scratch) else {
-                return;
-            };
-            join_entry(list_of(scratch), entry, n, k, closure);
+            if let Some(entry) = entry_read(scratch) {
+                join_entry(list_of(scratch), entry, n, k, closure);
+            }
         }
         Change::RemoveEntry => {
-            let Some(k) = ClassNumber::new(target_of(scratch) as usize) else {
-                return;
-            };
-            refresh_holding(classes, n, k, closure);
+            if let Some(k) = ClassNumber::new(target_of(scratch) as usize) {
+                refresh_holding(classes, n, k, closure);
+            }
         }
     }
 }
@@ -117,10 +114,9 @@ pub fn demand_before(change: Change, scratch: &[u8], classes: &[u8], out: &mut [
         | Change::Reactivate(_)
         | Change::AddEntry => {}
         Change::RemoveEntry => {
-            let Some(k) = ClassNumber::new(target_of(scratch) as usize) else {
-                return;
-            };
-            write_demanded(classes, k, out);
+            if let Some(k) = ClassNumber::new(target_of(scratch) as usize) {
+                write_demanded(classes, k, out);
+            }
         }
     }
 }

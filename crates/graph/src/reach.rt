@@ -41,7 +41,7 @@ fn first_unvisited(
     None
 }
 
-// The first lists Auxiliaries (of .row c) from number start on that has a row and is not visited.
+// The first auxiliary of c from number start on that has a row and is not visited.
 fn next_unvisited(
     classes: &[u8],
     c: ClassNumber,
@@ -57,7 +57,8 @@ fn next_unvisited(
     first_unvisited(fixed_auxiliary(row), open_auxiliary(row), seen, start, n)
 }
 
-// Adds to seen what c reaches over classes that are not visited. The two ways out are two tests, since each has a reason of its own.
+// Adds to seen what c reaches over classes that are not visited.
+// Two tests: in one with || the facts of each way out are lost to the proof, which got longer (tried).
 #[cycle(visit_walk)]
 fn visit(classes: &[u8], c: ClassNumber, seen: Visited) -> Visited
     requires { Readable classes.now }

@@ -17,6 +17,7 @@ pub fn rewrite_rows<F: Fn(ClassNumber, &mut [u8])>(closure: &mut [u8], n: usize,
     ensures { (f : ℕ → List ℕ) → AreRows f → LeavesRows (F.post rewrite) closure.old n f
         → closure.new ≡ splice 0 (concat_below n f) closure.old }
 {
+    // By number, not by chunks_exact_mut: closure_start alone knows where the row of a class stands.
     for c in 0..n {
         let class = class_at(c);
         let at = closure_start(class);

@@ -62,7 +62,7 @@ fn write_named(classes: &[u8], c: ClassNumber, out: &mut [u8])
     sets::insert(out, c.0);
 }
 
-// out becomes the mandatory attributes that c itself lists.
+// out becomes the mandatory attributes that c itself lists. Apart from the next: it copies one set, and the other joins two.
 fn write_own_mandatory(classes: &[u8], c: ClassNumber, out: &mut [u8])
     requires { Readable classes.now × (c.0 < (table_in Classes classes.now).count) × (length out.old ≡ attribute_set) }
     ensures { out.new ≡ set_of attribute_set (lists_mandatory (table_in Classes classes.now) c.0) }

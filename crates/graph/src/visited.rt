@@ -14,7 +14,7 @@ pub struct Visited {
 }
 
 impl Visited {
-    // No class visited.
+    // No class visited. No Default: the name says what the set holds, and other crates call it.
     pub fn none() -> Visited
         ensures { result.bits ≡ zeros class_set }
     {

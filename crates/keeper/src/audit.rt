@@ -15,14 +15,14 @@ pub fn audit<'a>(attributes: &'a [u8], classes: &'a [u8], closure: &[u8]) -> Ans
     ensures { result ≡ audit (stores attributes.now classes.now closure.now) }
 {
     if let Err(refusal) = check_shape(attributes, classes, closure) {
-        return Answer::refused(refusal);
+        return Answer::refused(refusal.number());
     }
     if let Err(broken) = judge(Added::Nothing, attributes, classes) {
-        return Answer::broken_by(broken.rule, broken.row);
+        return Answer::broken_by(broken.rule.number(), broken.row);
     }
     if is_fresh(classes, closure) {
         Answer::passed()
     } else {
-        Answer::refused(Refusal::NotInOrder)
+        Answer::refused(Refusal::NotInOrder.number())
     }
 }

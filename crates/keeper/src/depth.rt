@@ -15,16 +15,16 @@ pub fn depth(attributes: &[u8], classes: &[u8], closure: &[u8], class: u16) -> A
     ensures { result ≡ depth (stores attributes.now classes.now closure.now) class }
 {
     if let Err(refusal) = check_shape(attributes, classes, closure) {
-        return Answer::refused(refusal);
+        return Answer::refused(refusal.number());
     }
     let Some(c) = ClassNumber::new(class as usize) else {
-        return Answer::refused(Refusal::NoSuchRow);
+        return Answer::refused(Refusal::NoSuchRow.number());
     };
     if c.0 >= row_count(TableId::Classes, classes) {
-        return Answer::refused(Refusal::NoSuchRow);
+        return Answer::refused(Refusal::NoSuchRow.number());
     }
     match depth_of(classes, c) {
         Some(steps) => Answer::done(steps),
-        None => Answer::refused(Refusal::ClassNotLive),
+        None => Answer::refused(Refusal::ClassNotLive.number()),
     }
 }

@@ -39,7 +39,7 @@ fn read_and_judge(sheet: &[u8], attributes: &mut [u8], classes: &mut [u8]) -> Re
     match read_sheet(sheet, attributes, classes) {
         Ok(()) => match judge(Added::Nothing, attributes, classes) {
             Ok(()) => Ok(()),
-            Err(broken) => Err(Answer::broken_by(broken.rule, broken.row)),
+            Err(broken) => Err(Answer::broken_by(broken.rule.number(), broken.row)),
         },
         Err(SheetError::Bad { at }) => Err(Answer::unreadable(at)),
         Err(SheetError::Full { table }) => Err(Answer::full(table)),
@@ -52,7 +52,7 @@ pub fn load(sheet: &[u8], attributes: &mut [u8], classes: &mut [u8], closure: &m
         ≡ load sheet.now (stores attributes.old classes.old closure.old) }
 {
     if any_short(attributes, classes, closure) {
-        return Answer::refused(Refusal::ShortStore);
+        return Answer::refused(Refusal::ShortStore.number());
     }
     match read_and_judge(sheet, attributes, classes) {
         Ok(()) => {

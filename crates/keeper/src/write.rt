@@ -13,7 +13,7 @@ pub fn write(attributes: &[u8], classes: &[u8], closure: &[u8], out: &mut [u8]) 
         out.old }
 {
     if let Err(refusal) = check_shape(attributes, classes, closure) {
-        return Answer::refused(refusal);
+        return Answer::refused(refusal.number());
     }
     let needed = sheet_length(attributes, classes);
     if out.len() < needed {

@@ -40,6 +40,7 @@ pub extern "C" fn keeper_load(
     ensures { outcome (told result detail.new) (stores attributes.new classes.new closure.new)
         ≡ load_call sheet.now (stores attributes.old classes.old closure.old) detail.old }
 {
+    // In each of the six: a function of them takes a closure that borrows the stores, with clauses on it for this one line.
     if detail.len() < DETAIL {
         return Refusal::ShortStore.number() as u64;
     }

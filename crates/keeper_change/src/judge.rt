@@ -65,6 +65,7 @@ pub fn judged_whole<'a>(
     requires { Shaped attributes.now classes.now × (closure_length ≤ length closure.now) × (n ≤ class_limit) }
     ensures { outcome_number result ≡ judged_whole added (schema_in attributes.now classes.now) closure.now n }
 {
+    // No `?`, here and below: the edits accepts_all and quick_judges_no_rule are refused by what each way out promises, and a `?` has no way out of its own.
     if let Err(broken) = judge(added, attributes, classes) {
         return Err(broken.rule);
     }

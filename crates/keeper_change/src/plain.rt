@@ -17,6 +17,7 @@ use schema::refusal::Refusal;
 use schema::store::row_count;
 
 // A change that numbers 5 to 11 let pass: made, judged, and taken back where it is refused.
+// Apart from quick_judged: one function of both takes three closures (what is saved, the judge, how the closure follows), each with clauses.
 fn plain_judged(
     change: Change,
     scratch: &[u8],
@@ -43,6 +44,7 @@ fn plain_judged(
 }
 
 // A change that was read, of stores in order.
+// Apart from quick_read, two lines that require and call another: one function of both is longer.
 fn plain_read(
     change: Change,
     scratch: &[u8],
@@ -70,14 +72,14 @@ pub fn plain_change(
         ≡ plain_change change.now (stores attributes.old classes.old closure.old) }
 {
     if let Err(refusal) = check_order(attributes, classes, closure) {
-        return Answer::refused(refusal);
+        return Answer::refused(refusal.number());
     }
     let mut scratch = [0u8; CLASS_WIDTH];
     match read_change(change, &mut scratch) {
         Err(bad) => Answer::unreadable(bad.at),
         Ok(change) => match plain_read(change, &scratch, attributes, classes, closure) {
             Ok(id) => Answer::changed(id),
-            Err(refusal) => Answer::refused(refusal),
+            Err(refusal) => Answer::refused(refusal.number()),
         },
     }
 }

@@ -18,6 +18,7 @@ use schema::refusal::Refusal;
 use schema::store::row_count;
 
 // A change that numbers 5 to 11 let pass: made, its row judged, and taken back where it is refused; else the closure follows.
+// Apart from plain_judged: one function of both takes three closures, as is said there.
 fn quick_judged(
     change: Change,
     scratch: &[u8],
@@ -75,14 +76,14 @@ pub fn quick_change(
         ≡ quick_change change.now (stores attributes.old classes.old closure.old) }
 {
     if let Err(refusal) = check_shape(attributes, classes, closure) {
-        return Answer::refused(refusal);
+        return Answer::refused(refusal.number());
     }
     let mut scratch = [0u8; CLASS_WIDTH];
     match read_change(change, &mut scratch) {
         Err(bad) => Answer::unreadable(bad.at),
         Ok(change) => match quick_read(change, &scratch, attributes, classes, closure) {
             Ok(id) => Answer::changed(id),
-            Err(refusal) => Answer::refused(refusal),
+            Err(refusal) => Answer::refused(refusal.number()),
         },
     }
 }

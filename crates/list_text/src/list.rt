@@ -58,6 +58,7 @@ fn put_loaded(sheet: &[u8], text: &mut Text)
     let mut classes = [0u8; CLASSES_LENGTH];
     let mut closure = [0u8; CLOSURE_LENGTH];
     let answer = load(sheet, &mut attributes, &mut classes, &mut closure);
+    // The number that load gives C too: its contract stays as it is, so no Result.
     if answer.number == DONE {
         put_listing(&classes, &closure, text);
     } else {

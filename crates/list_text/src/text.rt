@@ -75,6 +75,7 @@ impl Text {
     }
 
     // Puts a number and the byte behind it.
+    // No put_word of its digits: they would have to stand in a buffer first.
     pub fn put_number(&mut self, n: usize, behind: u8)
         requires { length self.old + length (word (decimal n) behind) ≤ text_length }
         ensures { self.new ≡ self.old ++ word (decimal n) behind }

@@ -11,10 +11,7 @@ use Rattle.std.proofs.lemmas.Iterator.{YieldsList-from_range, first_from_Range}
 use Rattle.std.proofs.iter.Yields.{nat_range_steps}
 use Rattle.std.proofs.lemmas.Iterator.Search.{any_from_yields_List, all_from_yields_List}
 use Rattle.prelude.specs.Below.{any_below, all_below, first_below}
-use Rattle.prelude.specs.BelowLaws.{any_cong, all_cong, any_false, any_here, first_found, first_absent}
-use Rattle.std.specs.Option.{unwrap_or}
-use Rattle.std.proofs.Math.Logic.{⊎_elim}
-use Rattle.prelude.specs.SaysLaws.{true_or_false}
+use Rattle.prelude.specs.BelowLaws.{any_cong, all_cong, any_false, any_here, first_found}
 use denote.Param.Members.{Mut}
 use denote.Ref.{Bor}
 use Rattle.std.specs.Bool.{⊤}
@@ -95,13 +92,3 @@ module _ {F : Type 0} {g : Mut F (Bor ℕ × Unit {0}) Bool} (n : ℕ) (p : ℕ 
       found None h = rw (any_false p n (λ k l. h k (omega arith) l)) refl
       found (Some i) h =
           rw (any_here p i n h.1 h.2, first_found p i n h.1 (any_false p i (λ k l. h.3 k (omega arith) l)) h.2) refl
-
--- `(0..n).find(f).unwrap_or(n)`
-pub found_or : (n : ℕ) (p : ℕ → Bool) (r : Option ℕ) → r ≡ cond (any_below n p) (Some (first_below n p)) None → unwrap_or r n ≡ first_below n p
-found_or n p r e = ap (λ o. unwrap_or o n) e ∙ ⊎_elim some none (true_or_false (any_below n p))
-  where
-    some : any_below n p ≡ true → unwrap_or (cond (any_below n p) (Some (first_below n p)) None) n ≡ first_below n p
-    some t = ap (λ b. unwrap_or (cond b (Some (first_below n p)) None) n) t
-
-    none : any_below n p ≡ false → unwrap_or (cond (any_below n p) (Some (first_below n p)) None) n ≡ first_below n p
-    none f = ap (λ b. unwrap_or (cond b (Some (first_below n p)) None) n) f ∙ sym (first_absent p n f)

@@ -12,6 +12,7 @@ pub fn byte_at(s: &[u8], at: usize) -> u8
 }
 
 // The number of two bytes.
+// Two functions of a line each: the numbers share no trait that has from_be_bytes, and one of our own with laws would be longer.
 pub fn read_u16(s: &[u8], at: usize) -> u16
     requires { at + 2 ≤ length s.now }
     ensures { result ≡ big_endian 2 at s.now }

@@ -49,6 +49,7 @@ pub fn same(a: &[u8], b: &[u8]) -> bool
 pub fn is_zero(s: &[u8]) -> bool
     ensures { result ≡ is_zero s.now }
 {
+    // No first().is_some_and(..): its proof took a lemma of four cases for the option and the closure's answer, and didn't close (tried); this one is a line.
     if !s.is_empty() && s[0] != 0 {
         return false;
     }
@@ -56,6 +57,7 @@ pub fn is_zero(s: &[u8]) -> bool
 }
 
 // Copies bytes to a place, and gives the place after them.
+// Output and place stand apart, no writer that holds both: contracts speak of the slice that C lends.
 pub fn put_bytes(v: &[u8], out: &mut [u8], at: usize) -> usize
     requires { at + length v.now ≤ length out.old }
     ensures { WrittenAt v.now at result out.old out.new }

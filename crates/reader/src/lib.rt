@@ -7,7 +7,6 @@ ghost use Rattle.std.specs.Prelude.{◌≡◌, ◌≤◌, eqb, get_or, length};
 ghost use Rattle.wire.specs.Wire.{field_at};
 ghost use Rattle.reader.specs.Reader.{past_field, step_at};
 
-use prelude::number::byte_at;
 use wire::{BadField, Field, field_at, value_of};
 
 #[derive(Clone, Copy)]
@@ -39,10 +38,7 @@ impl<'a> Reader<'a> {
     fn next_tag(self) -> u8
         ensures { result ≡ get_or self.entry.bytes.now self.entry.at 0 }
     {
-        if self.at < self.bytes.len() {
-            return byte_at(self.bytes, self.at);
-        }
-        0
+        self.bytes.get(self.at).copied().unwrap_or(0)
     }
 
     // The field that stands next.
@@ -54,6 +50,7 @@ impl<'a> Reader<'a> {
     }
 
     // The reader past that field, and where it is if no whole field stands there.
+    #[tactic(auto, unfolding(crate::specs::Reader::past_field, crate::specs::Reader::past_read))]
     fn past(self) -> Reader<'a>
         requires { self.at ≤ length self.bytes.now }
         ensures { (result.bytes ≡ self.entry.bytes) × (result.at ≡ past_field self.entry.bytes.now self.entry.at) }
@@ -63,8 +60,7 @@ impl<'a> Reader<'a> {
                 bytes: self.bytes,
                 at: field.end,
             },
-            Ok(None) => self,
-            Err(_) => self,
+            _ => self,
         }
     }
 }

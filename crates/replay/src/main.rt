@@ -3,6 +3,10 @@
 // with no line of its own.
 #![tactic(auto)]
 
+ghost use Rattle.std.specs.Prelude.{◌≡◌};
+ghost use Rattle.replay.specs.Steps.{said};
+ghost use Rattle.replay.specs.Playing.{held, play_step};
+
 mod hash;
 mod player;
 mod step;
@@ -16,7 +20,7 @@ use std::rt::Files;
 use std::{fs, io};
 
 // The line of a step: "name, number, table, place (poke, resize: 0 0 0), then an FNV-1a 64 hash of all bytes of each store in 16 hex digits; write
-// adds the hash of the whole output lent". No contract can say which bytes the system is given, so the functions that print have none; the gate
+// adds the hash of the whole output lent". No contract can say which bytes the system is given, so the other functions that print have none; the gate
 // compares what is printed.
 
 fn say_hash(rt: &impl Print, s: &[u8]) -> io::Result<()> {
@@ -25,7 +29,10 @@ fn say_hash(rt: &impl Print, s: &[u8]) -> io::Result<()> {
 }
 
 // Takes a step and prints its line.
-fn play_step(rt: &impl Print, step: &Step<'_>, player: &mut Player) -> io::Result<()> {
+fn play_step(rt: &impl Print, step: &Step<'_>, player: &mut Player) -> io::Result<()>
+    ensures stores { held player.new ≡ (play_step (said step.now) (held player.old) player.old.output.items).left }
+    ensures output { player.new.output.items ≡ (play_step (said step.now) (held player.old) player.old.output.items).output }
+{
     let answer = player.take(step);
     print!(rt;
         "{step} {} {} {}",
@@ -44,6 +51,7 @@ fn play_step(rt: &impl Print, step: &Step<'_>, player: &mut Player) -> io::Resul
 fn play_all(rt: &impl Print, script: &[u8]) -> io::Result<()> {
     let mut player = Player::new();
     let mut rest = script;
+    // No count: how far a step reaches stands in the step.
     while let Some((step, behind)) = read_step(rest) {
         play_step(rt, &step, &mut player)?;
         rest = behind;

@@ -33,6 +33,7 @@ fn fill_up(bytes: &mut Bytes, n: usize, byte: u8)
     requires { n ≤ longest }
     ensures { bytes.new.items ≡ bytes.old.items ++ replicate (n - length bytes.old.items) byte }
 {
+    // No count: the vector's own length is what grows.
     while bytes.len() < n {
         bytes.push(byte);
     }
@@ -102,6 +103,7 @@ impl Player {
         }
     }
 
+    // An audit of what is lent.
     fn audit(&self) -> Answer
         ensures { result ≡ audited (held self.now) }
     {
@@ -112,6 +114,7 @@ impl Player {
         )
     }
 
+    // The depth of a class in what is lent.
     fn depth(&self, class: u16) -> Answer
         ensures { result ≡ depth_from (held self.now) class }
     {
@@ -138,6 +141,7 @@ impl Player {
         )
     }
 
+    // A byte of a store is poked.
     fn poke(&mut self, store: StoreId, offset: usize, byte: u8)
         ensures stores { held self.new ≡ with_store store (poked offset byte) (held self.old) }
         ensures output { self.new.output ≡ self.old.output }
@@ -149,6 +153,7 @@ impl Player {
         }
     }
 
+    // So much of a store is lent from then on.
     fn resize(&mut self, store: StoreId, length: Size)
         ensures stores { held self.new ≡ with_store store (resized length) (held self.old) }
         ensures output { self.new.output ≡ self.old.output }

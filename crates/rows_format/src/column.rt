@@ -103,6 +103,7 @@ impl Presence {
 
 impl Column {
     // The cell of the column in a row.
+    // Fits stays a clause: it ties a column to the length of the row that is lent, so a type would be built at each call.
     #[tactic(auto, using(crate::proofs::ColumnsLaws::width_small), unfolding(crate::specs::Columns::cell_at))]
     pub fn cell(self, row: &[u8]) -> &[u8]
         requires { Fits (length row.now) self }

@@ -1,7 +1,7 @@
 -- What is stored, as the code stores it.
 use mathlib.Core.Bool.{true}
 use mathlib.Core.List.{List, [], ◌∷◌, ◌++◌, append-nil}
-use mathlib.Core.Path.{◌≡◌, refl, sym, ap, ◌∙◌}
+use mathlib.Core.Path.{◌≡◌, refl, ap, ◌∙◌}
 use Prim.Native.Nat.{ℕ, suc, ◌+◌, ◌-◌, ◌*◌, ◌/◌, ◌%◌, ◌≤◌, ◌<◌}
 use native.Mathlib.Omega.{arith}
 use lib.ListN.{length, take, drop, set, length-set, length-drop, length-take, length-append}
@@ -63,27 +63,20 @@ rest_back b cell back h e = simp (length-append, length-take, length-drop, lengt
 
 -- ---- a cell, by whether a mark stands before the value
 
-lead_one : (p : Presence) → mark p ≡ 1 → lead p ≡ 1 ∷ []
-unfolding lead mark
-lead_one Required h = absurd (omega arith)
-lead_one Optional h = absurd (omega arith)
-lead_one Marked h = refl
-lead_one Never h = absurd (omega arith)
-
-lead_none : (p : Presence) → ¬ (mark p ≡ 1) → (lead p ≡ []) × (mark p ≡ 0)
+lead_none : (p : Presence) → ¬ (p ≡ Marked) → (lead p ≡ []) × (mark p ≡ 0)
 unfolding lead mark
 lead_none Required h = (refl, refl)
 lead_none Optional h = (refl, refl)
 lead_none Marked h = absurd (h refl)
 lead_none Never h = (refl, refl)
 
-pub marked_cell : (r : Column) (v : List ℕ) {m : ℕ} → m ≡ mark r.presence → m ≡ 1 → cell_of r v ≡ 1 ∷ image r.encoding v
-unfolding cell_of
-marked_cell r v e h = ap (λ (l : List ℕ). l ++ image r.encoding v) (lead_one r.presence (sym e ∙ h))
+pub marked_cell : (r : Column) (v : List ℕ) → r.presence ≡ Marked → (cell_of r v ≡ 1 ∷ image r.encoding v) × (mark r.presence ≡ 1)
+unfolding cell_of lead mark
+marked_cell r v h = rw h (refl, refl)
 
-pub bare_cell : (r : Column) (v : List ℕ) {m : ℕ} → m ≡ mark r.presence → ¬ (m ≡ 1) → (cell_of r v ≡ image r.encoding v) × (mark r.presence ≡ 0)
+pub bare_cell : (r : Column) (v : List ℕ) → ¬ (r.presence ≡ Marked) → (cell_of r v ≡ image r.encoding v) × (mark r.presence ≡ 0)
 unfolding cell_of
-bare_cell r v e h = let n = lead_none r.presence (λ q. h (e ∙ q)) in (ap (λ (l : List ℕ). l ++ image r.encoding v) n.0, n.1)
+bare_cell r v h = let n = lead_none r.presence h in (ap (λ (l : List ℕ). l ++ image r.encoding v) n.0, n.1)
 
 -- ---- a value in a cell of n bytes, by its encoding
 

@@ -1,5 +1,6 @@
 -- Reading a row by its table, the default of oMObjectClass, the encoding of a row, and the round trips.
 pub mod RowRead
+pub mod Turn
 pub mod Reading
 pub mod ReadingLaws
 pub mod Unfit

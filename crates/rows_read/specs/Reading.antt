@@ -15,14 +15,14 @@ use Rattle.rows_format.specs.Columns.{required, column_width, takes, cell_of}
 use Rattle.rows_read.specs.declared.field.Progress.{Progress}
 use Rattle.rows_read.specs.RowRead.{RowRead}
 use Rattle.rows_read.specs.RowRead.{Read, Bad}
-use Rattle.wire.specs.FieldRead as fields
+use Rattle.rows_read.specs.Turn.{Turn, Passed, Refused}
 
 -- what a column makes of the field in front, at a place: it takes its own, leaves that of another column, and refuses one that cannot be accepted
-unfoldable pub turn_of : List ℕ → ℕ → Column → FieldRead → FieldRead
-turn_of s at r (Ok None) = fields.End
-turn_of s at r (Err bad) = fields.Bad at
+unfoldable pub turn_of : List ℕ → ℕ → Column → FieldRead → Turn
+turn_of s at r (Ok None) = Passed
+turn_of s at r (Err bad) = Refused at
 turn_of s at r (Ok (Some field)) =
-    cond (eqb field.tag r.tag) (cond (takes r (part field.start (field.end - field.start) s)) (Ok (Some field)) (fields.Bad at)) fields.End
+    cond (eqb field.tag r.tag) (cond (takes r (part field.start (field.end - field.start) s)) (Ok (Some field)) (Refused at)) Passed
 
 -- where reading goes on, and whether a required field is missing so far; or the field that is refused
 abbrev pub Took : Type 0
@@ -31,15 +31,15 @@ Took = Result Progress BadField
 abbrev pub next : ℕ → Bool → Took
 next at missing = Ok (record { at = at; missing = missing })
 
-unfoldable pub took_of : Column → ℕ → Bool → FieldRead → Took
+unfoldable pub took_of : Column → ℕ → Bool → Turn → Took
 took_of r at missing (Ok (Some field)) = next field.end missing
-took_of r at missing (Ok None) = next at (required r.presence || missing)
+took_of r at missing Passed = next at (required r.presence || missing)
 took_of r at missing (Err bad) = Err bad
 
 -- what becomes of the row: the column's cell holds the value, or is zero
-unfoldable pub row_of : List ℕ → Column → List ℕ → FieldRead → List ℕ
+unfoldable pub row_of : List ℕ → Column → List ℕ → Turn → List ℕ
 row_of s r row (Ok (Some field)) = splice r.at (cell_of r (part field.start (field.end - field.start) s)) row
-row_of s r row (Ok None) = splice r.at (zeros (column_width r)) row
+row_of s r row Passed = splice r.at (zeros (column_width r)) row
 row_of s r row (Err bad) = row
 
 -- the answer, and the row as it is then

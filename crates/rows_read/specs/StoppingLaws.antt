@@ -22,6 +22,7 @@ use Rattle.rows_format.specs.Formats.{no_column, common_columns, attribute_colum
 use Rattle.rows_format.proofs.FormatsLaws.{distinct, format_distinct}
 use Rattle.rows_read.specs.Unfit.{UnfitField}
 use Rattle.rows_read.specs.UnfitLaws.{unfit_field}
+use Rattle.rows_read.specs.Turn.{Passed, Refused}
 use Rattle.rows_read.specs.Reading.{Out, read_by, turn_of}
 use Rattle.rows_read.specs.ReadingLaws.{turn_end, turn_bad, turn_other, turn_taken, turn_refused, stepped_refused, stepped_passed, stepped_taken}
 use Rattle.rows_read.specs.ReadingLaws.{read_next, read_stop, read_leftover, read_missing, read_whole}
@@ -168,11 +169,11 @@ module _ (cs : List Column) (s : List ℕ) (end start : ℕ) where
       r : Column
       r = column_at cs k
 
-      pass : fields.End ≡ turn_of s at r (field_at s at end) → ((stop : ℕ) → ¬ (ColumnStands cs s end at k stop)) → Stops (read_by s end (drop k cs) at lacking row)
+      pass : Passed ≡ turn_of s at r (field_at s at end) → ((stop : ℕ) → ¬ (ColumnStands cs s end at k stop)) → Stops (read_by s end (drop k cs) at lacking row)
       pass t d = rw (read_next cs no_column s end k at lacking row l refl (stepped_passed s r at end lacking row t refl) refl, add-one k)
           (rest _ _ _ _ (so_passed h l d))
 
-      refuse : fields.Bad at ≡ turn_of s at r (field_at s at end) → Unacceptable cs s end at taken → Stops (read_by s end (drop k cs) at lacking row)
+      refuse : Refused at ≡ turn_of s at r (field_at s at end) → Unacceptable cs s end at taken → Stops (read_by s end (drop k cs) at lacking row)
       refuse t u = rw (read_stop cs no_column s end k at lacking row l refl (stepped_refused s r at end lacking row t refl) refl) (refused h.accepted u)
 
       own : {stop : ℕ} → ColumnStands cs s end at k stop → field_at s at end ≡ fields.Field r.tag (at + 3) stop

@@ -19,7 +19,7 @@ use Rattle.rows_format.specs.Columns.{column_width, cell_at, has_value, value_of
 use Rattle.rows_format.proofs.ColumnsLaws.{Laid, laid_cons, laid_end, laid_le, value_cell, blank_cell, formed_cons, field_none, field_some}
 use Rattle.rows_format.proofs.FormatsLaws.{without, distinct}
 use Rattle.rows_read.specs.RowRead.{Read}
-use Rattle.wire.specs.FieldRead as fields
+use Rattle.rows_read.specs.Turn.{Taken, Passed}
 use Rattle.rows_read.specs.Reading.{turn_of, took_of, row_of, out, onward, read_by}
 use Rattle.rows_read.specs.ReadingLaws.{turn_end, turn_other, turn_taken}
 
@@ -54,7 +54,7 @@ cell_state at o w row st q h l e = rw q (splice_length o (part o w row) st (omeg
 -- ---- a column passes over the fields of the columns after it
 
 abbrev Passes : Column → List ℕ → Type 0
-Passes r w = (p q : List ℕ) (end : ℕ) → end ≡ length p + length w → fields.End ≡ turn_of (p ++ (w ++ q)) (length p) r (field_at (p ++ (w ++ q)) (length p) end)
+Passes r w = (p q : List ℕ) (end : ℕ) → end ≡ length p + length w → Passed ≡ turn_of (p ++ (w ++ q)) (length p) r (field_at (p ++ (w ++ q)) (length p) end)
 
 passes_nothing : (r : Column) → Passes r []
 passes_nothing r p q end e = turn_end (p ++ q) r (length p) end (field_end (p ++ q) (length p) end (omega arith)) refl
@@ -157,7 +157,7 @@ module _ (r : Column) (rs : List Column) (o n : ℕ) (row w : List ℕ) (l : Lai
       let end : ℕ = length p + length (field ++ w) in
       let span : length p + 3 + length v - (length p + 3) ≡ length v = omega arith in
       let value : part (length p + 3) (length p + 3 + length v - (length p + 3)) s ≡ v = rw span (value_read_lem p (w ++ q) r.tag v) in
-      let taken : fields.Field r.tag (length p + 3) (length p + 3 + length v) ≡ turn_of s (length p) r (field_at s (length p) end) =
+      let taken : Taken r.tag (length p + 3) (length p + 3 + length v) ≡ turn_of s (length p) r (field_at s (length p) end) =
       turn_taken s r (length p) end (sym (field_read p (w ++ q) r.tag v end vc.short (omega arith))) refl refl (rw value vc.taken) in
       let longer : length (p ++ field) ≡ length p + 3 + length v = length-append p field ∙ omega arith in
       let ends : end ≡ length (p ++ field) + length w = omega arith in

@@ -19,10 +19,7 @@ pub fn rises(v: &[u8], table: TableId) -> bool
     // By number, not by chunks of two: no law ties the bytes of a chunk to the entries.
     for k in 0..v.len() / 2 {
         let n = read_u16(v, 2 * k) as usize;
-        if n < low {
-            return false;
-        }
-        if !is_number(table, n) {
+        if n < low || !is_number(table, n) {
             return false;
         }
         low = n + 1;
@@ -36,6 +33,7 @@ pub fn store_entries(v: &[u8], cell: &mut [u8])
     ensures { cell.new ≡ set_of (length cell.old) (among (entries v.now)) }
 {
     clear(cell);
+    // By number, as in rises.
     for k in 0..v.len() / 2 {
         insert(cell, read_u16(v, 2 * k) as usize);
     }

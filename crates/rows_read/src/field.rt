@@ -8,7 +8,7 @@ ghost use Rattle.rows_read.specs.Reading.{turn_of, took_of, row_of};
 use crate::value::{accepts, store_value};
 use prelude::part::clear;
 use reader::field_within;
-use rows_format::column::Column;
+use rows_format::column::{Column, Presence};
 use wire::{BadField, Field, value_of};
 
 // Where reading goes on, and whether a required field is missing so far.
@@ -19,16 +19,11 @@ pub struct Progress {
 }
 
 // Whether the column's field may have the value v.
+#[tactic(auto, unfolding(rows_format::specs::Columns::takes))]
 fn takes(column: Column, v: &[u8]) -> bool
     ensures { result ≡ takes column v.now }
 {
-    let presence = column.presence;
-    let encoding = column.encoding;
-    if presence.is_possible() {
-        accepts(encoding, v)
-    } else {
-        false
-    }
+    column.presence.is_possible() && accepts(column.encoding, v)
 }
 
 // What the column makes of the field at a place of the fields that end at end: its own it takes, that of another column it leaves there.
@@ -54,17 +49,16 @@ fn store_cell(column: Column, v: &[u8], cell: &mut [u8])
     requires { Sound column × (takes column v.now ≡ true) × (length cell.old ≡ column_width column) }
     ensures { cell.new ≡ cell_of column v.now }
 {
-    let presence = column.presence;
-    let encoding = column.encoding;
-    if presence.mark() == 1 {
+    if let Presence::Marked = column.presence {
         cell[0] = 1;
-        store_value(encoding, v, &mut cell[1..]);
+        store_value(column.encoding, v, &mut cell[1..]);
     } else {
-        store_value(encoding, v, cell);
+        store_value(column.encoding, v, cell);
     }
 }
 
 // The same in the row.
+// Here and in clear_cell the cell is cut out by hand: a Column::cell_mut would owe a contract of the row when the loan ends, longer than these lines.
 fn put_cell(column: Column, v: &[u8], row: &mut [u8])
     requires { Fits (length row.old) column × (takes column v.now ≡ true) }
     ensures { row.new ≡ splice column.at (cell_of column v.now) row.old }

@@ -24,6 +24,7 @@ fn first_cell(syntax: u8) -> [u8; CELL]
 }
 
 // Settles the oMObjectClass of a row.
+// Syntaxes stay the papers' numbers: a row may hold any byte, so an enum would need an unknown one too.
 pub fn settle(row: &mut [u8])
     requires { attribute_width ≤ length row.old }
     ensures { row.new ≡ settled row.old }
@@ -39,17 +40,15 @@ pub fn settle(row: &mut [u8])
 }
 
 // Whether the oMObjectClass of a row is as settling leaves it.
+#[tactic(auto, unfolding(crate::specs::ObjectClass::is_settled))]
 pub fn is_settled(row: &[u8]) -> bool
     requires { attribute_width ≤ length row.now }
     ensures { result ≡ is_settled row.now }
 {
     let n = row[OBJECT_CLASS];
     if om_syntax(row) != 127 {
-        return n == 0;
+        n == 0
+    } else {
+        n != 0 || first_object_class(syntax(row)).is_empty()
     }
-    if n != 0 {
-        return true;
-    }
-    let first = first_cell(syntax(row));
-    first[0] == 0
 }

@@ -59,16 +59,13 @@ fn finish(format: Format, row: &mut [u8])
     ensures { row.new ≡ finished format row.old }
 {
     match format {
-        Format::Row(table) => finish_row(table, row),
-        Format::NewRow(table) => finish_row(table, row),
-        Format::Range => {}
-        Format::Name => {}
-        Format::Target => {}
-        Format::Entry => {}
+        Format::Row(table) | Format::NewRow(table) => finish_row(table, row),
+        Format::Range | Format::Name | Format::Target | Format::Entry => {}
     }
 }
 
 // Reads the value s[start..end) as a row of a format.
+// Bytes and places stand apart, no type of a value in its sheet: docs/NUMBERS.md names this function, which takes them so.
 pub fn read_row(
     format: Format,
     s: &[u8],

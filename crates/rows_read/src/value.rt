@@ -13,7 +13,7 @@ use schema::number::is_number;
 pub fn first_byte(v: &[u8]) -> u8
     ensures { result ≡ get_or v.now 0 0 }
 {
-    if 0 < v.len() { v[0] } else { 0 }
+    v.first().copied().unwrap_or(0)
 }
 
 // Whether a byte is the tag of an open list.

@@ -24,6 +24,7 @@ fn is_zero_from(cell: &[u8], at: usize) -> bool
 }
 
 // Whether a cell can hold a value of the encoding.
+// Encoding and cell stand apart: this is what tells whether they go together.
 #[tactic(auto, unfolding(rows_format::specs::Encodings::holds, rows_format::specs::Encodings::room))]
 fn holds(encoding: Encoding, cell: &[u8]) -> bool
     requires { (sound encoding ≡ true) × (length cell.now ≡ room encoding) }
@@ -58,7 +59,7 @@ pub fn has_value(presence: Presence, cell: &[u8]) -> bool
 }
 
 // Whether the cell of a column is one that the reader could have stored.
-#[tactic(auto, using(rows_format::proofs::ColumnsLaws::cell_at_length), unfolding(rows_format::specs::Columns::well_formed_cell, rows_format::specs::Columns::column_width))]
+#[tactic(auto, using(crate::proofs::Checking::cell_long), unfolding(rows_format::specs::Columns::well_formed_cell))]
 fn cell_formed(column: Column, row: &[u8]) -> bool
     requires { Fits (length row.now) column }
     ensures { result ≡ well_formed_cell column (cell_at column row.now) }
@@ -76,6 +77,7 @@ fn cells_formed(format: Format, row: &[u8]) -> bool
     requires { format_width format ≤ length row.now }
     ensures { result ≡ well_formed_by (columns_of format) row.now }
 {
+    // A loop, no all: well_formed_by goes over the columns itself, and a closure would owe Fits for each.
     for column in columns(format) {
         if !cell_formed(*column, row) {
             return false;

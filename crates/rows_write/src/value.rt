@@ -11,6 +11,7 @@ use rows_read::value::first_byte;
 use sets::count;
 
 // How long the value is that a cell stands for.
+// Encoding and cell stand apart: a type of both would be built by two callers and taken apart again in both functions here.
 pub fn value_length(encoding: Encoding, cell: &[u8]) -> usize
     requires { (sound encoding ≡ true) × (length cell.now ≡ room encoding) × (holds encoding cell.now ≡ true) }
     ensures { result ≡ length (stored encoding cell.now) }

@@ -27,6 +27,7 @@ fn put_field(tag: u8, encoding: Encoding, cell: &[u8], out: &mut [u8], at: usize
 }
 
 // How long the field of a column is, written.
+// One counts and one writes: a function of both would need an output that only counts, with laws of its own.
 fn field_length(column: Column, row: &[u8]) -> usize
     requires { Fits (length row.now) column × (well_formed_cell column (cell_at column row.now) ≡ true) }
     ensures { result ≡ length (field_of column row.now) }

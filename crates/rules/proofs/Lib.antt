@@ -3,4 +3,5 @@ pub mod Asked
 pub mod Calm
 pub mod JudgeLaws
 pub mod MeetsLaws
+pub mod NumberLaws
 pub mod SameLaws

@@ -9,7 +9,7 @@ ghost use Rattle.rules.specs.Judge.{judge_rule, judge_rules, judged};
 ghost use Rattle.rules.specs.Found.{row_found, row_answer, judge_answer};
 ghost use Rattle.rules.specs.Clear.{is_clear};
 
-use crate::row::{Added, ORDER, is_breaking};
+use crate::row::{Added, ORDER, breaks_rule};
 use rules_unique::Key;
 use rules_unique::marks::any_taken;
 use schema::number::{RowId, TableId, row_id};
@@ -35,7 +35,7 @@ fn first_row<'a>(
     ensures { result ≡ row_found (numbered (schema_rules added) (refusal_number rule)) (schema_in attributes.now classes.now) table }
 {
     let count = row_count(table, store_of(table, attributes, classes));
-    (0..count).find(|k| is_breaking(added, attributes, classes, rule, row_id(table, *k)))
+    (0..count).find(|k| breaks_rule(added, attributes, classes, rule, row_id(table, *k)))
 }
 
 // Whether a rule is one of those that compare rows by a key, and no key is taken.

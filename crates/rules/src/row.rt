@@ -196,7 +196,7 @@ fn own_breaks(added: Added, attributes: &[u8], classes: &[u8], rule: Refusal, id
 }
 
 // Whether a row breaks a rule.
-pub fn is_breaking<'a>(
+pub(crate) fn breaks_rule<'a>(
     added: Added,
     attributes: &'a [u8],
     classes: &'a [u8],
@@ -219,6 +219,23 @@ pub fn is_breaking<'a>(
     }
 }
 
+// Whether a row breaks the rule of a number; none breaks that of a number that no rule has.
+pub fn is_breaking<'a>(
+    added: Added,
+    attributes: &'a [u8],
+    classes: &'a [u8],
+    number: u8,
+    id: RowId,
+) -> bool
+    requires { Shaped attributes.now classes.now × (number_of id < (table (table_of id) (schema_in attributes.now classes.now)).count) }
+    ensures { result ≡ breaks added (schema_in attributes.now classes.now) number (table_of id) (number_of id) }
+{
+    match ORDER.iter().find(|rule| rule.number() == number) {
+        Some(rule) => breaks_rule(added, attributes, classes, *rule, id),
+        None => false,
+    }
+}
+
 // Refused by the first of some rules that a row breaks. It takes any order, since over `ORDER` itself no goal has a variable that the laws could speak of.
 fn first_by<'a>(
     order: &[Refusal],
@@ -233,7 +250,7 @@ fn first_by<'a>(
         (number_of id)) }
 {
     for rule in order {
-        if is_breaking(added, attributes, classes, *rule, id) {
+        if breaks_rule(added, attributes, classes, *rule, id) {
             return Err(*rule);
         }
     }

@@ -49,7 +49,7 @@ pub fn forward_missing(attributes: &[u8], row: &[u8]) -> bool
     link(row) % 2 == 1 && !has_forward(attributes, row)
 }
 
-// Whether the syntax of a row is one that its linkID needs.
+// Whether the syntax of a row is one that its linkID needs. Syntaxes are the papers' numbers, as in PAIRS.
 #[tactic(auto, unfolding(crate::specs::Links::link_syntax_fits, crate::specs::Links::is_back_link))]
 fn link_syntax_fits(row: &[u8]) -> bool
     requires { attribute_width ≤ length row.now }

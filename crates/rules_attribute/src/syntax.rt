@@ -7,7 +7,7 @@ ghost use Rattle.rules_attribute.specs.Syntax.{syntax_fits, syntax_wrong, object
 use schema::attribute::{object_class, om_syntax, syntax};
 use schema::object_classes::object_class_fits;
 
-// The pairs of a syntax and an oMSyntax that match.
+// The pairs of a syntax and an oMSyntax that match. They stay the papers' numbers: a row may hold any byte, so an enum would need an unknown one too.
 const PAIRS: [(u8, u8); 20] = [
     (1, 127),
     (2, 6),

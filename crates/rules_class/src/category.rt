@@ -74,13 +74,11 @@ fn has_other_category(kind: ClassList, classes: &[u8], c: ClassNumber) -> bool
     requires { TableShaped Classes classes.now × (c.0 < class_limit) }
     ensures { result ≡ other_category kind (table_in Classes classes.now) c.0 }
 {
-    if row_count(TableId::Classes, classes) <= c.0 {
-        return false;
-    }
-    match Category::try_from(category(class_row(classes, c))) {
-        Ok(own) => own != Category::Class88 && own != list_category(kind),
-        Err(_) => true,
-    }
+    c.0 < row_count(TableId::Classes, classes)
+        && match Category::try_from(category(class_row(classes, c))) {
+            Ok(own) => own != Category::Class88 && own != list_category(kind),
+            Err(_) => true,
+        }
 }
 
 // Whether a list of the row holds the class, which has a category that it may not have there.
@@ -161,7 +159,7 @@ pub fn inheritance_of(classes: &[u8], c: ClassNumber) -> Option<Inheritance>
     inheritance_under(category(row), category(class_row(classes, s)))
 }
 
-// The papers' number of an answer, 0 for none: the list of the rules and the answers to C speak of numbers.
+// The papers' number of an answer, 0 for none: the list of the rules and the answers to C speak of numbers. No From, since 0 stands for None.
 pub fn inheritance_number(found: Option<Inheritance>) -> u8
     ensures { result ≡ answer_number found }
 {
@@ -175,6 +173,7 @@ pub fn inheritance_number(found: Option<Inheritance>) -> u8
 }
 
 // Whether the small check's answer for a class has a number: 21, 38, 39 or 40.
+// A number and no Refusal: docs/NUMBERS.md names it, and it promises at every number, 0 too.
 #[tactic(auto, unfolding(crate::specs::Category::inheritance_wrong))]
 pub fn inheritance_wrong(number: u8, classes: &[u8], c: ClassNumber) -> bool
     requires { TableShaped Classes classes.now × (c.0 < (table_in Classes classes.now).count) }

@@ -40,7 +40,7 @@ fn named_elsewhere(row: &[u8], at: usize) -> bool
     naming_attribute(row).is_none_or(|n| n.0 / 8 != at)
 }
 
-// Whether a row names none of the eight attributes of a byte.
+// Whether a row names none of the eight attributes of a byte. Apart from names_no_class: they look at other fields, and what both do is is_blank.
 #[tactic(auto, unfolding(crate::specs::Blank::names_none))]
 fn names_no_attribute(row: &[u8], at: usize) -> bool
     requires { (class_width ≤ length row.now) × (at < attribute_set) }
@@ -138,5 +138,6 @@ pub fn naming_wrong(attributes: &[u8], row: &[u8]) -> bool
         return false;
     }
     let naming = attribute_row(attributes, a);
+    // 12 is the papers' syntax 2.5.5.12, as the row has it (docs/FORMAT.md); no enum, since a row may hold any byte.
     syntax(naming) != 12 || !is_single_valued(naming)
 }

@@ -1,5 +1,6 @@
 // Display names and object identifiers by themselves: rules 12 and 14, and the comparison of two names. Names are compared in place, as parts of
 // the lent stores.
+// Rows are plain slices, since name_invalid and identifier_invalid ask of their callers what they asked.
 #![tactic(auto)]
 
 ghost use Rattle.std.specs.Prelude.{◌≡◌, ◌≤◌, length};

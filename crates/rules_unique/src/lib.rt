@@ -66,6 +66,7 @@ fn is_rival(store: &[u8], key: Key, id: RowId, own: &[u8], other: RowId) -> bool
     ensures { result ≡ (not (same_row (table_of id) (number_of id) (table_of other) (number_of other))
         && same_key key own.now ((table_in (table_of other) store.now).row (number_of other))) }
 {
+    // By same_row, whose clause names table and number: with the derived equality the proof didn't close (tried).
     !same_row(id, other) && same_key(key, own, row(store, other))
 }
 

@@ -17,7 +17,7 @@ use schema::store::{row_count, schema_row};
 // So many marks there are, and so many bytes hold them.
 const MARKS: usize = 16384;
 
-const MARKS_WIDTH: usize = 2048;
+const MARKS_WIDTH: usize = MARKS / 8;
 
 // What counts of a byte: all of it, or what a letter has in common with the other of its case.
 const WHOLE: u8 = 255;
@@ -103,7 +103,7 @@ fn is_repeated<'a>(
         && is_taken(attributes, classes, key, id)
 }
 
-// Whether some row has the key of another, with no mark met before.
+// Whether some row has the key of another, with no mark met before. The marks are lent bytes of fixed size: no heap.
 fn any_repeated<'a>(attributes: &'a [u8], classes: &'a [u8], key: Key, marks: &mut [u8]) -> bool
     requires { Shaped attributes.now classes.now × (marks.old ≡ zeros marks_width) }
     ensures { result ≡ any_taken key (schema_in attributes.now classes.now) }

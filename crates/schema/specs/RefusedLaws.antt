@@ -1,10 +1,10 @@
 -- No two refusals have the same number, and none has 0; so what may refuse was refused exactly where its number is not 0.
-use Rattle.std.specs.Prelude.{cond, eqb, ◌≡◌, refl, ℕ, Result, Ok, Err}
+use Rattle.std.specs.Prelude.{cond, eqb, ◌≡◌, refl, ℕ}
 use Rattle.std.proofs.Common.{sym, ap, arith, ◌∙◌}
 use Rattle.schema.specs.declared.refusal.Refusal.{Refusal}
 use Rattle.schema.specs.declared.refusal.Refusal.TheVariants as kind
 use Rattle.schema.specs.Refusals as refusal
-use Rattle.schema.specs.Refused.{outcome_answer, outcome_number, refusal_number}
+use Rattle.schema.specs.Refused.{refusal_number}
 
 -- the refusal of a number
 abbrev refusal_of : ℕ → Refusal
@@ -91,17 +91,3 @@ number_some x e =
     let last : kind.LinkSyntaxUnfit ≡ x = sym (ap refusal_of e) ∙ found_again x in
     let z : ◌≡◌ {A = ℕ} 45 0 = ap refusal_number last ∙ e in
     omega arith
-
--- what was found to be refused, or not
-module _ {A : Type 0} {r : Result A Refusal} where
-  pub refused_number : (why : Refusal) → r ≡ Err why → ¬ (outcome_number r ≡ 0)
-  refused_number why e z = number_some why (sym (ap outcome_number e) ∙ z)
-
-  pub passed_number : (x : A) → r ≡ Ok x → outcome_number r ≡ 0
-  passed_number x e = ap outcome_number e
-
-  pub refused_answer : (why : Refusal) → r ≡ Err why → ¬ ((outcome_answer r).number ≡ 0)
-  refused_answer why e z = number_some why (sym (ap (λ (o : Result A Refusal). (outcome_answer o).number) e) ∙ z)
-
-  pub passed_answer : (x : A) → r ≡ Ok x → (outcome_answer r).number ≡ 0
-  passed_answer x e = ap (λ (o : Result A Refusal). (outcome_answer o).number) e

@@ -2,12 +2,12 @@
 // Answers are made by these constructors alone.
 ghost use Rattle.std.specs.Prelude.{◌≡◌};
 ghost use Rattle.schema.specs.Numbers.{table_of, number_of};
-ghost use Rattle.schema.specs.Refused.{refusal_number};
 ghost use Rattle.schema.specs.Answers.{table_number, passed, done, changed, refused, unreadable, full, short_output, broken_by};
 
 use crate::number::{RowId, TableId, number_of, row_limit, table_of};
 use crate::refusal::{DONE, Refusal};
 
+// Numbers for number and table: keeper_c gives them to C, and the theorems on calls speak of them.
 #[derive(Clone, Copy)]
 pub struct Answer {
     pub number: u8,
@@ -17,6 +17,7 @@ pub struct Answer {
 }
 
 // The number of a table in an answer; 0 stands for none.
+// No From, no discriminants of TableId: 1 and 2 are the answer's numbers for C, beside its 0 for no table.
 fn table_number(table: TableId) -> u8
     ensures { result ≡ table_number table }
 {
@@ -60,12 +61,12 @@ impl Answer {
         }
     }
 
-    // Refused, with no table and no place.
-    pub fn refused(refusal: Refusal) -> Answer
-        ensures { result ≡ refused (refusal_number refusal) }
+    // Refused by a number that names no table and no place.
+    pub fn refused(number: u8) -> Answer
+        ensures { result ≡ refused number }
     {
         Answer {
-            number: refusal.number(),
+            number,
             table: Answer::NO_TABLE,
             place: 0,
             visits: 0,
@@ -108,12 +109,12 @@ impl Answer {
         }
     }
 
-    // A row breaks a rule.
-    pub fn broken_by(rule: Refusal, id: RowId) -> Answer
-        ensures { result ≡ broken_by (refusal_number rule) (table_of id) (number_of id) }
+    // A row breaks the rule of a number.
+    pub fn broken_by(number: u8, id: RowId) -> Answer
+        ensures { result ≡ broken_by number (table_of id) (number_of id) }
     {
         Answer {
-            number: rule.number(),
+            number,
             table: table_number(table_of(id)),
             place: number_of(id),
             visits: 0,

@@ -1,4 +1,5 @@
 // The other fields of an attribute row.
+// A row is a plain slice, as in row.rt; each field has a function, as in class.rt.
 ghost use Rattle.std.specs.Prelude.{◌≡◌, ◌+◌, ◌≤◌, length};
 ghost use Rattle.schema.specs.Layout.{attribute_width, object_class_limit};
 ghost use Rattle.schema.specs.AttributeRow.{syntax_of, om_syntax_of, object_class_length, object_class_of, is_single_valued, bound_at, range_lower};

@@ -1,4 +1,4 @@
-// The other fields of a class row.
+// The other fields of a class row. A row is a plain slice, as in row.rt.
 ghost use Rattle.std.specs.Prelude.{◌≡◌, ◌≤◌, length};
 ghost use Rattle.schema.specs.Numbers.{class_read};
 ghost use Rattle.schema.specs.Layout.{class_width};
@@ -40,6 +40,7 @@ pub fn naming_attribute(row: &[u8]) -> Option<AttributeNumber>
 }
 
 // The seven sets, each a part of the row.
+// A function for each set: one with a const place would be called by the place and the width, which says less.
 
 pub fn mandatory(row: &[u8]) -> &[u8]
     requires { class_width ≤ length row.now }

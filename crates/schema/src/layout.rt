@@ -94,7 +94,7 @@ pub const CLASSES_LENGTH: usize = ROWS + CLASS_WIDTH * ClassNumber::LIMIT;
 
 pub const CLOSURE_LENGTH: usize = CLOSURE_WIDTH * ClassNumber::LIMIT;
 
-// How wide a set of a table's numbers is.
+// How wide a set of a table's numbers is. This and the two below are no methods of TableId: public, with the names of specs/Layout.antt.
 pub fn set_width(table: TableId) -> usize
     ensures { result ≡ set_width table }
 {

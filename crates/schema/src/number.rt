@@ -1,6 +1,9 @@
 // Class numbers and attribute numbers. Document 01: "Class numbers and attribute numbers both count from 0, and installers confuse them." Each has
 // a type of its own, so that a class row cannot be looked up by an attribute's number. What serves both tables takes a number that says which table
 // it is of.
+// Two types, none over a const limit: definitions and laws name each, and a Number<128> would say less.
+// No invariant below the limit: what a class reaches is stated and proved for every number, also one beyond it.
+// Functions of TableId and RowId, no methods: they are public and have the names of the definitions, by which docs/DECISIONS.md 74 speaks of rows.
 ghost use Rattle.std.specs.Prelude.{◌≡◌, ◌+◌, ◌<◌, ◌≤◌, ltb};
 ghost use Rattle.schema.specs.Numbers.{class_limit, attribute_limit, limit, class_read, attribute_read, number_read};
 ghost use Rattle.schema.specs.Numbers.{place_id, row_id, table_of, number_of, same_table, same_row};
@@ -140,7 +143,7 @@ pub fn number_of(id: RowId) -> usize
     }
 }
 
-// Whether two tables are one.
+// Whether two tables are one. This and same_row stay beside `==`: public functions, whose contracts name the definitions that laws speak of.
 pub fn same_table(a: TableId, b: TableId) -> bool
     ensures { result ≡ same_table a b }
 {

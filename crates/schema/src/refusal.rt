@@ -1,5 +1,5 @@
 // Why a call refuses, by name, with the numbers that it gives back. Document 01, "Numbers given back" and "Schema rules", and document 02.
-// specs/Refusals.antt and include/keeper.h have the same names.
+// specs/Refusals.antt and include/keeper.h have the same names, each in its spelling.
 ghost use Rattle.std.specs.Prelude.{◌≡◌};
 ghost use Rattle.schema.specs.Refused.{refusal_number};
 
@@ -55,6 +55,7 @@ pub enum Refusal {
 
 impl Refusal {
     // The papers' number.
+    // No From for u8: a contract stands on this function directly, and From would say no more.
     pub fn number(self) -> u8
         ensures { result ≡ refusal_number self }
     {

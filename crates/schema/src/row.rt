@@ -1,4 +1,5 @@
 // Fields that attribute rows and class rows share. A row is lent as a part of its store.
+// A row is a plain slice with its width in the contracts: is_base and is_defunct, which docs/NUMBERS.md names, are lent one.
 ghost use Rattle.std.specs.Prelude.{◌≡◌, ◌+◌, ◌≤◌, ◌<◌, length, get_or};
 ghost use Rattle.schema.specs.Layout.{common_width, name_limit, arc_limit};
 ghost use Rattle.schema.specs.Row.{flag_at, counted_at, name_length, name_of, arc_count, arc_of, identifier_of, guid_of, system_flags, is_base, is_defunct};

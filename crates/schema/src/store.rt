@@ -1,4 +1,5 @@
 // The stores: counts, and rows by the number of their own kind.
+// Stores are plain slices: C lends them, and any_short, which docs/NUMBERS.md names, is what tells that they are long enough.
 ghost use Rattle.std.specs.Prelude.{◌≡◌, ◌+◌, ◌*◌, ◌≤◌, ◌<◌, length};
 ghost use Rattle.schema.specs.Numbers.{attribute_limit, class_limit, limit, table_of, number_of};
 ghost use Rattle.schema.specs.Layout.{store_length, closure_length, closure_width, row_width, rows_at};
@@ -89,14 +90,11 @@ pub fn closure_row(closure: &[u8], c: ClassNumber) -> &[u8]
 }
 
 // Whether a store is shorter than its length: number 1.
+#[tactic(auto, unfolding(crate::specs::Store::any_short))]
 pub fn any_short(attributes: &[u8], classes: &[u8], closure: &[u8]) -> bool
     ensures { result ≡ any_short (stores attributes.now classes.now closure.now) }
 {
-    if attributes.len() < store_length(TableId::Attributes) {
-        return true;
-    }
-    if classes.len() < store_length(TableId::Classes) {
-        return true;
-    }
-    closure.len() < CLOSURE_LENGTH
+    attributes.len() < store_length(TableId::Attributes)
+        || classes.len() < store_length(TableId::Classes)
+        || closure.len() < CLOSURE_LENGTH
 }

@@ -1,5 +1,6 @@
 // Sets of small numbers as byte strings: n is a member where bit n % 8, the least significant first, of byte n / 8 is set. A set has the length
 // of the slice that holds it: 16 bytes for classes, 32 for attributes.
+// They are plain bytes, no set type: they are parts of rows of the stores, whose layout document 01 gives and C lends.
 #![tactic(auto)]
 
 ghost use Rattle.std.specs.Prelude.{◌≡◌, ◌*◌, ◌≤◌, length};
@@ -16,6 +17,7 @@ pub fn has(s: &[u8], n: usize) -> bool
 }
 
 // Makes n a member of s; a number that s has no room for is left out.
+// insert and remove stay two: one of both would take the operator as a closure, for a line of code each, and two contracts in one.
 pub fn insert(s: &mut [u8], n: usize)
     ensures { s.new ≡ with_member n s.old }
 {
@@ -38,6 +40,7 @@ pub fn join(a: &mut [u8], b: &[u8])
     requires { length b.now ≡ length a.old }
     ensures { a.new ≡ union a.old b.now }
 {
+    // By number: after an adapter of iter_mut the library says nothing of the bytes.
     for (i, x) in b.iter().enumerate() {
         a[i] |= *x;
     }

@@ -17,7 +17,6 @@ use Rattle.wire.specs.declared.BadField.{BadField}
 use Rattle.wire.specs.Wire.{field_at}
 use Rattle.wire.specs.WireLaws.{field_bad}
 use Rattle.sheet_read.specs.declared.read.SheetError.{SheetError}
-use Rattle.std.proofs.Math.Logic.{inl, inr, ◌⊎◌}
 use Rattle.schema.specs.declared.number.TableId.TheVariants.{Attributes, Classes}
 use Rattle.schema.specs.declared.number.TableId.{TableId}
 use Rattle.schema.specs.Store.{count_in, store_of}
@@ -132,14 +131,13 @@ held_with t {x} {a} {c} {attributes} {classes} h o wide l = go o.answer refl
 -- ---- the heading
 
 module _ (s : List ℕ) (at start stop : ℕ) (phase : Phase) where
-  pub heading_late : ¬ (phase ≡ Start) → Stop (error.Bad at) ≡ take_heading s at start stop phase
+  pub heading_late : {t : TableId} → phase ≡ InRows t → Stop (error.Bad at) ≡ take_heading s at start stop phase
   unfolding take_heading heading_open position
-  heading_late d = go phase d
+  heading_late {t} e = rw e (go t)
     where
-      go : (p : Phase) → ¬ (p ≡ Start) → Stop (error.Bad at) ≡ take_heading s at start stop p
-      go Start d = absurd (d refl)
-      go (InRows Attributes) d = refl
-      go (InRows Classes) d = refl
+      go : (t : TableId) → Stop (error.Bad at) ≡ take_heading s at start stop (InRows t)
+      go Attributes = refl
+      go Classes = refl
 
   pub heading_yes : phase ≡ Start → is_heading s start stop ≡ true → On stop (InRows Attributes) false ≡ take_heading s at start stop phase
   unfolding take_heading heading_open position
@@ -189,12 +187,6 @@ module _ (s : List ℕ) (at : ℕ) (phase : Phase) (missing : Bool) {x : Rows} {
 -- what a tag stands for, by the two parts of a pattern
 pub tag_told : {tag : SheetTag} {y z : declared.SheetTag} → tag ≡ Some y → y ≡ z → tag ≡ Some z
 tag_told p q = p ∙ ap Some q
-
--- no row is announced
-pub no_row : (tag : SheetTag) (a c : List ℕ) → (tag ≡ Heading) ⊎ (tag ≡ Unknown) → room.Free ≡ room_in tag a c
-unfolding room_in
-no_row tag a c (inl e) = rw e
-no_row tag a c (inr e) = rw e
 
 -- the room that a row of a table has
 module _ (t : TableId) (a c : List ℕ) (tag : SheetTag) (is : tag ≡ Row t) (n m : ℕ) (counted : n ≡ count_in t (store_of t a c)) (limits : m ≡ limit t) where

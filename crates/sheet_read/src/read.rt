@@ -1,4 +1,5 @@
 // Reads a sheet from left to right. Document 01: "Sheet: field 01 holding 01, attribute rows 20, class rows 30"; it "gives 4 or 6, whichever comes first".
+// Bytes and places stand apart, as rows_read's read_row, which docs/NUMBERS.md names, takes them; and so do the two stores, which C lends to read_sheet.
 ghost use Rattle.std.specs.Prelude.{◌≡◌, ◌<◌, ◌≤◌, length};
 ghost use Rattle.prelude.specs.Part.{zeros};
 ghost use Rattle.schema.specs.Store.{count_in, store_of};
@@ -66,6 +67,7 @@ pub const ATTRIBUTE: u8 = 0x20;
 pub const CLASS: u8 = 0x30;
 
 // What a tag stands for, if it is one of a sheet.
+// An Option, as the definition has it: the error of a TryFrom would say no more of another tag.
 #[tactic(auto, unfolding(crate::specs::Reading::sheet_tag))]
 fn sheet_tag(tag: u8) -> Option<SheetTag>
     ensures { result ≡ sheet_tag tag }
@@ -83,25 +85,19 @@ fn sheet_tag(tag: u8) -> Option<SheetTag>
 fn rows_open(phase: Phase, table: TableId) -> bool
     ensures { result ≡ rows_open phase table }
 {
-    match table {
-        TableId::Attributes => match phase {
-            Phase::Start => true,
-            Phase::InRows(TableId::Attributes) => true,
-            Phase::InRows(TableId::Classes) => false,
-        },
-        TableId::Classes => true,
-    }
+    !matches!(
+        (phase, table),
+        (Phase::InRows(TableId::Classes), TableId::Attributes)
+    )
 }
 
 // Whether a field's value is that of the heading.
+#[tactic(auto, unfolding(crate::specs::Reading::is_heading))]
 fn is_heading(s: &[u8], start: usize, stop: usize) -> bool
     requires { (start ≤ stop) × (stop ≤ length s.now) }
     ensures { result ≡ is_heading s.now start stop }
 {
-    if stop - start != 1 {
-        return false;
-    }
-    byte_at(s, start) == 1
+    stop - start == 1 && byte_at(s, start) == 1
 }
 
 // The heading, before all rows.
@@ -115,17 +111,14 @@ fn take_heading(
     requires { (start ≤ stop) × (stop ≤ length s.now) }
     ensures { result ≡ take_heading s.now at start stop phase }
 {
-    let Phase::Start = phase else {
-        return Err(SheetError::Bad { at });
-    };
-    if !is_heading(s, start, stop) {
-        return Err(SheetError::Bad { at });
+    match phase {
+        Phase::Start if is_heading(s, start, stop) => Ok(Progress {
+            at: stop,
+            phase: Phase::InRows(TableId::Attributes),
+            missing: false,
+        }),
+        _ => Err(SheetError::Bad { at }),
     }
-    Ok(Progress {
-        at: stop,
-        phase: Phase::InRows(TableId::Attributes),
-        missing: false,
-    })
 }
 
 // Reads a row into a scratch row, and puts it last in its table once it is read.
@@ -149,6 +142,7 @@ fn read_into(
 }
 
 // Whether the row that a tag announces has room in its table.
+#[tactic(auto, unfolding(crate::specs::Held::room_in))]
 fn room_in<'a>(
     tag: Option<SheetTag>,
     attributes: &'a [u8],
@@ -165,8 +159,7 @@ fn room_in<'a>(
                 Ok(())
             }
         }
-        Some(SheetTag::Heading) => Ok(()),
-        None => Ok(()),
+        Some(SheetTag::Heading) | None => Ok(()),
     }
 }
 

@@ -1,4 +1,5 @@
 // The sheet of a schema: how long it is, and its bytes written into a lent output.
+// Writable stays a clause, output and place stay apart: write_sheet, which docs/proofs/CALLS.md names, is lent plain slices.
 #![tactic(auto)]
 
 ghost use Rattle.std.specs.Prelude.{◌≡◌, ◌+◌, ◌≤◌, length};
@@ -35,6 +36,7 @@ fn row_field_length(table: TableId, row: &[u8]) -> usize
 }
 
 // How long the fields of a table's rows are.
+// One counts and one writes: a function of both would need an output that only counts, with laws of its own.
 fn row_fields_length(table: TableId, store: &[u8]) -> usize
     requires { Writable table store.now }
     ensures { result ≡ length (row_fields table (table_in table store.now)) }

@@ -1,4 +1,5 @@
 // Rows that a row may name. Document 01: "Where a rule says "live", the named row must exist, and must be active if the naming row is."
+// Stores and rows are plain slices, since the functions that docs/NUMBERS.md names ask of their callers what they asked.
 ghost use Rattle.std.specs.Prelude.{not, ◌||◌, ◌≡◌, ◌≤◌, length};
 ghost use Rattle.schema.specs.Numbers.{table_of, number_of};
 ghost use Rattle.schema.specs.Layout.{common_width};

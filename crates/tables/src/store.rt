@@ -25,6 +25,7 @@ pub fn put_row(store: &mut [u8], id: RowId, row: &[u8])
     requires { (store_length (table_of id) ≤ length store.old) × (number_of id < limit (table_of id)) × (length row.now ≡ row_width (table_of id)) }
     ensures { store.new ≡ put_in (table_of id) (number_of id) row.now store.old }
 {
+    // Cut out here: a function that lends a row to be written would owe `ensures* writes_back` for the store around it, which is longer than the cut.
     let at = row_start(id);
     let end = at + row_width(table_of(id));
     copy_padded(&mut store[at..end], row);

@@ -1,4 +1,5 @@
 // The shape of the two tables' stores: number 2 is given where it is broken.
+// A store is a plain slice: stores_formed and table_formed, which docs/ name, ask of their callers what they asked.
 #![tactic(auto)]
 
 ghost use Rattle.std.specs.Prelude.{◌≡◌, ◌≤◌, ◌<◌, length};
@@ -23,6 +24,7 @@ fn unused_zero(table: TableId, store: &[u8], n: usize) -> bool
     requires { (n ≤ limit table) × (store_length table ≤ length store.now) }
     ensures { result ≡ is_zero (unused_rows table n store.now) }
 {
+    // A test of its own: row_id asks for a number below the limit.
     if n == row_limit(table) {
         return true;
     }

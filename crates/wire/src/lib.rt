@@ -15,7 +15,7 @@ pub struct Field {
     pub end: usize,
 }
 
-// The first field that cannot be accepted, by the place of its tag; or the place where a missing field should stand, or where leftover bytes begin.
+// The first field that cannot be accepted, by the place of its tag; or the end of a value that lacks a field, or where leftover bytes begin.
 #[derive(Clone, Copy, Debug, PartialEq, Eq)]
 pub struct BadField {
     pub at: usize,

@@ -1,25 +1,17 @@
-use mathlib.Core.Path.{◌∙◌, ap, ap₂, sym}
+use Rattle.std.proofs.Common.{rules}
+use mathlib.Core.Path.{◌≡◌, ◌∙◌, ap, ap₂}
 use Rattle.prelude.specs.Part.{part}
 use Rattle.sets.specs.Sets.{member}
+use Rattle.schema.specs.Numbers.{number_of}
 use Rattle.change_read.specs.Carried.{list_of}
 use Rattle.change_rows.specs.Lists.{open_at, open_of}
-use Rattle.change_rows.specs.ListsLaws.{entry_absent, entry_is}
-use Rattle.change_rows.specs.RowsLaws.{list_inside}
-use native.Mathlib.Omega.{arith}
+use Rattle.change_asked.proofs.Asking.{entry_held}
 use Rattle.change_asked.proofs.asked.in_open.Goals as goal
-
-pub returns-in_default : goal.returns-in_default
-returns-in_default c =
-    let r = c.args.scratch.now in
-    sym (entry_absent r (sym c.entry_read.ensures ∙ c.in_default.is) (open_at (list_of r)) c.args.row.now)
-
-pub part_of-requires : goal.part_of-requires
-part_of-requires c =
-    omega (arith, c.open_at.ensures, c.list_width.ensures, list_inside c.list_of-list.result, c.requires.1)
 
 pub returns : goal.returns
 returns c =
+    let r = c.args.scratch.now in
     let row = c.args.row.now in
-    let entry = (entry_is c.args.scratch.now (sym c.entry_read.ensures ∙ c.in-Some.is)).number in
-    c.has.ensures ∙ ap₂ member (c.part_of.ensures ∙ ap₂ (λ a w. part a w row) c.open_at.ensures c.list_width.ensures
-    ∙ ap (λ l. open_of l row) c.list_of-list.ensures) (c.number_of.ensures ∙ entry)
+    let held = c.part_of-held.ensures ∙ ap₂ (λ a w. part a w row) c.open_at.ensures c.list_width.ensures ∙ ap (λ l. open_of l row) c.list_of-list.ensures in
+    entry_held r (open_at (list_of r)) row c.entry_read.result c.is_some_and.result _ c.entry_read.ensures c.is_some_and.ensures (λ id p.
+    let has : c.is_some_and.result ≡ member c.part_of-held.result.now (number_of id) = search rules in has ∙ ap (λ s. member s (number_of id)) held)

@@ -1,8 +1,8 @@
 use mathlib.Core.Path.{◌∙◌, ap, ap₂, sym}
 use mathlib.Core.Bool.{cond}
+use Rattle.std.specs.Option.{unwrap_or}
 use Rattle.schema.specs.Store.{count_in}
 use Rattle.schema.specs.Numbers.{number_read, row_id}
-use Rattle.schema.specs.NumbersLaws.{number_is}
 use Rattle.change_read.specs.Carried.{target_of}
 use Rattle.change_rows.specs.Rows.{table_for}
 use Rattle.change_rows.proofs.Applying.{target_read}
@@ -27,23 +27,12 @@ returns-then-is_addition c =
     c.row_id.ensures ∙ ap₂ row_id c.table_for-table.ensures (count
     ∙ sym (ap (λ b. cond b (count_in (table_for c.args.change) s) (target_of c.args.scratch.now)) add))
 
-pub row_id-requires-in_default : goal.row_id-requires-in_default
-row_id-requires-in_default c =
-    let read = c.number_read.ensures ∙ ap₂ number_read c.table_for-table.ensures c.target_of.ensures in
-    let fixed = sym c.is_addition.ensures ∙ c.if-is_addition.false in
-    absurd (target_read c.args.change c.args.scratch.now c.args.store.now c.requires fixed (sym read ∙ c.in_default.is))
-
-pub returns-in_default : goal.returns-in_default
-returns-in_default c =
-    let read = c.number_read.ensures ∙ ap₂ number_read c.table_for-table.ensures c.target_of.ensures in
-    let fixed = sym c.is_addition.ensures ∙ c.if-is_addition.false in
-    absurd (target_read c.args.change c.args.scratch.now c.args.store.now c.requires fixed (sym read ∙ c.in_default.is))
-
 pub returns : goal.returns
 returns c =
     let fixed = sym c.is_addition.ensures ∙ c.if-is_addition.false in
+    let r = c.args.scratch.now in
+    let s = c.args.store.now in
     let t = table_for c.args.change in
-    let n = target_of c.args.scratch.now in
     let read = c.number_read.ensures ∙ ap₂ number_read c.table_for-table.ensures c.target_of.ensures in
-    (number_is t n (sym read ∙ c.in-Some.is)).0
-    ∙ ap (row_id t) (sym (ap (λ b. cond b (count_in t c.args.store.now) n) fixed))
+    c.unwrap_or.ensures ∙ ap (λ o. unwrap_or o c.row_id-2.result) read ∙ target_read c.args.change r s c.requires fixed c.row_id-2.result
+    ∙ ap (row_id t) (sym (ap (λ b. cond b (count_in t s) (target_of r)) fixed))

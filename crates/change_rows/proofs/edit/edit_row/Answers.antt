@@ -1,6 +1,10 @@
+use Rattle.std.proofs.Common.{rules}
+use Rattle.sets.specs.Sets.{with_member, without_member}
+use Rattle.sets.specs.SetsLaws.{with_beyond, with_length, without_beyond, without_length}
+use Rattle.change_read.specs.Carried.{entry_of}
 use Prim.Native.Nat.{◌+◌}
 use native.Mathlib.Omega.{arith}
-use mathlib.Core.Path.{ap, ◌∙◌, sym}
+use mathlib.Core.Path.{◌≡◌, ap, ◌∙◌, sym}
 use mathlib.Core.Bool.{true≢false}
 use Rattle.change_rows.proofs.Editing.{common_row}
 use Rattle.change_rows.specs.Rows.{edited_row, is_addition}
@@ -37,12 +41,12 @@ pub bounds-row-150-in-Reactivate : goal.bounds-row-150-in-Reactivate
 bounds-row-150-in-Reactivate c =
     omega (arith, common_row c.args.change c.args.row.now c.requires.2)
 
-pub edit_entry-requires : goal.edit_entry-requires
-edit_entry-requires c =
+pub edit_entry-requires-clause-wide : goal.edit_entry-requires-clause-wide
+edit_entry-requires-clause-wide c =
     (c.requires.1, wide_row c.args.row.now c.in-AddEntry.is c.requires.2)
 
-pub edit_entry-requires-in-RemoveEntry : goal.edit_entry-requires-in-RemoveEntry
-edit_entry-requires-in-RemoveEntry c =
+pub edit_entry-requires-in-RemoveEntry-clause-wide : goal.edit_entry-requires-in-RemoveEntry-clause-wide
+edit_entry-requires-in-RemoveEntry-clause-wide c =
     (c.requires.1, wide_row c.args.row.now c.in-RemoveEntry.is c.requires.2)
 
 pub returns-in-Add : goal.returns-in-Add
@@ -78,9 +82,15 @@ returns-in-Reactivate c =
     )))
 
 pub returns-in-AddEntry : goal.returns-in-AddEntry
+unfolding edited_row
 returns-in-AddEntry c =
-    rw c.in-AddEntry.is c.edit_entry.ensures
+    let n = entry_of c.args.scratch.now in
+    rw c.in-AddEntry.is (c.edit_entry.ensures (with_member n) (record { as_long = with_length n; beyond = λ s b l. with_beyond s n b l }) (λ s left k e p.
+    let left_is : left.now ≡ with_member k s.now = search rules in left_is ∙ ap (λ x. with_member x s.now) e))
 
 pub returns-in-RemoveEntry : goal.returns-in-RemoveEntry
+unfolding edited_row
 returns-in-RemoveEntry c =
-    rw c.in-RemoveEntry.is c.edit_entry-in-RemoveEntry.ensures
+    let n = entry_of c.args.scratch.now in
+    rw c.in-RemoveEntry.is (c.edit_entry-in-RemoveEntry.ensures (without_member n) (record { as_long = without_length n; beyond = λ s b l. without_beyond s n b l }) (λ s left k e p.
+    let left_is : left.now ≡ without_member k s.now = search rules in left_is ∙ ap (λ x. without_member x s.now) e))

@@ -12,7 +12,7 @@ pub returns-in-Err : goal.returns-in-Err
 unfolding audit
 returns-in-Err c =
     let s = stores c.args.attributes.now c.args.classes.now c.args.closure.now in
-    c.refused.ensures ∙ shape_refused s c.in-Err.ensures _ _ (number_some c.in-Err.refusal)
+    rw (c.refused.ensures, c.number.ensures) (shape_refused s c.in-Err.ensures _ _ (number_some c.in-Err.refusal))
 
 pub judge-requires : goal.judge-requires
 judge-requires c =
@@ -22,8 +22,8 @@ pub returns-in-Err-judge : goal.returns-in-Err-judge
 unfolding audit
 returns-in-Err-judge c =
     let s = stores c.args.attributes.now c.args.classes.now c.args.closure.now in
-    c.broken_by.ensures ∙ found_refused c.in-Err-judge.ensures _ _ (number_some c.in-Err-judge.broken.rule)
-    ∙ sym (shape_onward s c.in_default.ensures refl _ _)
+    rw (c.broken_by.ensures, c.number-in-Err-judge.ensures) (found_refused c.in-Err-judge.ensures _ _ (number_some c.in-Err-judge.broken.rule)
+    ∙ sym (shape_onward s c.in_default.ensures refl _ _))
 
 pub is_fresh-requires : goal.is_fresh-requires
 is_fresh-requires c =
@@ -45,6 +45,6 @@ pub returns-else-is_fresh : goal.returns-else-is_fresh
 unfolding audit
 returns-else-is_fresh c =
     let s = stores c.args.attributes.now c.args.classes.now c.args.closure.now in
-    c.refused-else-is_fresh.ensures ∙ sym
+    rw (c.refused-else-is_fresh.ensures, c.number-else-is_fresh.ensures) (sym
     (shape_onward s c.in_default.ensures refl _ _ ∙ found_passed c.in_default-judge.ensures _ _ refl ∙ tested_holds _ _ _
-    (λ z. omega arith) (ap not (sym c.is_fresh.ensures ∙ c.if-is_fresh.false)))
+    (λ z. omega arith) (ap not (sym c.is_fresh.ensures ∙ c.if-is_fresh.false))))

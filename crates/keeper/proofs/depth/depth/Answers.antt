@@ -11,8 +11,8 @@ use Rattle.keeper.proofs.depth.depth.Goals as goal
 
 pub returns-in-Err : goal.returns-in-Err
 returns-in-Err c =
-    c.refused.ensures ∙ depth_refused (stores c.args.attributes.now c.args.classes.now c.args.closure.now) c.args.class
-    c.in-Err.ensures (number_some c.in-Err.refusal)
+    rw (c.refused.ensures, c.number.ensures) (depth_refused (stores c.args.attributes.now c.args.classes.now c.args.closure.now) c.args.class
+    c.in-Err.ensures (number_some c.in-Err.refusal))
 
 pub returns-in_default-new : goal.returns-in_default-new
 returns-in_default-new c =
@@ -21,8 +21,8 @@ returns-in_default-new c =
     let classes = c.args.classes.now in
     let closure = c.args.closure.now in
     let beyond = class_beyond class (sym c.new.ensures ∙ c.in_default-new.is) in
-    c.refused-in_default-new.ensures ∙ depth_absent (stores attributes classes closure) class c.in_default.ensures refl
-    (omega (arith, beyond, (readable_classes (stores attributes classes closure) c.in_default.ensures refl).few))
+    rw (c.refused-in_default-new.ensures, c.number-in_default-new.ensures) (depth_absent (stores attributes classes closure) class c.in_default.ensures refl
+    (omega (arith, beyond, (readable_classes (stores attributes classes closure) c.in_default.ensures refl).few)))
 
 pub row_count-requires : goal.row_count-requires
 row_count-requires c =
@@ -32,8 +32,8 @@ pub returns-then-c-row_count : goal.returns-then-c-row_count
 returns-then-c-row_count c =
     let class = c.args.class in
     let w = class_is class _ (sym c.new.ensures ∙ c.in-Some.is) in
-    c.refused-then-c-row_count.ensures ∙ depth_absent (stores c.args.attributes.now c.args.classes.now c.args.closure.now) class
-    c.in_default.ensures refl (omega (arith, w.0, c.if-c-row_count.true, c.row_count.ensures))
+    rw (c.refused-then-c-row_count.ensures, c.number-then-c-row_count.ensures) (depth_absent (stores c.args.attributes.now c.args.classes.now c.args.closure.now) class
+    c.in_default.ensures refl (omega (arith, w.0, c.if-c-row_count.true, c.row_count.ensures)))
 
 pub depth_of-requires : goal.depth_of-requires
 depth_of-requires c =
@@ -59,6 +59,6 @@ returns-in-None c =
     let class = c.args.class in
     let classes = c.args.classes.now in
     let w = class_is class _ (sym c.new.ensures ∙ c.in-Some.is) in
-    c.refused-in-None.ensures ∙ ap depth_answer (sym c.in-None.is ∙ c.depth_of.ensures ∙ ap (depth_of (table_in Classes classes)) (sym w.0)) ∙
+    rw (c.refused-in-None.ensures, c.number-in-None.ensures) (ap depth_answer (sym c.in-None.is ∙ c.depth_of.ensures ∙ ap (depth_of (table_in Classes classes)) (sym w.0)) ∙
     depth_present (stores c.args.attributes.now classes c.args.closure.now) class c.in_default.ensures refl
-    (omega (arith, w.0, c.if-c-row_count.false, c.row_count.ensures))
+    (omega (arith, w.0, c.if-c-row_count.false, c.row_count.ensures)))

@@ -7,7 +7,7 @@ use Rattle.keeper.proofs.load.load.Goals as goal
 pub returns-then-any_short : goal.returns-then-any_short
 returns-then-any_short c =
     short_ends
-    c.args.sheet.now (stores c.args.attributes.now c.args.classes.now c.args.closure.now) c.refused.ensures
+    c.args.sheet.now (stores c.args.attributes.now c.args.classes.now c.args.closure.now) (rw c.number.ensures at c.refused.ensures)
     (sym c.any_short.ensures ∙ c.if-any_short.true)
 
 pub read_and_judge-requires : goal.read_and_judge-requires

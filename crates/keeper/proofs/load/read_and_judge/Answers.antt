@@ -24,8 +24,8 @@ returns-in-Err-clause-left c =
     let attributes = c.args.attributes.now in
     let classes = c.args.classes.now in
     read_ends sheet (λ i. (c.shared_slice_known-1.given i).fits) attributes classes c.requires c.read_sheet.ensures c.in-Ok.is
-    (judge_ends sheet (λ i. (c.shared_slice_known-1.given i).fits) attributes classes c.requires c.read_sheet.ensures (c.broken_by.ensures ∙
-    c.in-Err.ensures))
+    (judge_ends sheet (λ i. (c.shared_slice_known-1.given i).fits) attributes classes c.requires c.read_sheet.ensures (rw c.number.ensures at
+    c.broken_by.ensures ∙ c.in-Err.ensures))
 
 pub returns-in-Err-Bad-clause-left : goal.returns-in-Err-Bad-clause-left
 returns-in-Err-Bad-clause-left c =

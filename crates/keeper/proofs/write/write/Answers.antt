@@ -11,8 +11,8 @@ use Rattle.keeper.proofs.write.write.Goals as goal
 pub returns-in-Err : goal.returns-in-Err
 returns-in-Err c =
     let out = c.args.out.now in
-    ap (λ (a : Answer). written a out) c.refused.ensures ∙
-    write_refused (stores c.args.attributes.now c.args.classes.now c.args.closure.now) out c.in-Err.ensures (number_some c.in-Err.refusal)
+    rw (c.refused.ensures, c.number.ensures)
+    (write_refused (stores c.args.attributes.now c.args.classes.now c.args.closure.now) out c.in-Err.ensures (number_some c.in-Err.refusal))
 
 pub sheet_length-needed-requires : goal.sheet_length-needed-requires
 sheet_length-needed-requires c =

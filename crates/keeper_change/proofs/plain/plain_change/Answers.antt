@@ -9,7 +9,7 @@ pub returns-in-Err : goal.returns-in-Err
 returns-in-Err c =
     let s = stores c.args.attributes.now c.args.classes.now c.args.closure.now in
     let x = c.args.change.now in
-    rw c.refused.ensures (change_order x s c.in-Err.ensures (number_some c.in-Err.refusal))
+    rw (c.refused.ensures, c.number.ensures) (change_order x s c.in-Err.ensures (number_some c.in-Err.refusal))
 
 pub read_change-requires : goal.read_change-requires
 unfolding zeros
@@ -39,5 +39,5 @@ pub returns-in-Err-plain_read : goal.returns-in-Err-plain_read
 returns-in-Err-plain_read c =
     let s = stores c.args.attributes.now c.args.classes.now c.args.closure.now in
     let x = c.args.change.now in
-    rw c.refused-in-Err-plain_read.ensures
+    rw (c.refused-in-Err-plain_read.ensures, c.number-in-Err-plain_read.ensures)
     (c.in-Err-plain_read.ensures ∙ change_read x s c.in_default.ensures refl c.read_change.ensures _ c.in-Ok.is)

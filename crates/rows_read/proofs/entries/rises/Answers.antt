@@ -3,6 +3,7 @@ use Prim.Native.Nat.{◌+◌, ◌*◌}
 use native.Mathlib.Omega.{arith}
 use Rattle.rows_read.proofs.Entering.{rises_low, rises_over, rises_more, rises_done}
 use Rattle.rows_read.proofs.entries.rises.Goals as goal
+use Rattle.rows_read.proofs.entries.rises.Goals.{then-n-low-via-then-n-low, then-n-low-via-else-n-low+then-not-is_number}
 
 pub loop-k-init : goal.loop-k-init
 loop-k-init c =
@@ -10,7 +11,13 @@ loop-k-init c =
 
 pub returns-then-n-low : goal.returns-then-n-low
 returns-then-n-low c =
-    sym (sym c.loop-k.invariant.same ∙ rises_low _ _ (2 * c.loop-k.k) _ _ (omega arith) c.read_u16-n.ensures c.if-n-low.true)
+    elim c.then-n-low.branch [
+      | then-n-low-via-then-n-low w ↦
+          sym (sym c.loop-k.invariant.same ∙ rises_low _ _ (2 * c.loop-k.k) _ _ (omega arith) c.read_u16-n.ensures w.if-n-low.true)
+      | then-n-low-via-else-n-low+then-not-is_number w ↦
+          sym (sym c.loop-k.invariant.same ∙ rises_over _ _ (2 * c.loop-k.k) _ _ (omega arith) c.read_u16-n.ensures w.if-n-low.false
+          (sym w.is_number.ensures ∙ w.if-not-is_number.true))
+    ]
 
 pub loop-k-preserved : goal.loop-k-preserved
 loop-k-preserved c =
@@ -21,11 +28,6 @@ loop-k-preserved c =
       same = rw e (sym
           (rises_more _ _ (2 * c.loop-k.k) _ _ (omega arith) c.read_u16-n.ensures c.if-n-low.false number) ∙ c.loop-k.invariant.same);
     }
-
-pub returns-then-not-is_number : goal.returns-then-not-is_number
-returns-then-not-is_number c =
-    let beyond = sym c.is_number.ensures ∙ c.if-not-is_number.true in
-    sym (sym c.loop-k.invariant.same ∙ rises_over _ _ (2 * c.loop-k.k) _ _ (omega arith) c.read_u16-n.ensures c.if-n-low.false beyond)
 
 pub returns : goal.returns
 returns c =

@@ -4,8 +4,9 @@ use native.Mathlib.Omega.{arith}
 use Rattle.std.proofs.lemmas.Result.{err_from_is_err_and}
 use Rattle.rows_format.specs.Formats.{no_column}
 use Rattle.rows_format.proofs.FormatsLaws.{fits_item}
+use Rattle.rows_read.specs.RowRead.{Bad}
 use Rattle.rows_read.specs.Reading.{Out}
-use Rattle.rows_read.specs.ReadingLaws.{took_within, read_next, read_stop, read_leftover, read_missing, read_whole}
+use Rattle.rows_read.specs.ReadingLaws.{took_within, took_here, read_next, read_stop, read_leftover, read_missing, read_whole}
 use Rattle.rows_read.proofs.read.read_fields.Goals as goal
 
 pub take_field-requires : goal.take_field-requires
@@ -22,7 +23,8 @@ returns-in_err-progress c =
     let e = sym c.loop-column.invariant.same ∙ read_stop c.columns-column-items.result.now _ c.args.s.now c.args.end c.loop-column.column-index
     c.loop-column.progress.at c.loop-column.progress.missing c.loop-column.row c.loop-column-test.true refl
     c.take_field.ensures c.in_err-progress.was in
-    (p.1 ∙ ap Err p.2 ∙ sym (ap (λ (x : Out). x.answer) e), sym (ap (λ (x : Out). x.row) e))
+    let here = took_here c.args.s.now _ c.loop-column.progress.at c.args.end c.loop-column.progress.missing c.take_field.ensures.0 c.in_err-progress.was in
+    (p.1 ∙ ap Err p.2 ∙ ap Bad here ∙ sym (ap (λ (x : Out). x.answer) e), sym (ap (λ (x : Out). x.row) e))
 
 pub loop-column-preserved : goal.loop-column-preserved
 loop-column-preserved c =

@@ -14,8 +14,8 @@ use Rattle.rules.proofs.row.first_by.Goals as goal
 pub loop-rule-init : goal.loop-rule-init
 loop-rule-init c = refl
 
-pub returns-then-is_breaking : goal.returns-then-is_breaking
-returns-then-is_breaking c =
+pub returns-then-breaks_rule : goal.returns-then-breaks_rule
+returns-then-breaks_rule c =
     let id = c.args.id in
     let m = schema_in c.args.attributes.now c.args.classes.now in
     let is = get_or-map refusal_number c.args.order.now c.loop-rule.rule-index ShortStore 0 c.loop-rule-test.true in
@@ -23,7 +23,7 @@ returns-then-is_breaking c =
     (c.loop-rule.invariant ∙ pick_found (λ (r : Rule). r.breaks m (table_of id) (number_of id)) (schema_rules c.args.added)
     (map refusal_number c.args.order.now) c.loop-rule.rule-index
     (omega (arith, c.loop-rule-test.true, length-map c.args.order.now refusal_number))
-    (ap (λ (n : ℕ). breaks c.args.added m n (table_of id) (number_of id)) is ∙ sym c.is_breaking.ensures ∙ c.if-is_breaking.true))
+    (ap (λ (n : ℕ). breaks c.args.added m n (table_of id) (number_of id)) is ∙ sym c.breaks_rule.ensures ∙ c.if-breaks_rule.true))
 
 pub loop-rule-preserved : goal.loop-rule-preserved
 loop-rule-preserved c =
@@ -33,7 +33,7 @@ loop-rule-preserved c =
     c.loop-rule.invariant ∙ pick_next (λ (r : Rule). r.breaks m (table_of id) (number_of id)) (schema_rules c.args.added)
     (map refusal_number c.args.order.now) c.loop-rule.rule-index
     (omega (arith, c.loop-rule-test.true, length-map c.args.order.now refusal_number))
-    (ap (λ (n : ℕ). breaks c.args.added m n (table_of id) (number_of id)) is ∙ sym c.is_breaking.ensures ∙ c.if-is_breaking.false)
+    (ap (λ (n : ℕ). breaks c.args.added m n (table_of id) (number_of id)) is ∙ sym c.breaks_rule.ensures ∙ c.if-breaks_rule.false)
 
 pub returns : goal.returns
 returns c =

@@ -4,4 +4,4 @@ use Rattle.rules_class.proofs.category.has_other_category.Goals as goal
 
 pub category-requires : goal.category-requires
 category-requires c =
-    omega (arith, table_wide c.requires.0 c.class_row.ensures (omega (arith, c.row_count.ensures, c.if-row_count-c.false)))
+    omega (arith, table_wide c.requires.0 c.class_row.ensures (omega (arith, c.row_count.ensures, c.if-c-row_count.true)))

@@ -1,7 +1,6 @@
 use mathlib.Core.Path.{ap, ◌∙◌}
-use Rattle.std.proofs.Math.Logic.{inl, inr}
 use Rattle.schema.specs.Store.{count_in}
-use Rattle.sheet_read.proofs.Steps.{tag_told, no_row, room_none, room_left, lent_table}
+use Rattle.sheet_read.proofs.Steps.{tag_told, room_none, room_left, lent_table}
 use Rattle.sheet_read.proofs.read.room_in.Goals as goal
 
 pub row_count-requires : goal.row_count-requires
@@ -18,11 +17,3 @@ pub returns-else-row_count-row_limit : goal.returns-else-row_count-row_limit
 returns-else-row_count-row_limit c =
     room_left c.in-Some-Row.table c.args.attributes.now c.args.classes.now c.args.tag (tag_told c.in-Some-Row.is (rw c.in-Some-Row.is at c.in-Some-Row.field-0-is)) _ _
     (c.row_count.ensures ∙ ap (count_in c.in-Some-Row.table) c.store_of.ensures) c.row_limit.ensures c.if-row_count-row_limit.false
-
-pub returns-in-Some-Heading : goal.returns-in-Some-Heading
-returns-in-Some-Heading c =
-    no_row c.args.tag c.args.attributes.now c.args.classes.now (inl (tag_told c.in-Some-Heading.is (rw c.in-Some-Heading.is at c.in-Some-Heading.field-0-is)))
-
-pub returns-in-None : goal.returns-in-None
-returns-in-None c =
-    no_row c.args.tag c.args.attributes.now c.args.classes.now (inr c.in-None.is)
