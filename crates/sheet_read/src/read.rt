@@ -260,7 +260,7 @@ fn take_field(
         s,
         progress,
         field.start,
-        field.end,
+        step.next,
         attributes,
         classes,
     )

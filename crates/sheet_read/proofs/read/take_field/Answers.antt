@@ -3,7 +3,7 @@ use mathlib.Core.Path.{sym, ap, ◌∙◌}
 use lib.ListN.{length}
 use Rattle.std.proofs.lemmas.Result.{err_from_is_err_and}
 use Rattle.wire.specs.WireLaws.{field_is}
-use Rattle.reader.specs.ReaderLaws.{step_tag, step_field}
+use Rattle.reader.specs.ReaderLaws.{step_tag, step_field, step_next}
 use Rattle.sheet_read.specs.Reading.{step, sheet_tag, take_tagged, take_field}
 use Rattle.sheet_read.proofs.Steps.{as_step, same_step, step_full, step_whole, step_cut, step_end, free_room}
 use native.Mathlib.Omega.{arith}
@@ -49,8 +49,10 @@ take_tagged-requires c =
     let attributes = c.args.attributes.now in
     let classes = c.args.classes.now in
     let met = c.step_at-step.ensures in
-    let w = field_is s at (length s) _ _ _ (sym (step_field s at _ met) ∙ c.in_ok-field.was ∙ ap Ok c.in-Some.is) in record {
-      start_le_stop = (omega (arith, w.start_is, w.stop_is), omega (arith, w.within));
+    let is = c.in_ok-field.was ∙ ap Ok c.in-Some.is in
+    let w = field_is s at (length s) _ _ _ (sym (step_field s at _ met) ∙ is) in
+    let next = step_next s at _ met _ _ _ is in record {
+      start_le_stop = (omega (arith, w.start_is, w.stop_is, next), omega (arith, w.within, next));
       lent = (c.requires.1.lent, free_room _ attributes classes c.requires.1.few (sym c.room_in.ensures ∙ c.in_ok-room_in.was));
     }
 
@@ -64,9 +66,10 @@ returns c =
     let field = c.in-Some.field in
     let is = c.in_ok-field.was ∙ ap Ok c.in-Some.is in
     let w = field_is s at (length s) _ _ _ (sym (step_field s at _ met) ∙ is) in
+    let next = step_next s at _ met _ _ _ is in
     let tag = c.sheet_tag-tag.ensures ∙ ap sheet_tag (step_tag s at _ met) in
-    same_step (take_tagged c.sheet_tag-tag.result s at phase missing field.start field.end)
-    (take_field s at phase missing) (λ x a c' h. ap (λ t. take_tagged t s at phase missing field.start field.end x)
-    (tag ∙ ap sheet_tag (sym w.tag_is))
+    same_step (take_tagged c.sheet_tag-tag.result s at phase missing field.start c.step_at-step.result.next)
+    (take_field s at phase missing) (λ x a c' h. ap (λ t. take_tagged t s at phase missing field.start c.step_at-step.result.next x)
+    (tag ∙ ap sheet_tag (sym w.tag_is)) ∙ ap (λ stop. take_tagged (sheet_tag field.tag) s at phase missing field.start stop x) next
     ∙ step_whole s at phase missing h _ tag _ c.room_in.ensures c.in_ok-room_in.was _ _ _ _ (step_field s at _ met) is)
     c.take_tagged.ensures
