@@ -9,7 +9,7 @@ ghost use Rattle.graph.specs.Graph.{Readable, demanded_set, closure_rows, is_fre
 use crate::collect::write_mandatory;
 use crate::reach::reached;
 use crate::stages::{pass_on, write_firsts};
-use prelude::part::{part_of, same};
+use prelude::part::part_of;
 use schema::layout::CLOSURE_LENGTH;
 use schema::number::{ClassNumber, TableId, class_at};
 use schema::store::row_count;
@@ -44,5 +44,6 @@ pub fn is_fresh(classes: &[u8], closure: &[u8]) -> bool
 {
     let mut fresh = [0u8; CLOSURE_LENGTH];
     refresh_all(classes, &mut fresh);
-    same(part_of(closure, 0, CLOSURE_LENGTH), &fresh)
+    // No same, which begins at the end: as a rule these are equal, and the library compares many bytes at a time.
+    part_of(closure, 0, CLOSURE_LENGTH) == fresh.as_slice()
 }

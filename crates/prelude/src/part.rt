@@ -37,11 +37,11 @@ pub fn clear(d: &mut [u8])
     d.fill(0);
 }
 
-// Whether a and b are the same bytes. The last ones come first: identifiers begin alike and differ at their end.
+// Whether a and b are the same bytes. The lengths come first, then the last bytes: identifiers begin alike and differ at their end.
 pub fn same(a: &[u8], b: &[u8]) -> bool
     ensures { result ≡ same_bytes a.now b.now }
 {
-    a.last() == b.last() && a == b
+    a.len() == b.len() && a.iter().rev().zip(b.iter().rev()).all(|(x, y)| x == y)
 }
 
 // Whether every byte of s is zero. The first byte tells most cells that have a value; all others are gathered and tested once, since a loop without a

@@ -1,29 +1,27 @@
-use Rattle.std.proofs.lemmas.Bool.Decides.{Decides-eqb}
-use Rattle.std.proofs.lemmas.Slice.Eq.{slice_eq-Decides}
-use Rattle.std.proofs.Common.{◌≡◌, ℕ, List, length, eqb, true, sym, ◌∙◌, ap, refl, ◌-◌, eq-eqb}
-use Rattle.std.proofs.lemmas.Bool.{false≢true}
-use Rattle.std.specs.Prelude.{Option, None, Some}
-use Rattle.std.specs.Option.{option_eq, option_copied}
-use Rattle.std.specs.List.{slice_get}
-use denote.Ref.{Bor}
-use Rattle.prelude.specs.SaysLaws.{says_same, says_false}
+use Rattle.std.proofs.Common.{rules, ◌≡◌, List, ℕ, Bool, length, sym, ◌∙◌, ap}
+use Rattle.std.specs.Bool.{Decides}
+use Rattle.std.proofs.lemmas.List.{length-reverse, reverse-reverse}
+use Rattle.std.proofs.lemmas.Iterator.{YieldsList-from_zip, same_from_all}
+use Rattle.std.proofs.lemmas.Iterator.Adapters.{YieldsList-from_rev_slice}
+use borrow.Author.Tests.{tests}
+use mathlib.Core.List.{reverse}
+use Rattle.prelude.specs.Part.{same_bytes}
+use Rattle.prelude.specs.SaysLaws.{says_eq, says_false, says_same}
 use Rattle.prelude.specs.PartLaws.{says_same_bytes}
 use Rattle.prelude.proofs.part.same.Goals as goal
 
--- references to the same byte, or none
-copies_alike : (p q : Option (Bor ℕ)) → option_copied p ≡ option_copied q → option_eq (λ x y. eqb x.now y.now) p q ≡ true
-copies_alike None None e = refl
-copies_alike None (Some y) e = absurd (cc)
-copies_alike (Some x) None e = absurd (cc)
-copies_alike (Some x) (Some y) e = eq-eqb x.now y.now (cc)
+-- what reads the same from the back is the same
+same_from_back : (a b : List ℕ) (r : Bool) → Decides r (reverse a ≡ reverse b) → r ≡ same_bytes a b
+same_from_back a b r d =
+    says_same (record { holds = λ e. sym (reverse-reverse a) ∙ ap reverse (d.0 e) ∙ reverse-reverse b; passes = λ e. d.1 (ap reverse e) })
+    (says_same_bytes a b)
 
-pub returns-then-eq : goal.returns-then-eq
-returns-then-eq c =
-    let decided = slice_eq-Decides Decides-eqb c.args.a.now c.args.b.now _ c.eq-then-eq.ensures in
-    says_same (record { holds = decided.0; passes = decided.1 }) (says_same_bytes _ _)
+pub returns-then-a-b : goal.returns-then-a-b
+returns-then-a-b c =
+    same_from_back _ _ _ (same_from_all c.all.new.self _ _ _ _ c.all.ensures.ran
+    (YieldsList-from_zip (YieldsList-from_rev_slice c.args.a.now (cc)) (YieldsList-from_rev_slice c.args.b.now (cc)))
+    (length-reverse c.args.a.now ∙ c.if-a-b.true ∙ sym (length-reverse c.args.b.now)) (λ x q k. search (rules, tests)) (λ x q k. search (rules, tests)))
 
-pub returns-else-eq : goal.returns-else-eq
-returns-else-eq c =
-    c.if-eq.false ∙ sym (says_false (says_same_bytes c.args.a.now c.args.b.now) (λ e. false≢true
-    (sym c.if-eq.false ∙ c.eq.ensures ∙ copies_alike c.last.result c.last-2.result
-    (c.last.ensures.value ∙ ap (λ (s : List ℕ). slice_get s (length s - 1)) e ∙ sym c.last-2.ensures.value))))
+pub returns-else-a-b : goal.returns-else-a-b
+returns-else-a-b c =
+    says_false (says_eq _ _) c.if-a-b.false ∙ sym (says_false (says_same_bytes c.args.a.now c.args.b.now) (λ e. c.if-a-b.false (ap length e)))
