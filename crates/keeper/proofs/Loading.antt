@@ -1,20 +1,22 @@
 -- How a load goes on: what reading gave is judged, and the stores are filled or emptied by the answer.
 use mathlib.Core.Bool.{true, false}
 use mathlib.Core.List.{List}
-use mathlib.Core.Path.{◌≡◌, refl, sym, ap, ap₂, ◌∙◌}
-use Prim.Native.Nat.{ℕ}
+use mathlib.Core.Path.{◌≡◌, sym, ap, ap₂, ◌∙◌}
+use Prim.Native.Nat.{ℕ, ◌≤◌}
 use native.Mathlib.Omega.{arith}
-use lib.ListN.{length}
 use Rattle.prelude.specs.Part.{splice, zeros, Bytes}
 use Rattle.schema.specs.declared.answer.Answer.{Answer}
 use Rattle.schema.specs.declared.number.TableId.{TableId}
 use Rattle.schema.specs.declared.number.TableId.TheVariants.{Attributes, Classes}
 use Rattle.schema.specs.Answers.{refused}
-use Rattle.schema.specs.Layout.{store_length, closure_length}
-use Rattle.schema.specs.Store.{Stores, stores, Result, LongEnough, result_of, any_short, schema_in, table_in}
+use Rattle.schema.specs.Numbers.{class_limit}
+use Rattle.schema.specs.Layout.{closure_length}
+use Rattle.schema.specs.Store.{Stores, stores, result_of, any_short, schema_in, table_in}
 use Rattle.schema.specs.StoreLaws.{long_enough}
+use Rattle.tables.specs.Filled.{filled_store}
+use Rattle.tables.specs.SameLaws.{filled_same}
 use Rattle.tables.specs.Shaped.{Shaped}
-use Rattle.graph.specs.Graph.{Readable, closure_rows}
+use Rattle.graph.specs.Graph.{closure_rows}
 use Rattle.graph.proofs.SameLaws.{closure_rows_same}
 use Rattle.sheet_read.specs.SheetRead.{SheetRead}
 use Rattle.sheet_read.specs.SheetRead.{Read}
@@ -24,7 +26,7 @@ use Rattle.sheet_read.specs.ReadingLaws.{Sound, sheet_sound}
 use Rattle.rules.specs.declared.row.Added.TheVariants.{Nothing}
 use Rattle.rules.specs.Judge.{judged}
 use Rattle.rules.proofs.SameLaws.{judged_same}
-use Rattle.keeper.specs.LoadLaws.{held_length, held_emptied, both_shaped, both_readable, both_same, read_judged, load_short, load_accepted}
+use Rattle.keeper.specs.LoadLaws.{held_emptied, both_shaped, both_same, read_judged, load_short, load_accepted}
 use Rattle.keeper.specs.LoadLaws.{load_rejected}
 use Rattle.keeper.specs.Load.{emptied, filled, read_answer, load, ReadAndJudged}
 use Rattle.schema.specs.Refusals as refusal
@@ -63,54 +65,53 @@ module _ (sheet : List ℕ) (bytes : Bytes sheet) (a c : List ℕ) (lent : Lent 
 pub stores_lent : (s : Stores) → any_short s ≡ false → Lent s.attributes s.classes
 stores_lent s e = let l = long_enough s e in record { attributes = l.attributes; classes = l.classes }
 
+-- the class store says no more rows than there are numbers
+pub read_few : (sheet : List ℕ) → Bytes sheet → (c : List ℕ)
+    → (table_in Classes (splice 0 (filled_store Classes (read_sheet sheet).rows.classes) c)).count ≤ class_limit
+read_few sheet bytes c =
+    let fit = (sheet_sound sheet bytes Classes).fit in
+    omega (arith, (filled_same Classes (read_sheet sheet).rows.classes c fit.wide fit.few).count, fit.few)
+
 module _ (sheet : List ℕ) (s : Stores) where
-  -- an answer that was found, beside the stores as they were left
-  answered : {y z : Answer} {t u : Stores} {r : Result} → y ≡ z → t ≡ u → r ≡ result_of z u → result_of y t ≡ r
-  answered e f g = ap₂ result_of e f ∙ sym g
-
   pub short_ends : {y : Answer} → y ≡ refused refusal.short_store → any_short s ≡ true → result_of y s ≡ load sheet s
-  short_ends e f = answered e refl (load_short sheet s f)
+  short_ends e f = ap (λ (y : Answer). result_of y s) e ∙ sym (load_short sheet s f)
 
-  module _ (long : any_short s ≡ false) (bytes : Bytes sheet) {y : Answer} {a c : List ℕ}
-      (found : ReadAndJudged (read_sheet sheet) s.attributes s.classes y a c) where
-    rows : Rows
+  module _ (long : any_short s ≡ false) (bytes : Bytes sheet) where
+    abbrev rows : Rows
     rows = (read_sheet sheet).rows
+
+    -- the tables as reading left them
+    abbrev attributes_read : List ℕ
+    attributes_read = splice 0 (filled_store Attributes rows.attributes) s.attributes
+
+    abbrev classes_read : List ℕ
+    classes_read = splice 0 (filled_store Classes rows.classes) s.classes
 
     lent : Lent s.attributes s.classes
     lent = stores_lent s long
 
-    pub found_readable : Readable c
-    found_readable = rw found.classes (both_readable (read_sheet sheet).rows (sheet_sound sheet bytes) s.attributes s.classes lent)
-
-    pub found_long : LongEnough (stores a c s.closure)
-    found_long =
-        let la = held_length Attributes _ (sheet_sound sheet bytes Attributes) s.attributes lent.attributes in
-        let lc = held_length Classes _ (sheet_sound sheet bytes Classes) s.classes lent.classes in
-        let l = long_enough s long in
-        record {
-          attributes = omega (arith, ap length found.attributes, la, l.attributes);
-          classes = omega (arith, ap length found.classes, lc, l.classes);
-          closure = l.closure;
-        }
-
-    pub filled_ends : {k : List ℕ} → y.number ≡ 0 → k ≡ splice 0 (closure_rows (table_in Classes c)) s.closure → result_of y (stores a c k) ≡ load sheet s
-    filled_ends {k} z w = answered found.answer same (load_accepted sheet s long (sym (ap (λ (v : Answer). v.number) found.answer) ∙ z))
+    -- with the closure worked out from them
+    pub filled_ends : (read_answer (read_sheet sheet)).number ≡ 0
+        → load sheet s
+        ≡ result_of (read_answer (read_sheet sheet)) (stores attributes_read classes_read (splice 0 (closure_rows (table_in Classes classes_read)) s.closure))
+    filled_ends z = load_accepted sheet s long z ∙ ap (result_of (read_answer (read_sheet sheet))) (sym same)
       where
-        closure : closure_rows (table_in Classes c) ≡ closure_rows (schema_from (read_sheet sheet).rows).classes
-        closure = rw found.classes
-            (closure_rows_same (both_same (read_sheet sheet).rows (sheet_sound sheet bytes) s.attributes s.classes lent Classes))
+        closure : closure_rows (table_in Classes classes_read) ≡ closure_rows (schema_from rows).classes
+        closure = closure_rows_same (both_same rows (sheet_sound sheet bytes) s.attributes s.classes lent Classes)
 
-        same : stores a c k ≡ filled (read_sheet sheet).rows s
-        same = unfold filled in (λ i. stores (found.attributes i) (found.classes i) ((w ∙ ap (λ (v : List ℕ). splice 0 v s.closure) closure) i))
+        same : stores attributes_read classes_read (splice 0 (closure_rows (table_in Classes classes_read)) s.closure) ≡ filled rows s
+        same = unfold filled in ap (λ (v : List ℕ). stores attributes_read classes_read (splice 0 v s.closure)) closure
 
-    -- the stores with what was read, emptied again
-    pub emptied_ends : {t : Stores} → ¬ (y.number ≡ 0) → t ≡ emptied (stores a c s.closure) → result_of y t ≡ load sheet s
-    emptied_ends {t} d w = answered found.answer (w ∙ again) (load_rejected sheet s long (λ z. d (ap (λ (v : Answer). v.number) found.answer ∙ z)))
+    -- emptied again
+    pub emptied_ends : ¬ ((read_answer (read_sheet sheet)).number ≡ 0)
+        → load sheet s ≡ result_of (read_answer (read_sheet sheet)) (emptied (stores attributes_read classes_read s.closure))
+    emptied_ends d = load_rejected sheet s long d ∙ ap (result_of (read_answer (read_sheet sheet))) (sym again)
       where
-        again : emptied (stores a c s.closure) ≡ emptied s
+        again : emptied (stores attributes_read classes_read s.closure) ≡ emptied s
         again = unfold emptied in
-            (λ i. stores ((ap (splice 0 (zeros (store_length Attributes))) found.attributes
-            ∙ held_emptied Attributes _ (sheet_sound sheet bytes Attributes) s.attributes lent.attributes) i)
-            ((ap (splice 0 (zeros (store_length Classes))) found.classes
-            ∙ held_emptied Classes _ (sheet_sound sheet bytes Classes) s.classes lent.classes) i)
-            (splice 0 (zeros closure_length) s.closure))
+            ap₂ (λ (a c : List ℕ). stores a c (splice 0 (zeros closure_length) s.closure))
+            (held_emptied Attributes _ (sheet_sound sheet bytes Attributes) s.attributes lent.attributes)
+            (held_emptied Classes _ (sheet_sound sheet bytes Classes) s.classes lent.classes)
+
+-- what the check looks up for load: no answer names a branch behind the reading, so an edit of one is refused by the promise that it breaks
+pub ruleset load_ends = (filled_ends, emptied_ends, read_few)

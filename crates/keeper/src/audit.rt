@@ -11,6 +11,7 @@ use schema::answer::Answer;
 use schema::refusal::Refusal;
 
 // 1, 2, the first rule from 12 to 29 that some row breaks with its table and lowest row, 3 where only the closure is wrong, else 0.
+#[tactic(auto, using(crate::proofs::Auditing::audit_ends))]
 pub fn audit<'a>(attributes: &'a [u8], classes: &'a [u8], closure: &[u8]) -> Answer
     ensures { result ≡ audit (stores attributes.now classes.now closure.now) }
 {

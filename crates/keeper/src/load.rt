@@ -47,6 +47,7 @@ fn read_and_judge(sheet: &[u8], attributes: &mut [u8], classes: &mut [u8]) -> Re
 }
 
 // Loads a sheet: done, the stores hold its rows and their closure.
+#[tactic(auto, using(crate::proofs::Loading::load_ends), unfolding(schema::specs::Store::any_short))]
 pub fn load(sheet: &[u8], attributes: &mut [u8], classes: &mut [u8], closure: &mut [u8]) -> Answer
     ensures { result_of result (stores attributes.new classes.new closure.new)
         ≡ load sheet.now (stores attributes.old classes.old closure.old) }
