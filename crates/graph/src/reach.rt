@@ -1,5 +1,5 @@
 // The classes that a class reaches. Document 01: "A class *reaches* itself, its superclass, all its auxiliaries, and what these reach".
-ghost use Rattle.std.specs.Prelude.{◌≡◌, ◌≤◌, ◌<◌};
+ghost use Rattle.std.specs.Prelude.{◌≡◌, ◌≤◌, ◌<◌, length};
 ghost use Rattle.sets.specs.Sets.{member, set_of, from};
 ghost use Rattle.schema.specs.Numbers.{class_limit};
 ghost use Rattle.schema.specs.Layout.{class_set};
@@ -13,12 +13,15 @@ use schema::class::{fixed_auxiliary, open_auxiliary, superclass};
 use schema::number::{ClassNumber, TableId, class_at};
 use schema::store::{class_row, row_count};
 
-// Whether d is in one of two sets and not visited. The visited come first: where lists are full most classes soon are, and one test tells.
-#[tactic(auto, unfolding(crate::specs::Visit::unvisited_in))]
+// Whether d is in one of two sets and not visited. The sets' bytes are put together and tested once: of three tests by sets::has in a row, visited first
+// costs much where lists are short, and lists first where they are full (docs/DESIGN-PASS.md, section 16).
 fn is_unvisited(fixed: &[u8], other: &[u8], seen: Visited, d: ClassNumber) -> bool
+    requires { (d.0 < class_limit) × (length fixed.now ≡ class_set) × (length other.now ≡ class_set) }
     ensures { result ≡ unvisited_in fixed.now other.now seen.bits d.0 }
 {
-    !seen.has(d) && (sets::has(fixed, d.0) || sets::has(other, d.0))
+    let at = d.0 / 8;
+    let left = (fixed[at] | other[at]) & !seen.bits[at];
+    left >> (d.0 % 8) & 1 == 1
 }
 
 // The first number from start on, below n, that is in one of two sets and not visited.
@@ -29,7 +32,7 @@ fn first_unvisited(
     start: usize,
     n: usize,
 ) -> Option<ClassNumber>
-    requires { n ≤ class_limit }
+    requires { (n ≤ class_limit) × (length fixed.now ≡ class_set) × (length other.now ≡ class_set) }
     ensures { result ≡ first_class n (from start (unvisited_in fixed.now other.now seen.bits)) }
 {
     for d in start..n {
