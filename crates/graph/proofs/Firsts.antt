@@ -14,7 +14,7 @@ use Rattle.prelude.specs.PartLaws.{part_length, padded_full}
 use Rattle.sets.specs.Sets.{flag, member, set_of, union, with_member, without_member}
 use Rattle.sets.specs.SetsLaws.{bit_flag, is_set, set_cong, set_length, member_within, with_set, and_true}
 use Rattle.schema.specs.Numbers.{class_limit}
-use Rattle.schema.specs.Layout.{class_set}
+use Rattle.schema.specs.Layout.{class_width, class_set, fixed_auxiliary_at, open_auxiliary_at}
 use Rattle.schema.specs.ClassRow.{superclass_of, fixed_auxiliary_of, open_auxiliary_of}
 use Rattle.schema.specs.Store.{Table}
 use Rattle.tables.specs.Named.{lists}
@@ -79,6 +79,10 @@ module _ (size at : ℕ) (row out : List ℕ) {fixed copied : List ℕ} (fits : 
   pub copied_set : Bytes copied → copied ≡ set_of size (member (part at size row))
   copied_set b = is_set copied size (member (part at size row)) copied_length b
       (λ k l. bit_flag copied k ∙ ap (λ (s : List ℕ). flag (member s k)) copied_is)
+
+-- the two lists of auxiliaries in a row have a set's width
+pub lists_wide : (row : List ℕ) → class_width ≤ length row → (length (fixed_auxiliary_of row) ≡ class_set) × (length (open_auxiliary_of row) ≡ class_set)
+lists_wide row wide = (part_length fixed_auxiliary_at class_set row (omega (arith, wide)), part_length open_auxiliary_at class_set row (omega (arith, wide)))
 
 -- two sets of a row joined
 pub union_is : (size at at' : ℕ) (row : List ℕ) → at + size ≤ length row

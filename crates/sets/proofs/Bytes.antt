@@ -1,7 +1,7 @@
 -- What the machine's operations on a byte do to its digits, and so to a set's members.
 use mathlib.Core.Path.{◌≡◌, refl, sym, ap, ap₂, ◌∙◌}
 use mathlib.Core.List.{List}
-use mathlib.Core.Bool.{Bool, true, false, not, ◌&&◌, ◌||◌}
+use mathlib.Core.Bool.{Bool, not, ◌&&◌, ◌||◌}
 use Prim.Native.Nat.{ℕ, zero, suc, ◌+◌, ◌-◌, ◌*◌, ◌/◌, ◌%◌, ◌^◌, ◌≤◌, ◌<◌, min, max}
 use native.Mathlib.Nat.{pow-suc, mul-mod_left, mul-div_cancel, zero-lt-suc, mod-lt, min-le_left, lt_of_le_of_lt, one-mul, le_refl}
 use native.Mathlib.Omega.{arith}
@@ -24,7 +24,7 @@ use Rattle.prelude.specs.Part.{is_zero}
 use Rattle.prelude.specs.SaysLaws.{says_iff, says_same, says_eq, says_true, says_false}
 use Rattle.sets.specs.Sets.{flag, digit, bit, member, count_below, set_of, with_member, without_member, union, is_empty}
 use Rattle.sets.specs.SetsLaws.{digit_lt, digit_zero, digit_suc, no_digit, digit_ext, digit_bit, bit_past, bit_flag, is_set, set_bytes, bit_set}
-use Rattle.sets.specs.SetsLaws.{flag_or, flag_and, or-false, and_true, says_empty}
+use Rattle.sets.specs.SetsLaws.{flag_or, flag_and, flag_not, or-false, and_true, says_empty}
 
 -- ---- digits of the machine's operations
 
@@ -83,11 +83,7 @@ module _ (n : ℕ) where
   unmasked_digit : (k : ℕ) → k / 8 ≡ n / 8 → digit (255 - mask n) (k % 8) ≡ flag (not (eqb k n))
   unfolding digit
   unmasked_digit k e =
-      bit_at_not w8 (mask n) (k % 8) mask_small (mod-lt k (zero-lt-suc 7)) ∙ ap (λ (x : ℕ). 1 - x) (mask_digit k e) ∙ opposite (eqb k n)
-    where
-      opposite : (b : Bool) → 1 - flag b ≡ flag (not b)
-      opposite true = refl
-      opposite false = refl
+      bit_at_not w8 (mask n) (k % 8) mask_small (mod-lt k (zero-lt-suc 7)) ∙ ap (λ (x : ℕ). 1 - x) (mask_digit k e) ∙ sym (flag_not (eqb k n))
 
 -- ---- a byte stored in a set
 
@@ -128,6 +124,20 @@ module _ (s : List ℕ) (n : ℕ) (bytes : (j : ℕ) → get_or s j 0 < 256) (l 
       (and_lt 8 own (255 - mask n) (bytes (n / 8)) (omega arith))
       (λ k e. digit_and own (255 - mask n) (k % 8) ∙ ap₂ min (own_digit k e) (unmasked_digit n k e) ∙ sym (flag_and (member s k) (not (eqb k n))))
       (λ k d. bit_flag s k ∙ ap flag (sym (and_true (member s k) (not (eqb k n)) (ap not (says_false (says_eq k n) (λ e. d (ap (λ (x : ℕ). x / 8) e)))))))
+
+-- ---- a byte of two sets, without a third
+
+-- its digit at n says whether n is a member of one of the two and not of the third
+pub left_digit : (a b s : List ℕ) (n : ℕ) → get_or s (n / 8) 0 < 256
+    → digit (bit_and (bit_or (get_or a (n / 8) 0) (get_or b (n / 8) 0)) (255 - get_or s (n / 8) 0)) (n % 8)
+    ≡ flag ((member a n || member b n) && not (member s n))
+unfolding digit bit
+left_digit a b s n small =
+    digit_and (bit_or (get_or a (n / 8) 0) (get_or b (n / 8) 0)) (255 - get_or s (n / 8) 0) (n % 8)
+    ∙ ap₂ min
+    (digit_or (get_or a (n / 8) 0) (get_or b (n / 8) 0) (n % 8) ∙ ap₂ max (bit_flag a n) (bit_flag b n) ∙ sym (flag_or (member a n) (member b n)))
+    (bit_at_not w8 (get_or s (n / 8) 0) (n % 8) small (mod-lt n (zero-lt-suc 7)) ∙ ap (λ (x : ℕ). 1 - x) (bit_flag s n) ∙ sym (flag_not (member s n)))
+    ∙ sym (flag_and (member a n || member b n) (not (member s n)))
 
 -- ---- a byte of a union
 

@@ -53,6 +53,11 @@ pub flag_one : (x : ℕ) → x < 2 → flag (eqb x 1) ≡ x
 flag_one zero h = ap flag (says_false (says_eq 0 1) (λ e. omega arith))
 flag_one (suc x) h = let e : suc x ≡ 1 = omega arith in ap flag (says_true (says_eq (suc x) 1) e) ∙ sym e
 
+-- and a flag says its test
+pub flag_says : (b : Bool) → eqb (flag b) 1 ≡ b
+flag_says true = refl
+flag_says false = refl
+
 pub digits_lt : (n : ℕ) (f : ℕ → Bool) → digits_of n f < 2 ^ n
 unfolding digits_of
 digits_lt zero f = omega arith
@@ -174,6 +179,10 @@ flag_or false b = omega arith
 pub flag_and : (a b : Bool) → flag (a && b) ≡ min (flag a) (flag b)
 flag_and true b = let l : flag b < 2 = flag_lt b in omega arith
 flag_and false b = omega arith
+
+pub flag_not : (b : Bool) → flag (not b) ≡ 1 - flag b
+flag_not true = refl
+flag_not false = refl
 
 pub bit_union : (a b : List ℕ) (k : ℕ) → length b ≤ length a → bit (union a b) k ≡ max (bit a k) (bit b k)
 unfolding union

@@ -1,8 +1,7 @@
-use Rattle.graph.proofs.Firsts.{named_written, union_is}
+use Rattle.graph.proofs.Firsts.{named_written, union_is, lists_wide}
 use Rattle.schema.specs.ClassRow.{superclass_of, fixed_auxiliary_of, open_auxiliary_of}
 use Rattle.schema.specs.Layout.{class_set, fixed_auxiliary_at, open_auxiliary_at}
 use Rattle.sets.specs.Sets.{member, set_of, union}
-use Rattle.prelude.specs.PartLaws.{part_length}
 use Rattle.std.proofs.Common.{List, ℕ, ap, ap₂, sym, ◌∙◌, ◌||◌, length, arith, rules}
 use Rattle.schema.specs.Store.{table_in}
 use Rattle.schema.specs.declared.number.TableId.TheVariants.{Classes}
@@ -25,10 +24,9 @@ open_auxiliary-requires c =
 
 pub write_union-requires : goal.write_union-requires
 write_union-requires c =
-    let row = c.class_row-row.result.now in
-    let wide = table_row_wide Classes c.args.classes.now row c.args.c.0 c.requires.0.long (omega arith) c.class_row-row.ensures in (
-      ap length c.fixed_auxiliary.ensures ∙ part_length fixed_auxiliary_at class_set row (omega (arith, wide)) ∙ sym c.requires.2,
-      ap length c.open_auxiliary.ensures ∙ part_length open_auxiliary_at class_set row (omega (arith, wide)) ∙ sym c.requires.2,
+    let wide = lists_wide _ (table_row_wide Classes c.args.classes.now _ c.args.c.0 c.requires.0.long (omega arith) c.class_row-row.ensures) in (
+      ap length c.fixed_auxiliary.ensures ∙ wide.0 ∙ sym c.requires.2,
+      ap length c.open_auxiliary.ensures ∙ wide.1 ∙ sym c.requires.2,
     )
 
 pub insert_superclass-requires : goal.insert_superclass-requires
